@@ -1,0 +1,10 @@
+pub mod Table
+pub mod Signs
+pub mod Spans
+pub mod Residues
+pub mod Ranges
+pub mod Held
+pub mod Halves
+pub mod WrapLaws
+pub mod WordLaws
+pub mod StepLaws

@@ -1,0 +1,28 @@
+-- `arith::checked_step` meets its contract.
+-- Assumes nothing.
+use mathlib.Core.Path.{sym, _∙_}
+use Rattle.arith.specs.Whole.{valueOf}
+use Rattle.arith.proofs.Held.{fits-low}
+use Rattle.arith.proofs.StepLaws.{step-fits}
+use borrow.Author.Needs.{needs}
+use Rattle.arith.proofs.checked_step.Statement.{statement}
+use Rattle.arith.proofs.checked_step.Tie as tie
+
+exact-requires : tie.Need-exact-requires
+exact-requires c κs = search needs
+
+overflowed-requires : tie.Need-overflowed-requires
+overflowed-requires c κs = search needs
+
+returns : tie.Need-returns
+returns c = rw (← c .before .overflowed .ensures _ (c .before .before .exact .ensures), c .if1 .taken)
+
+returns-2 : tie.Need-returns-2
+returns-2 c =
+    let a = c .before .before .before .args in
+    let h = c .before .before .exact .ensures in
+    let e = sym (c .before .overflowed .ensures _ h) ∙ c .if1 .left in
+    rw (e, fits-low (a .ty) _ h (step-fits (a .op) (a .ty) (valueOf (a .a)) (valueOf (a .b)) e))
+
+pub checked-step-spec : {M : Type 1} → statement M
+checked-step-spec = tie.close (tie.spec exact-requires overflowed-requires returns returns-2)

@@ -1,0 +1,15 @@
+-- `arith::difference` meets its contract: the sum with the other number of the opposite sign.
+-- Assumes nothing.
+use Rattle.arith.proofs.Signs.{neg-sign}
+use borrow.Author.Needs.{needs}
+use Rattle.arith.proofs.difference.Statement.{statement}
+use Rattle.arith.proofs.difference.Tie as tie
+
+sum-requires : tie.Need-sum-requires
+sum-requires c κs = search needs
+
+returns : tie.Need-returns
+returns c = rw neg-sign at (c .sum .ensures)
+
+pub difference-spec : {M : Type 1} → statement M
+difference-spec = tie.close (tie.spec sum-requires returns)

@@ -1,0 +1,25 @@
+-- `arith::immediate` meets its contract.
+-- Assumes nothing.
+use borrow.Author.Needs.{needs}
+use borrow.Author.Tests.{le-leb, lt-leb}
+use Rattle.arith.specs.Types.{signed}
+use Rattle.arith.specs.Words.{immediate}
+use Rattle.arith.proofs.immediate.Statement.{statement}
+use Rattle.arith.proofs.immediate.Tie as tie
+
+of-bits-requires : tie.Need-of-bits-requires
+of-bits-requires c κs = search needs
+
+returns : tie.Need-returns
+unfolding immediate signed
+returns c = rw (lt-leb 4 (c .before .before .args .ty) (c .before .if1 .taken)) (c .of-bits .ensures)
+
+of-bits-requires-2 : tie.Need-of-bits-requires-2
+of-bits-requires-2 c κs = search needs
+
+returns-2 : tie.Need-returns-2
+unfolding immediate signed
+returns-2 c = rw (le-leb 4 (c .before .before .args .ty) (c .before .if1 .left)) (c .of-bits2 .ensures)
+
+pub immediate-spec : {M : Type 1} → statement M
+immediate-spec = tie.close (tie.spec of-bits-requires returns of-bits-requires-2 returns-2)

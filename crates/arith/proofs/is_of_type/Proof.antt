@@ -1,0 +1,15 @@
+-- `arith::is_of_type` meets its contract.
+-- Assumes nothing.
+use Rattle.arith.proofs.Ranges.{fits-sign}
+use borrow.Author.Needs.{needs}
+use Rattle.arith.proofs.is_of_type.Statement.{statement}
+use Rattle.arith.proofs.is_of_type.Tie as tie
+
+limit-requires : tie.Need-limit-requires
+limit-requires c κs = search needs
+
+returns : tie.Need-returns
+returns c = rw (fits-sign, c .limit .ensures)
+
+pub is-of-type-spec : {M : Type 1} → statement M
+is-of-type-spec = tie.close (tie.spec limit-requires returns)

@@ -1,0 +1,4 @@
+pub mod Types
+pub mod Whole
+pub mod Step
+pub mod Words

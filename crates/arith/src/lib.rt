@@ -1,0 +1,480 @@
+// One step of arithmetic on the eight integer types, in whole numbers: its value, or that it
+// overflows; and wrapped to the type, with whether it overflowed. Assumes nothing.
+ghost use mathlib.Core.Path.{_≡_};
+ghost use mathlib.Core.Bool.{Bool, not, _||_};
+ghost use Prim.Native.Nat.{ℕ, _+_, _*_, _%_, _^_, _<_};
+ghost use lib.Dec.{leb};
+ghost use lib.IntN.{ℤ, pos};
+ghost use Rattle.arith.specs.Types.{Row, bits, depth, height, limitOf};
+ghost use Rattle.arith.specs.Whole.{valueOf, Holds};
+ghost use Rattle.arith.specs.Words.{wordOf, valueAt, immediate};
+ghost use Rattle.arith.specs.Step.{opOf, exactOf, lacksDivisor, fits, stepOf, outcomeOf, wrap, overflows};
+
+// A whole number by its sign and its magnitude. Zero may have either sign.
+pub struct Num {
+    pub neg: bool,
+    pub mag: u64,
+}
+
+// A whole number whose magnitude may pass 64 bits: its sign, whether the magnitude is 2^64 or
+// more, and the magnitude modulo 2^64.
+pub struct Whole {
+    pub neg: bool,
+    pub over: bool,
+    pub low: u64,
+}
+
+// A type's width in bits, how far its lowest value lies below 0, and its highest value.
+pub struct Range {
+    pub bits: u32,
+    pub lowest: u64,
+    pub highest: u64,
+}
+
+pub enum Op {
+    Add,
+    Sub,
+    Mul,
+    Div,
+    Convert,
+}
+
+// What comes of a step: its value, or that it overflows in the type.
+pub enum Step {
+    Value(Num),
+    Overflow,
+}
+
+// A step's result wrapped to the type, and whether the step overflowed; as a number and as a word.
+pub struct Wrapped {
+    pub num: Num,
+    pub over: bool,
+}
+
+pub struct WrappedWord {
+    pub word: u64,
+    pub over: bool,
+}
+
+// The types by their codes: u8, u16, u32, u64, i8, i16, i32, i64.
+const RANGES: [Range; 8] = [
+    Range {
+        bits: 8,
+        lowest: 0,
+        highest: 0xff,
+    },
+    Range {
+        bits: 16,
+        lowest: 0,
+        highest: 0xffff,
+    },
+    Range {
+        bits: 32,
+        lowest: 0,
+        highest: 0xffff_ffff,
+    },
+    Range {
+        bits: 64,
+        lowest: 0,
+        highest: 0xffff_ffff_ffff_ffff,
+    },
+    Range {
+        bits: 8,
+        lowest: 0x80,
+        highest: 0x7f,
+    },
+    Range {
+        bits: 16,
+        lowest: 0x8000,
+        highest: 0x7fff,
+    },
+    Range {
+        bits: 32,
+        lowest: 0x8000_0000,
+        highest: 0x7fff_ffff,
+    },
+    Range {
+        bits: 64,
+        lowest: 0x8000_0000_0000_0000,
+        highest: 0x7fff_ffff_ffff_ffff,
+    },
+];
+
+pub fn range_of(ty: u8) -> Range
+    requires { ⌜ ty < 8 ⌝ }
+    ensures { λ r. ⌜ Row ty r ⌝ }
+{
+    let i = ty as usize;
+    RANGES[i]
+}
+
+// How far a type goes below 0, and how far above.
+struct Ends {
+    low: u64,
+    high: u64,
+}
+
+// The ends of a type's range, as the table has them, for each step: a match compiles to loads from
+// constant memory, where the table is built anew at each use.
+fn ends_of(ty: u8) -> Ends
+    requires { ⌜ ty < 8 ⌝ }
+    ensures { λ e. ⌜ (e .low ≡ depth ty) × (e .high ≡ height ty) ⌝ }
+{
+    match ty % 8 {
+        0 => Ends { low: 0, high: 0xff },
+        1 => Ends {
+            low: 0,
+            high: 0xffff,
+        },
+        2 => Ends {
+            low: 0,
+            high: 0xffff_ffff,
+        },
+        3 => Ends {
+            low: 0,
+            high: 0xffff_ffff_ffff_ffff,
+        },
+        4 => Ends {
+            low: 0x80,
+            high: 0x7f,
+        },
+        5 => Ends {
+            low: 0x8000,
+            high: 0x7fff,
+        },
+        6 => Ends {
+            low: 0x8000_0000,
+            high: 0x7fff_ffff,
+        },
+        _ => Ends {
+            low: 0x8000_0000_0000_0000,
+            high: 0x7fff_ffff_ffff_ffff,
+        },
+    }
+}
+
+// The largest magnitude that a type has on the side of a sign.
+fn limit(ty: u8, neg: bool) -> u64
+    requires { ⌜ ty < 8 ⌝ }
+    ensures { λ l. ⌜ l ≡ limitOf ty neg ⌝ }
+{
+    let e = ends_of(ty);
+    if neg { e.low } else { e.high }
+}
+
+// The exact sum, from the magnitudes.
+fn sum(a: Num, b: Num) -> Whole
+    ensures { λ w. ⌜ Holds w (exactOf Op.Add (valueOf a) (valueOf b)) ⌝ }
+{
+    let x = a.mag;
+    let y = b.mag;
+    let s = a.neg;
+    if s == b.neg {
+        let low = std::num::wrapping_add_u64(x, y);
+        return Whole {
+            neg: s,
+            over: low < x,
+            low,
+        };
+    }
+    if x < y {
+        return Whole {
+            neg: b.neg,
+            over: false,
+            low: y - x,
+        };
+    }
+    Whole {
+        neg: s,
+        over: false,
+        low: x - y,
+    }
+}
+
+fn difference(a: Num, b: Num) -> Whole
+    ensures { λ w. ⌜ Holds w (exactOf Op.Sub (valueOf a) (valueOf b)) ⌝ }
+{
+    sum(
+        a,
+        Num {
+            neg: !b.neg,
+            mag: b.mag,
+        },
+    )
+}
+
+// x * y modulo 2^64, by halves of 32 bits. The product of the upper halves does not count.
+fn low_product(x: u64, y: u64) -> u64
+    ensures { λ r. ⌜ r ≡ x * y % 2 ^ 64 ⌝ }
+{
+    let x0 = x % 0x1_0000_0000;
+    let x1 = x / 0x1_0000_0000;
+    let y0 = y % 0x1_0000_0000;
+    let y1 = y / 0x1_0000_0000;
+    let p = x1 * y0 % 0x1_0000_0000;
+    let q = x0 * y1 % 0x1_0000_0000;
+    let mid = (p + q) % 0x1_0000_0000;
+    std::num::wrapping_add_u64(mid * 0x1_0000_0000, x0 * y0)
+}
+
+// Whether x * y is 2^64 or more.
+fn too_large(x: u64, y: u64) -> bool
+    ensures { λ r. ⌜ r ≡ leb (2 ^ 64) (x * y) ⌝ }
+{
+    if y == 0 {
+        return false;
+    }
+    u64::MAX / y < x
+}
+
+fn product(a: Num, b: Num) -> Whole
+    ensures { λ w. ⌜ Holds w (exactOf Op.Mul (valueOf a) (valueOf b)) ⌝ }
+{
+    let over = too_large(a.mag, b.mag);
+    let low = low_product(a.mag, b.mag);
+    let s = a.neg;
+    let t = b.neg;
+    Whole {
+        neg: s != t,
+        over,
+        low,
+    }
+}
+
+// Toward zero; 0 where there is no divisor.
+fn quotient(a: Num, b: Num) -> Whole
+    ensures { λ w. ⌜ Holds w (exactOf Op.Div (valueOf a) (valueOf b)) ⌝ }
+{
+    let s = a.neg;
+    let t = b.neg;
+    let x = a.mag;
+    let y = b.mag;
+    if y == 0 {
+        return Whole {
+            neg: false,
+            over: false,
+            low: 0,
+        };
+    }
+    Whole {
+        neg: s != t,
+        over: false,
+        low: x / y,
+    }
+}
+
+fn kept(a: Num) -> Whole
+    ensures { λ w. ⌜ Holds w (valueOf a) ⌝ }
+{
+    Whole {
+        neg: a.neg,
+        over: false,
+        low: a.mag,
+    }
+}
+
+fn exact(op: Op, a: Num, b: Num) -> Whole
+    ensures { λ w. ⌜ Holds w (exactOf op (valueOf a) (valueOf b)) ⌝ }
+{
+    match op {
+        Op::Add => sum(a, b),
+        Op::Sub => difference(a, b),
+        Op::Mul => product(a, b),
+        Op::Div => quotient(a, b),
+        Op::Convert => kept(a),
+    }
+}
+
+// A division by zero.
+fn lacks(op: Op, b: Num) -> bool
+    ensures { λ r. ⌜ r ≡ lacksDivisor op (valueOf b) ⌝ }
+{
+    match op {
+        Op::Add => false,
+        Op::Sub => false,
+        Op::Mul => false,
+        Op::Div => b.mag == 0,
+        Op::Convert => false,
+    }
+}
+
+// Whether the magnitude of w is at most l.
+fn within(w: Whole, l: u64) -> bool
+    ensures { λ r. ⌜ ((z : ℤ) (h : Holds w z) → r ≡ leb (h .mag) l) ⌝ }
+{
+    if w.over {
+        return false;
+    }
+    w.low <= l
+}
+
+// Whether a step with the exact result w overflows.
+fn overflowed(op: Op, ty: u8, b: Num, w: Whole) -> bool
+    requires { ⌜ ty < 8 ⌝ }
+    ensures { λ r. ⌜ ((z : ℤ) → Holds w z → r ≡ (lacksDivisor op (valueOf b) || not (fits ty z))) ⌝ }
+{
+    if lacks(op, b) {
+        return true;
+    }
+    let neg = w.neg;
+    let l = limit(ty, neg);
+    !within(w, l)
+}
+
+// One step in whole numbers, on values that need not be of the type: its value, or that it
+// overflows in the type.
+pub fn checked_step(op: Op, ty: u8, a: Num, b: Num) -> Step
+    requires { ⌜ ty < 8 ⌝ }
+    ensures { λ s. ⌜ outcomeOf s ≡ stepOf op ty (valueOf a) (valueOf b) ⌝ }
+{
+    let w = exact(op, a, b);
+    if overflowed(op, ty, b, w) {
+        return Step::Overflow;
+    }
+    Step::Value(Num {
+        neg: w.neg,
+        mag: w.low,
+    })
+}
+
+// The lowest bits of x, as many as the type has.
+fn low_bits(ty: u8, x: u64) -> u64
+    requires { ⌜ ty < 8 ⌝ }
+    ensures { λ r. ⌜ r ≡ x % 2 ^ bits ty ⌝ }
+{
+    let e = ends_of(ty);
+    x & (e.low + e.high)
+}
+
+// A whole number wrapped to a type.
+fn fold(ty: u8, w: Whole) -> Num
+    requires { ⌜ ty < 8 ⌝ }
+    ensures { λ n. ⌜ ((z : ℤ) → Holds w z → valueOf n ≡ wrap ty z) ⌝ }
+{
+    let neg = w.neg;
+    let low = w.low;
+    let e = ends_of(ty);
+    let l = limit(ty, neg);
+    let x = low_bits(ty, low);
+    if x <= l {
+        return Num { neg, mag: x };
+    }
+    Num {
+        neg: !neg,
+        mag: e.low + e.high - x + 1,
+    }
+}
+
+// One step wrapped to the type, and whether it overflowed.
+pub fn wrapped_step(op: Op, ty: u8, a: Num, b: Num) -> Wrapped
+    requires { ⌜ ty < 8 ⌝ }
+    ensures { λ r. ⌜ (valueOf (r .num) ≡ wrap ty (exactOf op (valueOf a) (valueOf b))) × (r .over ≡ overflows op ty (valueOf a) (valueOf b)) ⌝ }
+{
+    let w = exact(op, a, b);
+    let over = overflowed(op, ty, b, w);
+    let num = fold(ty, w);
+    Wrapped { num, over }
+}
+
+// The word of 64 bits that holds a number, two's complement.
+pub fn to_word(n: Num) -> u64
+    ensures { λ w. ⌜ w ≡ wordOf (valueOf n) ⌝ }
+{
+    let m = n.mag;
+    if n.neg {
+        if m == 0 {
+            return 0;
+        }
+        return u64::MAX - m + 1;
+    }
+    m
+}
+
+// The number that the lowest bits of w stand for in a type: a reading, an immediate, a word.
+pub fn of_bits(ty: u8, w: u64) -> Num
+    requires { ⌜ ty < 8 ⌝ }
+    ensures { λ n. ⌜ valueOf n ≡ wrap ty (pos w) ⌝ }
+{
+    fold(ty, kept(Num { neg: false, mag: w }))
+}
+
+// The number that four bytes stand for as an immediate of a type: an i32 for a signed type, a u32
+// for the others.
+pub fn immediate(ty: u8, w: u64) -> Num
+    requires { ⌜ ty < 8 ⌝ }
+    ensures { λ n. ⌜ valueOf n ≡ immediate ty w ⌝ }
+{
+    if ty < 4 {
+        return of_bits(2, w);
+    }
+    of_bits(6, w)
+}
+
+// The number that a word of a type holds.
+pub fn from_word(ty: u8, w: u64) -> Num
+    ensures { λ n. ⌜ valueOf n ≡ valueAt ty w ⌝ }
+{
+    if ty < 4 {
+        return Num { neg: false, mag: w };
+    }
+    if w < 0x8000_0000_0000_0000 {
+        return Num { neg: false, mag: w };
+    }
+    Num {
+        neg: true,
+        mag: u64::MAX - w + 1,
+    }
+}
+
+// Whether a number is a value of a type.
+pub fn is_of_type(ty: u8, n: Num) -> bool
+    requires { ⌜ ty < 8 ⌝ }
+    ensures { λ r. ⌜ r ≡ fits ty (valueOf n) ⌝ }
+{
+    let m = n.mag;
+    m <= limit(ty, n.neg)
+}
+
+// The operation of a kind of statement or node, 2 to 6.
+pub fn op_of(kind: u8) -> Op
+    ensures { λ r. ⌜ r ≡ opOf kind ⌝ }
+{
+    match kind {
+        2 => Op::Add,
+        3 => Op::Sub,
+        4 => Op::Mul,
+        5 => Op::Div,
+        _ => Op::Convert,
+    }
+}
+
+// The word of a whole number wrapped to a type: its lowest bits, moved up by the range's depth
+// before the cut and down again after it.
+fn word_in(ty: u8, w: Whole) -> u64
+    requires { ⌜ ty < 8 ⌝ }
+    ensures { λ r. ⌜ ((z : ℤ) → Holds w z → r ≡ wordOf (wrap ty z)) ⌝ }
+{
+    let e = ends_of(ty);
+    let d = e.low;
+    let v = to_word(Num {
+        neg: w.neg,
+        mag: w.low,
+    });
+    let t = low_bits(ty, std::num::wrapping_add_u64(v, d));
+    std::num::wrapping_sub_u64(t, d)
+}
+
+// One step on words whose type is from, wrapped to the type ty, and whether it overflowed.
+pub fn wrapped_words(op: Op, from: u8, ty: u8, a: u64, b: u64) -> WrappedWord
+    requires { ⌜ ty < 8 ⌝ }
+    ensures { λ r. ⌜ (r .word ≡ wordOf (wrap ty (exactOf op (valueAt from a) (valueAt from b)))) × (r .over ≡ overflows op ty (valueAt from a) (valueAt from b)) ⌝ }
+{
+    let x = from_word(from, a);
+    let y = from_word(from, b);
+    let w = exact(op, x, y);
+    let over = overflowed(op, ty, y, w);
+    WrappedWord {
+        word: word_in(ty, w),
+        over,
+    }
+}

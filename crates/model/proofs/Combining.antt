@@ -1,0 +1,46 @@
+-- The combinations of values: how many there are, and the test of every one of them.
+-- Assumes nothing.
+use mathlib.Core.Path.{_≡_, refl, sym, _∙_}
+use mathlib.Core.Bool.{Bool}
+use mathlib.Core.List.{List, [], _∷_, map, flatMap}
+use Prim.Native.Nat.{ℕ, _*_}
+use native.Mathlib.Nat.{zero-mul, suc-mul, add-comm}
+use lib.IntN.{ℤ}
+use lib.ListN.{length, length-append, length-map}
+use Rattle.model.specs.Lists.{every}
+use Rattle.model.specs.Conjunct.{Atom, Conj, atoms}
+use Rattle.model.specs.Input.{Input}
+use Rattle.model.specs.Filter.{valuesOf, combinations, combinationsOf, productOf}
+use Rattle.model.proofs.Every.{every-of-map, every-of-flatMap, every-same}
+
+-- ---- the first list changes slowest
+
+pub every-combinations : (p : List ℤ → Bool) (zs : List ℤ) (rest : List (List ℤ))
+    → every p (combinations (zs ∷ rest)) ≡ every (λ z. every (λ w. p (z ∷ w)) (combinations rest)) zs
+unfolding combinations
+every-combinations p zs rest =
+    every-of-flatMap p (λ z. map (z ∷_) (combinations rest)) zs
+    ∙ every-same (λ z. every p (map (z ∷_) (combinations rest))) (λ z. every (λ w. p (z ∷ w)) (combinations rest)) (λ z. every-of-map p (z ∷_) (combinations rest)) zs
+
+-- ---- how many
+
+length-flatMap : {A B : Type 0} (f : A → List B) (n : ℕ) → ((x : A) → length (f x) ≡ n) → (xs : List A) → length (flatMap f xs) ≡ length xs * n
+unfolding flatMap
+length-flatMap f n h [] = sym (zero-mul n)
+length-flatMap f n h (x ∷ xs) = simp (length-append, h x, length-flatMap f n h xs, suc-mul, add-comm)
+
+module _ (I : Input) where
+  -- the values of each atom
+  abbrev pub values : List Atom → List (List ℤ)
+  values ks = map (λ a. valuesOf I (a .src)) ks
+
+  pub length-combinations : (ks : List Atom) → length (combinations (values ks)) ≡ productOf I ks
+  unfolding combinations productOf
+  length-combinations [] = refl
+  length-combinations (a ∷ ks) =
+      length-flatMap (λ z. map (z ∷_) (combinations (values ks))) (productOf I ks)
+      (λ z. length-map (combinations (values ks)) (z ∷_) ∙ length-combinations ks) (valuesOf I (a .src))
+
+  pub length-combinationsOf : (e : Conj) → length (combinationsOf I e) ≡ productOf I (atoms e)
+  unfolding combinationsOf
+  length-combinationsOf e = length-combinations (atoms e)

@@ -1,0 +1,42 @@
+-- Demand 2: the filter passes an input exactly where no choice of readings overflows at a step of a conjunct, and holds
+-- it back exactly where one does.
+-- Assumes nothing.
+use mathlib.Core.Path.{_≡_, ap, _∙_}
+use mathlib.Core.Logic.{inl, inr}
+use mathlib.Core.Bool.{true, false}
+use mathlib.Core.List.{List, [], _∷_}
+use Prim.Native.Nat.{ℕ}
+use Rattle.model.specs.Lists.{every}
+use Rattle.model.specs.Refusals.{ok}
+use Rattle.model.specs.Condition.{Condition, readCondition}
+use Rattle.model.specs.Input.{Input, readInput}
+use Rattle.model.specs.Filter.{holds, fewCombinations, filter}
+use Rattle.model.specs.Demands.{Some, Demand2}
+use Rattle.model.proofs.Choosing.{holds-safe, safe-holds, held-overflows, overflows-held}
+use Rattle.model.proofs.Every.{every-all, all-every, every-some, some-every}
+use Rattle.model.proofs.Sets.{all-imp}
+
+some-imp : {A : Type 0} {P Q : A → Type 0} → ((x : A) → P x → Q x) → (xs : List A) → Some P xs → Some Q xs
+some-imp f [] h = absurd h
+some-imp f (x ∷ xs) (inl h) = inl (f x h)
+some-imp f (x ∷ xs) (inr h) = inr (some-imp f xs h)
+
+-- within the limit the answer is the test of every conjunct
+pub filter-answer : (condition input : List ℕ) (C : Condition) (I : Input) → readCondition condition ≡ ok C → readInput (C .types) input ≡ ok I
+    → every (fewCombinations I) (C .conjuncts) ≡ true → filter condition input ≡ ok (every (holds I) (C .conjuncts))
+unfolding filter
+filter-answer condition input C I c i few = rw (c, i, few)
+
+pub filter-exact : Demand2
+filter-exact condition input C I c i few =
+    let S = C .conjuncts in
+    let is = filter-answer condition input C I c i few in (
+      (
+        λ p. let q : every (holds I) S ≡ true = cc in all-imp (holds-safe I) S (every-all (holds I) S q),
+        λ s. is ∙ ap ok (all-every (holds I) S (all-imp (safe-holds I) S s)),
+      ),
+      (
+        λ p. let q : every (holds I) S ≡ false = cc in some-imp (held-overflows I) S (every-some (holds I) S q),
+        λ o. is ∙ ap ok (some-every (holds I) S (some-imp (overflows-held I) S o)),
+      ),
+    )

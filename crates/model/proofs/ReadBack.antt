@@ -1,0 +1,98 @@
+-- The condition file of a tidy set of formed conjuncts is accepted, and read back to the set.
+-- Assumes nothing.
+use mathlib.Core.Path.{_≡_, refl, sym, _∙_, ap, ap₂}
+use mathlib.Core.Bool.{Bool, true, false, _&&_, _||_}
+use mathlib.Core.List.{List, [], _∷_}
+use Prim.Native.Nat.{ℕ, _+_, _*_, _%_, _≤_, _<_}
+use native.Mathlib.Omega.{arith}
+use lib.Dec.{ltb, isEq}
+use lib.ListN.{length}
+use borrow.Author.Tests.{lt-ltb, le-leb, eq-eqb, ltb-false}
+use Rattle.model.specs.Lists.{All, every}
+use Rattle.model.specs.Refusals.{ok}
+use Rattle.model.specs.Program.{typeRight}
+use Rattle.model.specs.Conjunct.{Conj, Cond, long, orderNodes}
+use Rattle.model.specs.Condition.{conjunctsAt, encode, typeNodes, whole, numbered, isBefore, rising, lengthRight, readCondition}
+use Rattle.model.proofs.Notions.{Canon, Numbered, Fine, Tidy}
+use Rattle.model.proofs.Formed.{FileNode, Formed}
+use Rattle.model.proofs.Order.{nodes-self}
+use Rattle.model.proofs.Sets.{all-imp}
+use Rattle.model.proofs.Tests.{true→T}
+use Rattle.model.proofs.FileBytes.{size, pairOf, pairs, table-chained, file-conjuncts, file-fields, file-types, file-table, file-read, file-right, length-encode}
+
+-- ---- the tests of the reader
+
+pub every-of : {A : Type 0} (f : A → Bool) (xs : List A) → All (λ x. f x ≡ true) xs → every f xs ≡ true
+unfolding every
+every-of f [] h = refl
+every-of f (x ∷ xs) h = ap₂ _&&_ (h .0) (every-of f xs (h .1))
+
+numbered-test : (e : Conj) → Numbered e → numbered e ≡ true
+unfolding numbered
+numbered-test e h = ap isEq (ap (λ d. orderNodes d e) h ∙ nodes-self e)
+
+rising-test : (S : Cond) → Canon S → rising S ≡ true
+unfolding rising
+rising-test [] h = refl
+rising-test (d ∷ []) h = refl
+rising-test (d ∷ e ∷ S) h = ap₂ _&&_ (ap isBefore (h .0 .0)) (rising-test (e ∷ S) (h .1))
+
+-- an expression has a node
+whole-some : (e : Conj) → whole e ≡ true → 0 < length e
+unfolding whole typeNodes
+whole-some [] h = absurd (true→T h)
+whole-some (v ∷ e) h = omega arith
+
+-- no conjunct is over 120 nodes
+short-each : (S : Cond) → long S ≡ false → All (λ e. length e ≤ 120) S
+unfolding long
+short-each [] h = tt
+short-each (e ∷ S) h = go (ltb 120 (length e)) refl h (short-each S)
+  where
+    go : (b : Bool) → ltb 120 (length e) ≡ b → (b || long S) ≡ false → (long S ≡ false → All (λ d. length d ≤ 120) S) → All (λ d. length d ≤ 120) (e ∷ S)
+    go true p h f = absurd (true→T (sym h))
+    go false p h f = (ltb-false 120 (length e) p, f h)
+
+short-size : (S : Cond) → All (λ e. length e ≤ 120) S → size S ≤ 120 * length S
+short-size [] h = omega arith
+short-size (e ∷ S) h = omega (arith, short-size S (h .1))
+
+length-test : (e : Conj) (a : ℕ) → 0 < length e → length e ≤ 120 → lengthRight (pairOf a e) ≡ true
+length-test e a h k = rw (lt-ltb 0 (8 * length e) (omega arith), le-leb (8 * length e) 960 (omega arith)) (eq-eqb (8 * length e % 8) 0 (omega arith))
+
+lengths-test : (S : Cond) (a : ℕ) → All (λ e. 0 < length e) S → All (λ e. length e ≤ 120) S → every lengthRight (pairs a S) ≡ true
+unfolding every
+lengths-test [] a h k = refl
+lengths-test (e ∷ S) a h k = ap₂ _&&_ (length-test e a (h .0) (k .0)) (lengths-test S (a + 8 * length e) (h .1) (k .1))
+
+-- ---- the file
+
+pub encode-reads : (types : List ℕ) (S : Cond) → length types ≤ 32 → All (λ t. t < 8) types → Tidy S → All (Formed types) S
+    → readCondition (encode types S) ≡ ok (record { types = types; conjuncts = S })
+unfolding readCondition
+encode-reads types S few right tidy formed =
+    let nodes : All (All (FileNode types)) S = all-imp (λ e h. h .nodes) S formed in
+    let begin = conjunctsAt (length types) (length S) in
+    let total = length-encode types S nodes in
+    rw (
+      file-conjuncts types S,
+      file-fields types S,
+      file-types types S,
+      file-table types S,
+      file-read types S nodes,
+      le-leb 8 (length (encode types S)) (omega arith),
+      le-leb (length S) 64 (tidy .fine .few),
+      le-leb (length types) 32 few,
+      table-chained S begin (length (encode types S)) total,
+      every-of typeRight types (all-imp (λ t. lt-ltb t 8) types right),
+      lengths-test S begin (all-imp (λ e h. whole-some e (h .one)) S formed) (short-each S (tidy .fine .short)),
+      file-right types S nodes,
+      every-of whole S (all-imp (λ e h. h .one) S formed),
+      every-of numbered S (all-imp numbered-test S (tidy .numbered)),
+      rising-test S (tidy .canon),
+    )
+
+-- within the limits the file has at most 61,992 bytes
+pub encode-fits : (types : List ℕ) (S : Cond) → length types ≤ 32 → Fine S → All (Formed types) S → length (encode types S) ≤ 61992
+encode-fits types S few fine formed =
+    omega (arith, length-encode types S (all-imp (λ e h. h .nodes) S formed), short-size S (short-each S (fine .short)))

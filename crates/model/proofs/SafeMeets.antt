@@ -1,0 +1,118 @@
+-- Where no step of the step-by-step evaluation overflows, the evaluation with marks in the zero state has the same
+-- numbers, all unmarked: the zero state meets every safe conjunct.
+-- Assumes nothing.
+use mathlib.Core.Path.{_≡_, refl, sym, ap, _∙_}
+use mathlib.Core.Bool.{true, false, cond}
+use mathlib.Core.List.{List, [], _∷_, map}
+use Prim.Native.Nat.{ℕ, zero, suc, _%_, _<_}
+use native.Mathlib.Nat.{mod-lt}
+use native.Mathlib.Omega.{arith}
+use lib.IntN.{ℤ, pos}
+use lib.ListN.{length, getD, drop, List·getD-map}
+use Rattle.arith.specs.declared.Op.{Op}
+use Rattle.arith.specs.declared.Op.the-variants.{Convert}
+use Rattle.arith.specs.Step.{value, overflow, passes, exactOf, overflows, stepOf}
+use Rattle.arith.proofs.StepLaws.{step-wraps}
+use Rattle.model.specs.Lists.{All}
+use Rattle.model.specs.Values.{Val, plain, Operation, stepOp, operated, converted}
+use Rattle.model.specs.Conjunct.{Source, field, cell, Atom, Node, const, atom, var, op, conv, Conj, atoms}
+use Rattle.model.specs.Input.{Input}
+use Rattle.model.specs.Filter.{fromTop, valuesOf}
+use Rattle.model.specs.Run.{zeros, reading}
+use Rattle.model.specs.Demands.{Choice, Takes, chosen, Safe}
+use Rattle.model.proofs.Eval.{every-imp}
+use Rattle.model.proofs.Meaning.{AtAtom, Env, pick, push, eval, topMark, LiveAtom, Meets}
+use Rattle.model.proofs.Number.{has, has-atoms}
+use Rattle.model.proofs.Renumber.{atoms-all}
+use Rattle.model.proofs.Tests.{case, true→T}
+use Rattle.model.proofs.Worked.{Stack, stack, stopped, onTop, goOn, outcome, worksOut, worked, evaluate-worked}
+
+drop-map : {A B : Type 0} (f : A → B) (n : ℕ) (xs : List A) → drop n (map f xs) ≡ map f (drop n xs)
+drop-map f zero xs = refl
+drop-map f (suc n) [] = refl
+drop-map f (suc n) (x ∷ xs) = drop-map f n xs
+
+-- the values are the stack's numbers, unmarked, unless a step overflowed
+abbrev Unmarked : Stack → List Val → Type 0
+Unmarked (stack st) vs = vs ≡ map plain st
+Unmarked stopped vs = Unit {0}
+
+-- ---- one step
+
+operated-plain : (o : Operation) (ty : ℕ) (a b : ℤ) → overflows (stepOp o) ty a b ≡ false → operated o ty (plain a) (plain b) ≡ plain (exactOf (stepOp o) a b)
+unfolding operated
+operated-plain o ty a b q = λ i. record { num = step-wraps (stepOp o) ty a b q i; mark = q i }
+
+converted-plain : (ty : ℕ) (a : ℤ) → overflows Convert ty a (pos 0) ≡ false → converted ty (plain a) ≡ plain a
+unfolding converted
+converted-plain ty a q = λ i. record { num = step-wraps Convert ty a (pos 0) q i; mark = q i }
+
+-- a value put on top: the result, where the step does not overflow
+onTop-unmarked : (o : Op) (ty : ℕ) (a b : ℤ) (v : Val) (st : List ℤ) → (overflows o ty a b ≡ false → v ≡ plain (exactOf o a b))
+    → Unmarked (onTop (stepOf o ty a b) st) (v ∷ map plain st)
+onTop-unmarked o ty a b v st h =
+    case (overflows o ty a b) (λ z. Unmarked (onTop (cond z overflow (value (exactOf o a b))) st) (v ∷ map plain st)) (λ q. tt) (λ q. ap (_∷ map plain st) (h q))
+
+-- ---- the nodes
+
+module _ (I : Input) (env : Env) (at : Atom → ℤ) where
+  -- the atom's value is the same, unmarked
+  abbrev Picked : Atom → Type 0
+  Picked a = pick I zeros (a .src) (env (a .src) (a .n)) ≡ plain (at a)
+
+  push-unmarked : (v : Node) → AtAtom Picked v → (st : List ℤ) → Unmarked (worksOut at v st) (push I zeros env v (map plain st))
+  unfolding worksOut push
+  push-unmarked (const ty i) h st = refl
+  push-unmarked (atom a) h st = ap (_∷ map plain st) h
+  push-unmarked (var x ty) h st = refl
+  push-unmarked (op o ty) h st =
+      rw (List·getD-map plain st 1 (pos 0), List·getD-map plain st 0 (pos 0), drop-map plain 2 st)
+      (onTop-unmarked (stepOp o) ty (fromTop st 1) (fromTop st 0) (operated o ty (plain (fromTop st 1)) (plain (fromTop st 0))) (drop 2 st)
+      (operated-plain o ty (fromTop st 1) (fromTop st 0)))
+  push-unmarked (conv ty) h st =
+      rw (List·getD-map plain st 0 (pos 0), drop-map plain 1 st)
+      (onTop-unmarked Convert ty (fromTop st 0) (pos 0) (converted ty (plain (fromTop st 0))) (drop 1 st) (converted-plain ty (fromTop st 0)))
+
+  eval-unmarked : (e : Conj) → All (AtAtom Picked) e → (st : List ℤ) → Unmarked (worked at e st) (eval I zeros env e (map plain st))
+  unfolding worked eval
+  eval-unmarked [] h st = refl
+  eval-unmarked (v ∷ e) h st = go (worksOut at v st) (push I zeros env v (map plain st)) (push-unmarked v (h .0) st) (eval-unmarked e (h .1))
+    where
+      go : (s : Stack) (vs : List Val) → Unmarked s vs → ((st : List ℤ) → Unmarked (worked at e st) (eval I zeros env e (map plain st)))
+          → Unmarked (goOn s (worked at e)) (eval I zeros env e vs)
+      go (stack st′) vs q ih = rw q (ih st′)
+      go stopped vs q ih = tt
+
+-- ---- the choices
+
+topMark-plain : (st : List ℤ) → topMark (map plain st) ≡ false
+topMark-plain [] = refl
+topMark-plain (z ∷ st) = refl
+
+outcome-mark : (s : Stack) (vs : List Val) → passes (outcome s) ≡ true → Unmarked s vs → topMark vs ≡ false
+outcome-mark (stack st) vs p q = ap topMark q ∙ topMark-plain st
+outcome-mark stopped vs p q = absurd (true→T p)
+
+one-zero : (n : ℕ) → getD (pos 0 ∷ []) n (pos 0) ≡ pos 0
+one-zero zero = refl
+one-zero (suc n) = refl
+
+-- a source's value at a choice is that of the choice modulo the number of its values
+picked : (I : Input) (s : Source) (c : ℕ) → pick I zeros s c ≡ plain (getD (valuesOf I s) (c % length (valuesOf I s)) (pos 0))
+unfolding pick reading
+picked I (field f ty) c = refl
+picked I (cell l r k ty) c = sym (ap plain (one-zero (c % 1)))
+
+takes : (I : Input) (s : Source) (c : ℕ) → LiveAtom I s → c % length (valuesOf I s) < length (valuesOf I s)
+takes I (field f ty) c h = mod-lt c h
+takes I (cell l r k ty) c h = omega arith
+
+pub safe-meets : (I : Input) (e : Conj) → Safe I e → Meets I zeros e
+unfolding Meets
+safe-meets I e safe env live =
+    let number : Atom → ℕ = λ a. env (a .src) (a .n) in
+    let choice : Choice = λ a. number a % length (valuesOf I (a .src)) in
+    let at = chosen I choice in
+    let t = atoms-all (Takes I choice) e (every-imp (λ a. LiveAtom I (a .src)) (Takes I choice) (λ a. takes I (a .src) (number a)) e live) in
+    let p = every-imp (λ a. has a (atoms e) ≡ true) (Picked I env at) (λ a h. picked I (a .src) (number a)) e (has-atoms e) in
+    outcome-mark (worked at e []) (eval I zeros env e []) (ap passes (sym (evaluate-worked at e [])) ∙ safe choice t) (eval-unmarked I env at e p [])

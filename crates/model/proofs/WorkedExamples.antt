@@ -1,0 +1,202 @@
+-- Document 01's worked examples (its soundings), by computation from byte strings: A to L as one theorem over one table, of the
+-- definitions that the public operations equal; and the examples without a letter.
+-- Assumes nothing.
+use mathlib.Core.Path.{_≡_, refl}
+use mathlib.Core.Bool.{Bool, true, false}
+use mathlib.Core.List.{List, [], _∷_, _++_, map, flatMap}
+use Prim.Native.Nat.{ℕ, zero, suc, _+_, _*_}
+use lib.IntN.{ℤ, pos, negsuc}
+use lib.ListN.{length}
+use Rattle.arith.specs.Step.{Outcome, value, overflow}
+use Rattle.model.specs.Refusals.{Out, ok, refused, _>>=_, tooManyConjuncts, neverSettles}
+use Rattle.model.specs.Bytes.{bytes4}
+use Rattle.model.specs.Values.{Operation, add, sub, mul, div}
+use Rattle.model.specs.Conjunct.{field, Node, const, atom, op, conv, Conj, Cond, atoms}
+use Rattle.model.specs.Condition.{Condition, encode, readCondition, analysis}
+use Rattle.model.specs.Input.{readInput}
+use Rattle.model.specs.Filter.{evaluate, combinationsOf, valueIn, filter}
+use Rattle.model.specs.Bytes
+use Rattle.model.specs.Code
+use Rattle.model.specs.Condition
+use Rattle.model.specs.Conjunct
+use Rattle.model.specs.Filter
+use Rattle.model.specs.Input
+use Rattle.model.specs.Lists
+use Rattle.model.specs.Program
+use Rattle.model.specs.Values
+use Rattle.model.specs.Walk
+use Rattle.arith.specs.Types
+use Rattle.arith.specs.Words
+
+-- ---- the definitions, with all that they are made of open
+
+-- the analysis
+derive : List ℕ → Out (List ℕ)
+unfolding Bytes.bytes2 Bytes.bytes4 Bytes.bytes8 Bytes.entries Bytes.chained Code.taking Code.opened Code.treeOf Condition.conjunctBytes Condition.pairBytes Condition.encode Condition.analysis Condition.nodeAt Condition.nodeRight Condition.typeNode Condition.typeNodes Condition.whole Condition.numbered Condition.rising Condition.readCondition Conjunct.sourceBytes Conjunct.bytes Conjunct.orderNumbers Conjunct.orderNodes Conjunct.order Conjunct.insert Conjunct.union Conjunct.same Conjunct.long Conjunct.limits Conjunct.sameSource Conjunct.sameAtom Conjunct.without Conjunct.atoms Conjunct.rank Conjunct.renamed Conjunct.renumber Filter.evaluate Filter.combinations Filter.valueIn Filter.combinationsOf Filter.holds Filter.productOf Filter.fewCombinations Filter.filter Input.width Input.bitsAt Input.readingAt Input.readingsOf Input.lengthsRight Input.readInput Lists.every Program.layoutOf Program.tablesAt Program.sectionsRight Program.countsRight Program.typesRight Program.formRight Program.typesAgree Program.immediateRight Program.stmtOf Program.readProgram Values.operated Values.converted Walk.nodes Walk.replace Walk.onArray Walk.loads Walk.swap Walk.swapAll Walk.subsets Walk.before Walk.gather Walk.back Walk.rounds Walk.walk Walk.here Walk.sites Walk.zeroed Walk.start Walk.join Walk.derived Types.bits Types.signed Types.depth Types.height Words.wideOf Words.wordOf Words.valueAt Words.immediate mathlib.Core.List.flatMap
+derive program = analysis program
+
+-- the condition file of a set
+file : List ℕ → Cond → List ℕ
+unfolding Bytes.bytes2 Bytes.bytes4 Bytes.bytes8 Bytes.entries Bytes.chained Code.taking Code.opened Code.treeOf Condition.conjunctBytes Condition.pairBytes Condition.encode Condition.analysis Condition.nodeAt Condition.nodeRight Condition.typeNode Condition.typeNodes Condition.whole Condition.numbered Condition.rising Condition.readCondition Conjunct.sourceBytes Conjunct.bytes Conjunct.orderNumbers Conjunct.orderNodes Conjunct.order Conjunct.insert Conjunct.union Conjunct.same Conjunct.long Conjunct.limits Conjunct.sameSource Conjunct.sameAtom Conjunct.without Conjunct.atoms Conjunct.rank Conjunct.renamed Conjunct.renumber Filter.evaluate Filter.combinations Filter.valueIn Filter.combinationsOf Filter.holds Filter.productOf Filter.fewCombinations Filter.filter Input.width Input.bitsAt Input.readingAt Input.readingsOf Input.lengthsRight Input.readInput Lists.every Program.layoutOf Program.tablesAt Program.sectionsRight Program.countsRight Program.typesRight Program.formRight Program.typesAgree Program.immediateRight Program.stmtOf Program.readProgram Values.operated Values.converted Walk.nodes Walk.replace Walk.onArray Walk.loads Walk.swap Walk.swapAll Walk.subsets Walk.before Walk.gather Walk.back Walk.rounds Walk.walk Walk.here Walk.sites Walk.zeroed Walk.start Walk.join Walk.derived Types.bits Types.signed Types.depth Types.height Words.wideOf Words.wordOf Words.valueAt Words.immediate mathlib.Core.List.flatMap
+file types S = encode types S
+
+-- the filter
+check : List ℕ → List ℕ → Out Bool
+unfolding Bytes.bytes2 Bytes.bytes4 Bytes.bytes8 Bytes.entries Bytes.chained Code.taking Code.opened Code.treeOf Condition.conjunctBytes Condition.pairBytes Condition.encode Condition.analysis Condition.nodeAt Condition.nodeRight Condition.typeNode Condition.typeNodes Condition.whole Condition.numbered Condition.rising Condition.readCondition Conjunct.sourceBytes Conjunct.bytes Conjunct.orderNumbers Conjunct.orderNodes Conjunct.order Conjunct.insert Conjunct.union Conjunct.same Conjunct.long Conjunct.limits Conjunct.sameSource Conjunct.sameAtom Conjunct.without Conjunct.atoms Conjunct.rank Conjunct.renamed Conjunct.renumber Filter.evaluate Filter.combinations Filter.valueIn Filter.combinationsOf Filter.holds Filter.productOf Filter.fewCombinations Filter.filter Input.width Input.bitsAt Input.readingAt Input.readingsOf Input.lengthsRight Input.readInput Lists.every Program.layoutOf Program.tablesAt Program.sectionsRight Program.countsRight Program.typesRight Program.formRight Program.typesAgree Program.immediateRight Program.stmtOf Program.readProgram Values.operated Values.converted Walk.nodes Walk.replace Walk.onArray Walk.loads Walk.swap Walk.swapAll Walk.subsets Walk.before Walk.gather Walk.back Walk.rounds Walk.walk Walk.here Walk.sites Walk.zeroed Walk.start Walk.join Walk.derived Types.bits Types.signed Types.depth Types.height Words.wideOf Words.wordOf Words.valueAt Words.immediate mathlib.Core.List.flatMap
+check condition input = filter condition input
+
+-- the evaluation of each conjunct at each combination
+values : List ℕ → List ℕ → Out (List (List Outcome))
+unfolding Bytes.bytes2 Bytes.bytes4 Bytes.bytes8 Bytes.entries Bytes.chained Code.taking Code.opened Code.treeOf Condition.conjunctBytes Condition.pairBytes Condition.encode Condition.analysis Condition.nodeAt Condition.nodeRight Condition.typeNode Condition.typeNodes Condition.whole Condition.numbered Condition.rising Condition.readCondition Conjunct.sourceBytes Conjunct.bytes Conjunct.orderNumbers Conjunct.orderNodes Conjunct.order Conjunct.insert Conjunct.union Conjunct.same Conjunct.long Conjunct.limits Conjunct.sameSource Conjunct.sameAtom Conjunct.without Conjunct.atoms Conjunct.rank Conjunct.renamed Conjunct.renumber Filter.evaluate Filter.combinations Filter.valueIn Filter.combinationsOf Filter.holds Filter.productOf Filter.fewCombinations Filter.filter Input.width Input.bitsAt Input.readingAt Input.readingsOf Input.lengthsRight Input.readInput Lists.every Program.layoutOf Program.tablesAt Program.sectionsRight Program.countsRight Program.typesRight Program.formRight Program.typesAgree Program.immediateRight Program.stmtOf Program.readProgram Values.operated Values.converted Walk.nodes Walk.replace Walk.onArray Walk.loads Walk.swap Walk.swapAll Walk.subsets Walk.before Walk.gather Walk.back Walk.rounds Walk.walk Walk.here Walk.sites Walk.zeroed Walk.start Walk.join Walk.derived Types.bits Types.signed Types.depth Types.height Words.wideOf Words.wordOf Words.valueAt Words.immediate mathlib.Core.List.flatMap
+values condition input =
+    readCondition condition >>= λ C. readInput (C .types) input >>= λ I.
+    ok (map (λ e. map (λ zs. evaluate (valueIn (atoms e) zs) e []) (combinationsOf I e)) (C .conjuncts))
+
+-- ---- files
+
+-- the first reading of a field
+abbrev reading : ℕ → ℕ → Node
+reading f ty = atom (record { src = field f ty; n = 1 })
+
+-- an input of two fields of 4 bytes with one reading each
+two : ℕ → ℕ → List ℕ
+unfolding Bytes.bytes4
+two a b = bytes4 16 ++ bytes4 4 ++ bytes4 20 ++ bytes4 4 ++ bytes4 a ++ bytes4 b
+
+-- of one such field
+one : ℕ → List ℕ
+unfolding Bytes.bytes4
+one a = bytes4 8 ++ bytes4 4 ++ bytes4 a
+
+-- a statement: kind, a, b, c and an immediate below 256
+abbrev statement : ℕ → ℕ → ℕ → ℕ → ℕ → List ℕ
+statement k a b c i = k ∷ a ∷ b ∷ c ∷ i ∷ 0 ∷ 0 ∷ 0 ∷ []
+
+-- a program file: types of fields and variables, 4 bytes for each array, statements
+program : List ℕ → List ℕ → List ℕ → List (List ℕ) → List ℕ
+unfolding Bytes.bytes4 mathlib.Core.List.flatMap
+program fields variables arrays statements =
+    let a = 32 + length fields in
+    let b = a + length variables in
+    let c = b + length arrays in
+    bytes4 32 ++ bytes4 (length fields) ++ bytes4 a ++ bytes4 (length variables) ++ bytes4 b ++ bytes4 (length arrays)
+    ++ bytes4 c ++ bytes4 (8 * length statements) ++ fields ++ variables ++ arrays ++ flatMap (λ s. s) statements
+
+-- ---- A to L
+
+-- the values and the filter's answer, or the condition file
+data Answer : Type 0 where
+  filtered : Out (List (List Outcome)) → Out Bool → Answer
+  derives : Out (List ℕ) → Answer
+
+record Example : Type 0 where
+  found : Answer
+  expected : Answer
+
+-- two readings and an operation of a type of 4 bytes
+operation : Operation → ℕ → ℕ → ℕ → Answer
+operation o ty a b =
+    let condition = file (ty ∷ ty ∷ []) ((reading 0 ty ∷ reading 1 ty ∷ op o ty ∷ []) ∷ []) in
+    filtered (values condition (two a b)) (check condition (two a b))
+
+-- a reading of a type of 4 bytes and its conversion
+conversion : ℕ → ℕ → ℕ → Answer
+conversion from ty a =
+    let condition = file (from ∷ []) ((reading 0 from ∷ conv ty ∷ []) ∷ []) in
+    filtered (values condition (one a)) (check condition (one a))
+
+-- v0 = 5; array 0 at v1 = v0; v2 = array 0 at v1; site v2
+stored : ℕ → Answer
+stored len =
+    derives (derive (program [] (0 ∷ 0 ∷ 0 ∷ []) (0 ∷ 0 ∷ len ∷ 0 ∷ [])
+    (statement 0 0 0 0 5 ∷ statement 9 0 1 0 0 ∷ statement 8 2 0 1 0 ∷ statement 10 2 0 0 0 ∷ [])))
+
+-- passes with this value
+abbrev pass : ℤ → Answer
+pass z = filtered (ok ((value z ∷ []) ∷ [])) (ok true)
+
+-- is held
+abbrev held : Answer
+held = filtered (ok ((overflow ∷ []) ∷ [])) (ok false)
+
+abbrev example : Answer → Answer → Example
+example f e = record { found = f; expected = e }
+
+-- type codes: u16 is 1, u32 is 2, i32 is 6; readings as the 4 bytes of a sheet
+examples : List Example
+unfolding operation conversion stored
+examples =
+    example (operation mul 6 46340 46340) (pass (pos 2147395600))  -- A
+    ∷ example (operation mul 6 46341 46341) held  -- B
+    ∷ example (operation mul 2 65535 65535) (pass (pos 4294836225))  -- C
+    ∷ example (operation sub 6 2147483648 0) (pass (negsuc 2147483647))  -- D
+    ∷ example (operation sub 6 2147483648 1) held  -- E
+    ∷ example (operation div 6 2147483648 4294967295) held  -- F
+    ∷ example (operation div 6 4294967289 2) (pass (negsuc 2))  -- G
+    ∷ example (conversion 2 1 65535) (pass (pos 65535))  -- H
+    ∷ example (conversion 2 1 65536) held  -- I
+    ∷ example (conversion 6 2 4294967295) held  -- J
+    ∷ example (stored 1) (derives (ok (file [] ((const 0 5 ∷ []) ∷ []))))  -- K
+    ∷ example (stored 2) (derives (ok (file [] ((const 0 0 ∷ []) ∷ (const 0 5 ∷ []) ∷ []))))  -- L
+    ∷ []
+
+worked-examples : map (λ x. x .found) examples ≡ map (λ x. x .expected) examples
+unfolding examples operation conversion stored derive file check values program two one
+worked-examples = refl
+
+-- ---- examples without a letter
+
+-- read v0 f0; v2 = v0 to u32; read v1 f0; v3 = v1 to u32; v4 = v2 × v3; site v4
+listing : derive (program (1 ∷ []) (1 ∷ 1 ∷ 2 ∷ 2 ∷ 2 ∷ []) []
+    (statement 7 0 0 0 0 ∷ statement 6 2 0 0 0 ∷ statement 7 1 0 0 0 ∷ statement 6 3 1 0 0 ∷ statement 4 4 2 3 0 ∷ statement 10 4 0 0 0 ∷ []))
+    ≡ ok (file (1 ∷ []) ((reading 0 1 ∷ conv 2 ∷ atom (record { src = field 0 1; n = 2 }) ∷ conv 2 ∷ op mul 2 ∷ []) ∷ []))
+unfolding derive program file
+listing = refl
+
+-- v1 = 1; while v2: v0 = v0 + v1; end; site v0
+counting : derive (program [] (0 ∷ 0 ∷ 0 ∷ []) []
+    (statement 0 1 0 0 1 ∷ statement 14 2 0 0 0 ∷ statement 2 0 0 1 0 ∷ statement 13 0 0 0 0 ∷ statement 10 0 0 0 0 ∷ [])) ≡ refused neverSettles
+unfolding derive program
+counting = refl
+
+-- while v0: v0 = v1; v1 = v2; … ; end; site v0: each round takes one link more
+links : ℕ → ℕ → List (List ℕ)
+links v zero = statement 13 0 0 0 0 ∷ statement 10 0 0 0 0 ∷ []
+links v (suc n) = statement 1 v (suc v) 0 0 ∷ links (suc v) n
+
+zeros : ℕ → List ℕ
+zeros zero = []
+zeros (suc n) = 0 ∷ zeros n
+
+-- S(16) equal to S(15) is accepted
+settles : derive (program [] (zeros 16) [] (statement 14 0 0 0 0 ∷ links 0 15)) ≡ ok (file [] ((const 0 0 ∷ []) ∷ []))
+unfolding derive program file links zeros
+settles = refl
+
+-- one link more is not
+one-more : derive (program [] (zeros 17) [] (statement 14 0 0 0 0 ∷ links 0 16)) ≡ refused neverSettles
+unfolding derive program links zeros
+one-more = refl
+
+-- array 0 at v0 = v0; v1 to v7 = array 0 at v0; v1 = v1 + v2; … ; site v1: seven loads of a long array in one conjunct
+seven-loads : derive (program [] (zeros 8) (0 ∷ 0 ∷ 2 ∷ 0 ∷ [])
+    (statement 9 0 0 0 0
+    ∷ statement 8 1 0 0 0 ∷ statement 8 2 0 0 0 ∷ statement 8 3 0 0 0 ∷ statement 8 4 0 0 0 ∷ statement 8 5 0 0 0 ∷ statement 8 6 0 0 0 ∷ statement 8 7 0 0 0
+    ∷ statement 2 1 1 2 0 ∷ statement 2 1 1 3 0 ∷ statement 2 1 1 4 0 ∷ statement 2 1 1 5 0 ∷ statement 2 1 1 6 0 ∷ statement 2 1 1 7 0
+    ∷ statement 10 1 0 0 0 ∷ [])) ≡ refused tooManyConjuncts
+unfolding derive program zeros
+seven-loads = refl
+
+-- 46,341 × 46,341 / 46,341 is held: every step is tested, and not only the last
+each-step : check (file (6 ∷ 6 ∷ []) ((reading 0 6 ∷ reading 1 6 ∷ op mul 6 ∷ reading 0 6 ∷ op div 6 ∷ []) ∷ [])) (two 46341 46341) ≡ ok false
+unfolding check file two
+each-step = refl
+
+-- no fields, no statements: the empty condition, and the empty sheet passes
+nothing : derive (program [] [] [] []) ≡ ok (file [] [])
+unfolding derive program file
+nothing = refl
+
+nothing-passes : check (file [] []) [] ≡ ok true
+unfolding check file
+nothing-passes = refl

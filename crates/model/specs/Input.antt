@@ -1,0 +1,45 @@
+-- The input file (document 01: sheet).
+-- Assumes nothing.
+use mathlib.Core.Bool.{Bool, true, _&&_, cond}
+use mathlib.Core.List.{List, [], _∷_}
+use Prim.Native.Nat.{ℕ, zero, suc, _*_, _/_, _%_}
+use lib.Dec.{leb, ltb, eqb}
+use lib.IntN.{ℤ, pos}
+use lib.ListN.{length, getD}
+use Rattle.arith.specs.Types.{bits}
+use Rattle.arith.specs.Step.{wrap}
+use Rattle.model.specs.Refusals.{Out, ok, check, wrongInput}
+use Rattle.model.specs.Bytes.{byteAt, u16At, u32At, u64At, Pair, pairAt, entries, pairsAt, chained}
+
+-- the readings of each field
+abbrev pub Input : Type 0
+Input = ℕ → List ℤ
+
+-- how many bytes a reading of a type has
+unfoldable pub width : ℕ → ℕ
+width ty = bits ty / 8
+
+-- the number in the bytes of a reading
+unfoldable pub bitsAt : ℕ → List ℕ → ℕ → ℕ
+bitsAt ty s a = getD (byteAt s a ∷ u16At s a ∷ u32At s a ∷ u64At s a ∷ []) (ty % 4) 0
+
+-- the reading of a type at a place
+unfoldable pub readingAt : ℕ → List ℕ → ℕ → ℤ
+readingAt ty s a = wrap ty (pos (bitsAt ty s a))
+
+-- the readings of a pair
+unfoldable pub readingsOf : ℕ → List ℕ → Pair → List ℤ
+readingsOf ty s p = entries (readingAt ty) (width ty) s (p .offset) (p .len / width ty)
+
+-- each length is whole readings, at most 128
+unfoldable pub lengthsRight : List ℕ → List Pair → Bool
+lengthsRight [] ps = true
+lengthsRight (ty ∷ types) [] = true
+lengthsRight (ty ∷ types) (p ∷ ps) = eqb (p .len % width ty) 0 && leb (p .len) (128 * width ty) && lengthsRight types ps
+
+-- the input of a byte string for fields of these types, or 13
+unfoldable pub readInput : List ℕ → List ℕ → Out Input
+readInput types s =
+    let pairs = pairsAt s 0 (length types) in
+    check (chained (8 * length types) pairs (length s) && lengthsRight types pairs) wrongInput
+    (ok (λ f. cond (ltb f (length types)) (readingsOf (getD types f 0) s (pairAt s (8 * f))) []))

@@ -1,0 +1,14 @@
+pub mod Lists
+pub mod Refusals
+pub mod Bytes
+pub mod Values
+pub mod Code
+pub mod Program
+pub mod Conjunct
+pub mod Walk
+pub mod Condition
+pub mod Input
+pub mod Filter
+pub mod Run
+pub mod Exact
+pub mod Demands
