@@ -1,21 +1,16 @@
 -- Sets: members of `insert` and `union`, canonical lists, and the algebra of unions.
 -- Assumes nothing.
 use mathlib.Core.Path.{_≡_, refl, sym, _∙_, ap, ap₂, subst}
-use mathlib.Core.Logic.{_⊎_, inl, inr, _↔_}
+use mathlib.Core.Logic.{_⊎_, inl, inr, ⊎-elim, _↔_}
 use mathlib.Core.List.{[], _∷_}
 use Prim.Native.Nat.{suc, _+_, _≤_, Ordering, Ordering·lt, Ordering·eq, Ordering·gt}
 use native.Mathlib.Omega.{arith}
 use lib.ListN.{length}
-use Rattle.model.specs.Conjunct.{Conj, Cond, order, place, insert, union, same}
+use Rattle.model.specs.Conjunct.{Conj, Cond, order, place, insert, union}
 use Rattle.model.specs.Lists.{All}
-use Rattle.model.proofs.Notions.{Less, Canon, Mem, Sub}
-use Rattle.model.proofs.Order.{flip, order-flip, less-irreflexive, less-trans}
-use Rattle.model.proofs.Sets.{all-imp}
-use Rattle.model.proofs.Tests.{order-eq}
-
-pub either : {A B C : Type 0} → (A → C) → (B → C) → A ⊎ B → C
-either f g (inl a) = f a
-either f g (inr b) = g b
+use Rattle.model.proofs.Lists.{all-imp}
+use Rattle.model.proofs.Order.{flip, order-flip, less-irreflexive, less-trans, order-eq}
+use Rattle.model.proofs.TidySets.{Less, Canon, Mem, Sub}
 
 -- ---- members
 
@@ -30,12 +25,6 @@ mem-all P (e ∷ S) h = (h e (inl refl), mem-all P S (λ x m. h x (inr m)))
 
 pub sub-self : (S : Cond) → Sub S S
 sub-self S x m = m
-
-pub sub-trans : (R S T : Cond) → Sub R S → Sub S T → Sub R T
-sub-trans R S T f g x m = g x (f x m)
-
-pub sub-path : (R S : Cond) → R ≡ S → Sub R S
-sub-path R S p x m = subst (Mem x) p m
 
 -- ---- members of a set with one conjunct more
 
@@ -104,14 +93,24 @@ module _ (x : Conj) where
 
 -- a conjunct is in the union if and only if it is in one of the two
 pub union-members : (x : Conj) (R S : Cond) → Mem x (union R S) ↔ (Mem x R ⊎ Mem x S)
-union-members x R S = (union-from x R S, either (union-left x R S) (union-right x R S))
+union-members x R S = (union-from x R S, ⊎-elim (union-left x R S) (union-right x R S))
 
 -- the least set that has both
 pub union-least : (R S T : Cond) → Sub R T → Sub S T → Sub (union R S) T
-union-least R S T f g x m = either (f x) (g x) (union-from x R S m)
+union-least R S T f g x m = ⊎-elim (f x) (g x) (union-from x R S m)
 
 pub union-mono : (R S R′ S′ : Cond) → Sub R R′ → Sub S S′ → Sub (union R S) (union R′ S′)
 union-mono R S R′ S′ f g = union-least R S (union R′ S′) (λ x m. union-left x R′ S′ (f x m)) (λ x m. union-right x R′ S′ (g x m))
+
+-- what holds of all of a union holds of all of both, and the other way round
+module _ (P : Conj → Type 0) (R S : Cond) where
+  pub union-all : All P (union R S) → All P R × All P S
+  union-all h =
+      let each = all-mem P (union R S) h in
+      (mem-all P R (λ x m. each x (union-left x R S m)), mem-all P S (λ x m. each x (union-right x R S m)))
+
+  pub union-every : All P R → All P S → All P (union R S)
+  union-every h k = mem-all P (union R S) (λ x m. ⊎-elim (all-mem P R h x) (all-mem P S k x) (union-from x R S m))
 
 -- ---- canonical lists
 
@@ -119,7 +118,7 @@ above : (e d : Conj) (S : Cond) → Less e d → All (Less d) S → All (Less e)
 above e d S h k = all-imp (λ x l. less-trans e d x h l) S k
 
 insert-above : (d e : Conj) (S : Cond) → Less d e → All (Less d) S → All (Less d) (insert e S)
-insert-above d e S h k = mem-all (Less d) (insert e S) (λ x m. either (λ p. subst (Less d) (sym p) h) (all-mem (Less d) S k x) (insert-from x e S m))
+insert-above d e S h k = mem-all (Less d) (insert e S) (λ x m. ⊎-elim (λ p. subst (Less d) (sym p) h) (all-mem (Less d) S k x) (insert-from x e S m))
 
 placed-canon : (o : Ordering) (e d : Conj) (S rest : Cond) → order e d ≡ o → (Less d e → All (Less d) rest) → Canon rest → Canon (d ∷ S) → Canon (place o e d S rest)
 placed-canon Ordering·lt e d S rest q f c h = ((q, above e d S q (h .0)), h)
@@ -153,10 +152,10 @@ canon-ext (d ∷ R) (e ∷ S) h k f g = ap₂ _∷_ (heads (f d (inl refl)) (g e
     head = heads (f d (inl refl)) (g e (inl refl))
 
     right : Sub R S
-    right x m = either (λ p. absurd (less-irreflexive d (subst (Less d) (p ∙ sym head) (all-mem (Less d) R (h .0) x m)))) (λ n. n) (f x (inr m))
+    right x m = ⊎-elim (λ p. absurd (less-irreflexive d (subst (Less d) (p ∙ sym head) (all-mem (Less d) R (h .0) x m)))) (λ n. n) (f x (inr m))
 
     left : Sub S R
-    left x m = either (λ p. absurd (less-irreflexive e (subst (Less e) (p ∙ head) (all-mem (Less e) S (k .0) x m)))) (λ n. n) (g x (inr m))
+    left x m = ⊎-elim (λ p. absurd (less-irreflexive e (subst (Less e) (p ∙ head) (all-mem (Less e) S (k .0) x m)))) (λ n. n) (g x (inr m))
 
 -- ---- the algebra of unions
 
@@ -191,13 +190,6 @@ pub insert-least : (e : Conj) (S : Cond) → Canon (e ∷ S) → insert e S ≡ 
 unfolding insert
 insert-least e [] h = refl
 insert-least e (d ∷ S) h = ap (λ o. place o e d S (insert e S)) (h .0 .0)
-
--- two and two
-pub union-swap : (A B C D : Cond) → Canon B → Canon C → Canon D → union (union A B) (union C D) ≡ union (union A C) (union B D)
-union-swap A B C D b c d =
-    union-assoc A B (union C D) (union-canon C D d)
-    ∙ ap (union A) (sym (union-assoc B C D d) ∙ ap (λ X. union X D) (union-comm B C b c) ∙ union-assoc C B D d)
-    ∙ sym (union-assoc A C (union B D) (union-canon B D d))
 
 -- ---- sizes
 

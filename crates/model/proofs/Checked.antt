@@ -1,49 +1,23 @@
 -- What checks 2 to 8 leave of a program: each test passes, and so numbers name something and types agree in every statement.
 -- Assumes nothing.
-use mathlib.Core.Path.{_≡_, refl, sym, _∙_, ap, subst}
-use mathlib.Core.Bool.{Bool, true, false, _&&_, not, true≢false, false≢true}
-use mathlib.Core.List.{List, [], _∷_, map}
+use mathlib.Core.Path.{_≡_, refl, sym, subst}
+use mathlib.Core.Bool.{Bool, true, _&&_, not, false≢true}
+use mathlib.Core.List.{List, map}
 use Prim.Native.Nat.{ℕ, zero, suc, _<_}
 use lib.Dec.{leb, ltb, eqb}
-use lib.ListN.{length, getD}
-use native.Mathlib.Omega.{arith}
-use borrow.Author.Tests.{ltb-true}
+use lib.ListN.{length}
+use borrow.Author.Tests.{ltb-true, eqb-true}
 use Rattle.arith.specs.Types.{signed}
 use Rattle.model.specs.Lists.{All, every}
-use Rattle.model.specs.Refusals.{Out, ok, refused, _>>=_, check, wrongSections, tooManyEntries, wrongTypes, wrongStatement, typesDisagree, wrongImmediate}
-use Rattle.model.specs.Code.{Instr, Code, Stmt, treeOf}
-use Rattle.model.specs.Program.{Array, Statement, Tables, tablesAt, layoutOf, sectionsRight, countsRight, typeRight, arrayRight, typesRight, formRight, variableType, fieldType, arrayOf, typesAgree, immediateRight, stmtOf, Program, readProgram}
-use Rattle.model.proofs.Tests.{and-left, and-right, eqb-eq}
-use Rattle.model.proofs.Sets.{all-imp, all-map}
+use Rattle.model.specs.Refusals.{Out, ok, _>>=_, check, wrongSections, tooManyEntries, wrongTypes, wrongStatement, typesDisagree, wrongImmediate}
+use Rattle.model.specs.Code.{Code, treeOf}
+use Rattle.model.specs.Program.{Statement, Tables, tablesAt, layoutOf, sectionsRight, countsRight, typeRight, arrayRight, typesRight, formRight, variableType, fieldType, arrayOf, typesAgree, immediateRight, stmtOf, Program, readProgram}
+use Rattle.model.proofs.Every.{every-all}
+use Rattle.model.proofs.Lists.{all-imp₃, all-map, all-getD}
+use Rattle.model.proofs.Results.{check-ok, bind-ok, ok-eq}
+use Rattle.model.proofs.Tests.{and-left, and-right}
 use Rattle.model.proofs.Trees.{AtPlain, tree-each}
 use Rattle.model.proofs.Typing.{TypedInstr, Typed}
-
--- ---- tests that pass
-
-pub check-ok : {A : Type 0} (b : Bool) (n : ℕ) (o : Out A) (a : A) → check b n o ≡ ok a → (b ≡ true) × (o ≡ ok a)
-check-ok true n o a e = (refl, e)
-check-ok false n o a e = let z : true ≡ false = cc in absurd (true≢false z)
-
-pub bind-ok : {A B : Type 0} (o : Out A) (f : A → Out B) (b : B) → (o >>= f) ≡ ok b → (a : A) × (o ≡ ok a) × (f a ≡ ok b)
-bind-ok (ok a) f b e = (a, refl, e)
-bind-ok (refused n) f b e = let z : true ≡ false = cc in absurd (true≢false z)
-
-pub ok-eq : {A : Type 0} (a b : A) → ok a ≡ ok b → a ≡ b
-ok-eq a b e = cc
-
-pub every-all : {A : Type 0} (f : A → Bool) (xs : List A) → every f xs ≡ true → All (λ x. f x ≡ true) xs
-unfolding every
-every-all f [] e = tt
-every-all f (x ∷ xs) e = (and-left (f x) (every f xs) e, every-all f xs (and-right (f x) (every f xs) e))
-
-pub all-getD : {A : Type 0} (P : A → Type 0) (xs : List A) (i : ℕ) (d : A) → All P xs → i < length xs → P (getD xs i d)
-all-getD P [] i d h k = absurd (omega arith)
-all-getD P (x ∷ xs) zero d h k = h .0
-all-getD P (x ∷ xs) (suc i) d h k = all-getD P xs i d (h .1) (omega arith)
-
-all-imp₃ : {A : Type 0} (P Q R S : A → Type 0) → ((x : A) → P x → Q x → R x → S x) → (xs : List A) → All P xs → All Q xs → All R xs → All S xs
-all-imp₃ P Q R S f [] p q r = tt
-all-imp₃ P Q R S f (x ∷ xs) p q r = (f x (p .0) (q .0) (r .0), all-imp₃ P Q R S f xs (p .1) (q .1) (r .1))
 
 -- ---- a program that is read
 
@@ -77,7 +51,7 @@ program-checked s P e =
     let c₈ = bind-ok (treeOf (map (stmtOf T) (T .statements))) whole P (c₇ .1) in
     let r : Program = record { tables = T; code = c₈ .0 } in
     let z : Checked s r = record { tables = refl; sections = c₂ .0; counts = c₃ .0; types = c₄ .0; forms = c₅ .0; agree = c₆ .0; immediates = c₇ .0; tree = c₈ .1 } in
-    subst (Checked s) (ok-eq r P (c₈ .2)) z
+    subst (Checked s) {x = r} (ok-eq r P (c₈ .2)) z
 
 -- ---- one statement
 
@@ -117,9 +91,6 @@ module _ (T : Tables) (known : typesRight T ≡ true) where
   row-b : (p q r s : Bool) → (p && q && r && s) ≡ true → q ≡ true
   row-b p q r s e = and-right p q (and-left (p && q) r (and-left (p && q && r) s e))
 
-  row-c : (p q r s : Bool) → (p && q && r && s) ≡ true → r ≡ true
-  row-c p q r s e = and-right (p && q) r (and-left (p && q && r) s e)
-
   module _ (a b c imm : ℕ) where
     abbrev entry : ℕ → Statement
     entry k = record { kind = k; a = a; b = b; c = c; imm = imm }
@@ -135,8 +106,8 @@ module _ (T : Tables) (known : typesRight T ≡ true) where
         → ((ty ≡ ty) × (ty < 8)) × (((variableType T b ≡ ty) × (ty < 8)) × ((variableType T c ≡ ty) × (ty < 8)))
     operands f g =
         let small = variable-type a (row-a (isV a) (isV b) (isV c) (eqb imm 0) f) in
-        let same-b = eqb-eq (variableType T b) ty (and-left (eqb (variableType T b) ty) (eqb (variableType T c) ty) g) in
-        let same-c = eqb-eq (variableType T c) ty (and-right (eqb (variableType T b) ty) (eqb (variableType T c) ty) g) in
+        let same-b = eqb-true (variableType T b) ty (and-left (eqb (variableType T b) ty) (eqb (variableType T c) ty) g) in
+        let same-c = eqb-true (variableType T c) ty (and-right (eqb (variableType T b) ty) (eqb (variableType T c) ty) g) in
         ((refl, small), ((same-b, small), (same-c, small)))
 
     kind-typed : (k : ℕ) → formRight T (entry k) ≡ true → typesAgree T (entry k) ≡ true → immediateRight T (entry k) ≡ true
@@ -145,7 +116,7 @@ module _ (T : Tables) (known : typesRight T ≡ true) where
     kind-typed zero f g h = ((refl, variable-type a (and-left (isV a) (eqb b 0) (and-left (isV a && eqb b 0) (eqb c 0) f))), h)
     kind-typed (suc zero) f g h =
         let small = variable-type a (row-a (isV a) (isV b) (eqb c 0) (eqb imm 0) f) in
-        ((refl, small), (eqb-eq (variableType T b) ty g, small))
+        ((refl, small), (eqb-true (variableType T b) ty g, small))
     kind-typed (suc (suc zero)) f g h = operands f g
     kind-typed (suc (suc (suc zero))) f g h = operands f g
     kind-typed (suc (suc (suc (suc zero)))) f g h = operands f g
@@ -155,16 +126,16 @@ module _ (T : Tables) (known : typesRight T ≡ true) where
     kind-typed (suc (suc (suc (suc (suc (suc (suc zero))))))) f g h =
         let isF = ltb b (length (T .fields)) in (
           (refl, variable-type a (row-a (isV a) isF (eqb c 0) (eqb imm 0) f)),
-          (eqb-eq (fieldType T b) ty g, ltb-true b (length (T .fields)) (row-b (isV a) isF (eqb c 0) (eqb imm 0) f)),
+          (eqb-true (fieldType T b) ty g, ltb-true b (length (T .fields)) (row-b (isV a) isF (eqb c 0) (eqb imm 0) f)),
         )
     kind-typed (suc (suc (suc (suc (suc (suc (suc (suc zero)))))))) f g h =
         let isA = ltb b (length (T .arrays)) in
         let small = variable-type a (row-a (isV a) isA (isV c) (eqb imm 0) f) in
-        ((refl, small), (eqb-eq (arrayOf T b .ty) ty (and-left (eqb (arrayOf T b .ty) ty) (not (signed (variableType T c))) g), small))
+        ((refl, small), (eqb-true (arrayOf T b .ty) ty (and-left (eqb (arrayOf T b .ty) ty) (not (signed (variableType T c))) g), small))
     kind-typed (suc (suc (suc (suc (suc (suc (suc (suc (suc zero))))))))) f g h =
         let isA = ltb a (length (T .arrays)) in
         let small = array-type a (row-a isA (isV b) (isV c) (eqb imm 0) f) in
-        let same = eqb-eq (arrayOf T a .ty) (variableType T c) (and-left (eqb (arrayOf T a .ty) (variableType T c)) (not (signed (variableType T b))) g) in
+        let same = eqb-true (arrayOf T a .ty) (variableType T c) (and-left (eqb (arrayOf T a .ty) (variableType T c)) (not (signed (variableType T b))) g) in
         ((refl, small), (sym same, small))
     kind-typed (suc (suc (suc (suc (suc (suc (suc (suc (suc (suc zero)))))))))) f g h = (refl, variable-type a (row-a (isV a) (eqb b 0) (eqb c 0) (eqb imm 0) f))
     kind-typed (suc (suc (suc (suc (suc (suc (suc (suc (suc (suc (suc zero))))))))))) f g h = tt
@@ -178,7 +149,6 @@ program-typed s P c =
     let T = P .tables in
     tree-each (TypedInstr T) (map (stmtOf T) (T .statements)) (P .code)
     (all-map (AtPlain (TypedInstr T)) (stmtOf T) (T .statements)
-    (all-imp₃ (λ q. formRight T q ≡ true) (λ q. typesAgree T q ≡ true) (λ q. immediateRight T q ≡ true) (λ q. AtPlain (TypedInstr T) (stmtOf T q))
-    (λ q. kind-typed T (c .types) (q .a) (q .b) (q .c) (q .imm) (q .kind)) (T .statements)
+    (all-imp₃ (λ q. kind-typed T (c .types) (q .a) (q .b) (q .c) (q .imm) (q .kind)) (T .statements)
     (every-all (formRight T) (T .statements) (c .forms)) (every-all (typesAgree T) (T .statements) (c .agree)) (every-all (immediateRight T) (T .statements) (c .immediates))))
     (c .tree)

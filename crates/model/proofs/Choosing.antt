@@ -13,12 +13,10 @@ use Rattle.model.specs.Conjunct.{Atom, Conj, sameAtom, atoms}
 use Rattle.model.specs.Input.{Input}
 use Rattle.model.specs.Filter.{evaluate, valuesOf, combinations, valueIn, combinationsOf, holds}
 use Rattle.model.specs.Demands.{Choice, Takes, chosen, Safe, Overflows}
+use Rattle.model.proofs.Atoms.{every-imp, has, has-atoms, atoms-all, atom-eq}
 use Rattle.model.proofs.Combining.{values, every-combinations}
-use Rattle.model.proofs.Eval.{every-imp}
 use Rattle.model.proofs.Every.{every-at, every-not}
-use Rattle.model.proofs.Number.{has, has-atoms}
-use Rattle.model.proofs.Renumber.{atoms-all}
-use Rattle.model.proofs.Tests.{case, true→T, atom-eq}
+use Rattle.model.proofs.Tests.{case, true→T}
 use Rattle.model.proofs.Worked.{evaluate-same}
 
 -- the values that f gives to the atoms are found again

@@ -8,9 +8,9 @@ use native.Mathlib.Nat.{zero-mul, suc-mul, add-comm}
 use lib.IntN.{ℤ}
 use lib.ListN.{length, length-append, length-map}
 use Rattle.model.specs.Lists.{every}
-use Rattle.model.specs.Conjunct.{Atom, Conj, atoms}
+use Rattle.model.specs.Conjunct.{Atom}
 use Rattle.model.specs.Input.{Input}
-use Rattle.model.specs.Filter.{valuesOf, combinations, combinationsOf, productOf}
+use Rattle.model.specs.Filter.{valuesOf, combinations, productOf}
 use Rattle.model.proofs.Every.{every-of-map, every-of-flatMap, every-same}
 
 -- ---- the first list changes slowest
@@ -40,7 +40,3 @@ module _ (I : Input) where
   length-combinations (a ∷ ks) =
       length-flatMap (λ z. map (z ∷_) (combinations (values ks))) (productOf I ks)
       (λ z. length-map (combinations (values ks)) (z ∷_) ∙ length-combinations ks) (valuesOf I (a .src))
-
-  pub length-combinationsOf : (e : Conj) → length (combinationsOf I e) ≡ productOf I (atoms e)
-  unfolding combinationsOf
-  length-combinationsOf e = length-combinations (atoms e)

@@ -1,10 +1,10 @@
 -- Demand 3 over byte strings: an accepted program, an input that passes under its condition, and any run of the two.
 -- Assumes nothing.
-use mathlib.Core.Path.{_≡_, refl, sym, _∙_, ap, subst}
-use mathlib.Core.Bool.{Bool, true, false, _&&_}
+use mathlib.Core.Path.{_≡_, sym, _∙_, ap, subst}
+use mathlib.Core.Bool.{true, false, _&&_}
 use mathlib.Core.List.{List, [], _∷_, map}
-use Prim.Native.Nat.{ℕ, _<_, _≤_, _/_}
-use lib.Dec.{leb, ltb}
+use Prim.Native.Nat.{ℕ, _≤_, _/_}
+use lib.Dec.{leb}
 use lib.ListN.{length}
 use borrow.Author.Tests.{leb-true, ltb-true}
 use Rattle.model.specs.Lists.{All, every}
@@ -12,24 +12,25 @@ use Rattle.model.specs.Refusals.{Out, ok, _>>=_, check, tooManyCombinati
 use Rattle.model.specs.Conjunct.{Cond}
 use Rattle.model.specs.Walk.{derived}
 use Rattle.model.specs.Program.{Program, Tables, countsRight, readProgram}
-use Rattle.model.specs.Condition.{Condition, encode, readCondition, analysis}
+use Rattle.model.specs.Condition.{encode, readCondition, analysis}
 use Rattle.model.specs.Input.{Input, readInput}
 use Rattle.model.specs.Filter.{fewCombinations, holds, filter}
-use Rattle.model.specs.Run.{zeros, Line, markByte, execute, choicesOf, Ran, run}
-use Rattle.model.specs.Exact.{Note, exactRun}
-use Rattle.model.specs.Demands.{Record, recordsOf, Pairwise, Matches, Marks, Demand3}
-use Rattle.model.proofs.Tests.{and-left}
-use Rattle.model.proofs.Sets.{all-imp}
-use Rattle.model.proofs.Meaning.{Meets}
-use Rattle.model.proofs.Every.{every-all}
-use Rattle.model.proofs.Checked.{check-ok, bind-ok, ok-eq, fields-known, Checked, program-checked}
-use Rattle.model.proofs.Tidied.{analysis-tidy}
-use Rattle.model.proofs.Derives.{derived-formed}
-use Rattle.model.proofs.ReadBack.{encode-reads}
+use Rattle.model.specs.Run.{zeros, Line, markByte, choicesOf, Ran}
+use Rattle.model.specs.Exact.{Note}
+use Rattle.model.specs.Demands.{Pairwise, Matches, Marks, Demand3}
+use Rattle.model.proofs.Checked.{fields-known, program-checked}
 use Rattle.model.proofs.Choosing.{holds-safe}
+use Rattle.model.proofs.Derives.{derived-formed}
+use Rattle.model.proofs.Every.{every-all}
+use Rattle.model.proofs.Lists.{all-imp}
+use Rattle.model.proofs.Meaning.{Meets}
+use Rattle.model.proofs.ReadBack.{encode-reads}
+use Rattle.model.proofs.Records.{recordOf, Runs, run-runs, linesOf, notesOf, exact-notes, ran-records, ran-marks}
+use Rattle.model.proofs.Results.{check-ok, bind-ok, ok-eq}
 use Rattle.model.proofs.SafeMeets.{safe-meets}
 use Rattle.model.proofs.Sound.{sound}
-use Rattle.model.proofs.Records.{recordOf, Runs, run-runs, linesOf, notesOf, exact-notes, ran-records, ran-marks}
+use Rattle.model.proofs.Tests.{and-left}
+use Rattle.model.proofs.Tidied.{derived-tidy}
 
 -- ---- what the analysis writes is read back
 
@@ -65,7 +66,7 @@ module _ (program condition : List ℕ) (a : Accepted program condition) where
       let c = program-checked program (a .P) (a .reads) in
       ap readCondition (sym (a .writes))
       ∙ encode-reads (T .fields) (a .S) (few-fields T (c .counts)) (all-imp (λ t. ltb-true t 8) (T .fields) (fields-known T (c .types)))
-      (analysis-tidy (a .P .code) (a .S) (a .derives)) (derived-formed program (a .P) (a .S) (a .reads) (a .derives))
+      (derived-tidy (a .P .code) (a .S) (a .derives)) (derived-formed program (a .P) (a .S) (a .reads) (a .derives))
 
   -- an input that passes under it: the zero state meets every conjunct
   pub passes-meets : (input : List ℕ) (I : Input) → readInput (a .P .tables .fields) input ≡ ok I → filter condition input ≡ ok true → All (Meets I zeros) (a .S)

@@ -6,30 +6,27 @@ use mathlib.Core.Bool.{Bool, true, false, cond}
 use mathlib.Core.List.{List, [], _∷_, _++_, map, flatMap}
 use Prim.Native.Nat.{ℕ, _<_}
 use lib.Dec.{eqb}
+use borrow.Author.Tests.{eqb-true}
 use Rattle.arith.specs.Step.{fits}
 use Rattle.arith.specs.Words.{immediate}
 use Rattle.arith.proofs.WrapLaws.{fits-zero, immediate-zero}
 use Rattle.model.specs.Lists.{All}
-use Rattle.model.specs.Refusals.{Out, ok, refused, _>>=_}
+use Rattle.model.specs.Refusals.{ok, _>>=_}
 use Rattle.model.specs.Code.{Right, number, copy, calc, change, read, load, Instr, assign, store, site}
 use Rattle.model.specs.Program.{Program, Tables, variableType, arrayOf, readProgram}
 use Rattle.model.specs.Conjunct.{Source, field, cell, Atom, Node, const, atom, var, op, conv, Conj, Cond, sameAtom, atoms, renamed, onAtom, renumber}
 use Rattle.model.specs.Walk.{nodes, replace, onArray, loads, swap, swapAll, subsets, before, zeroed, derived}
 use Rattle.model.specs.Condition.{sourceType, typeNode, typeNodes, single, whole}
+use Rattle.model.proofs.Atoms.{atom-eq}
 use Rattle.model.proofs.Checked.{program-checked, program-typed}
-use Rattle.model.proofs.Formed.{FileNode, Formed}
+use Rattle.model.proofs.Formed.{FileNode, Whole, Formed}
 use Rattle.model.proofs.Invariant.{derived-every}
-use Rattle.model.proofs.Laws.{bind-assoc}
-use Rattle.model.proofs.Sets.{all-imp, all-append}
-use Rattle.model.proofs.Tests.{case, true→T, and-left, eqb-eq, eqb-self, atom-eq}
+use Rattle.model.proofs.Lists.{all-append}
+use Rattle.model.proofs.Results.{bind-assoc, bind-self}
+use Rattle.model.proofs.Tests.{case, true→T, and-left, eqb-self}
 use Rattle.model.proofs.Typing.{TypedVar, TypedArray, TypedField, TypedRight, TypedInstr}
 
 -- ---- whole expressions
-
--- one whole expression, every node with the property N
-record Whole (N : Node → Type 0) (e : Conj) : Type 0 where
-  nodes : All N e
-  one : whole e ≡ true
 
 -- nodes with the property N that may stand for a node: they leave the same types
 record Stand (N : Node → Type 0) (v : Node) (d : List Node) : Type 0 where
@@ -44,11 +41,7 @@ types-append (v ∷ d) e st = ap (typeNode v st >>=_) (fun-ext (types-append d e
 -- a node stands for itself
 itself : (N : Node → Type 0) (v : Node) → N v → Stand N v (v ∷ [])
 unfolding typeNodes
-itself N v h = record { nodes = (h, tt); types = λ st. go (typeNode v st) }
-  where
-    go : (o : Out (List ℕ)) → (o >>= typeNodes []) ≡ o
-    go (ok st) = refl
-    go (refused n) = refl
+itself N v h = record { nodes = (h, tt); types = λ st. bind-self (typeNode v st) }
 
 -- where nodes with N stand for each node with M
 module _ (M N : Node → Type 0) (g : Node → List Node) (stand : (v : Node) → M v → Stand N v (g v)) where
@@ -130,7 +123,7 @@ module _ (T : Tables) where
   replace-stands a ty r t s (atom b) h = record { nodes = (h, tt); types = λ st. refl }
   replace-stands a ty r t s (var x u) h =
       case (eqb x a) (λ z. Stand WalkNode (var x u) (cond z r (var x u ∷ [])))
-      (λ p. record { nodes = s .nodes; types = λ st. s .types st ∙ ap (λ w. ok (w ∷ st)) (sym t ∙ ap (variableType T) (sym (eqb-eq x a p)) ∙ h .0) })
+      (λ p. record { nodes = s .nodes; types = λ st. s .types st ∙ ap (λ w. ok (w ∷ st)) (sym t ∙ ap (variableType T) (sym (eqb-true x a p)) ∙ h .0) })
       (λ p. itself WalkNode (var x u) h)
   replace-stands a ty r t s (op o u) h = itself WalkNode (op o u) h
   replace-stands a ty r t s (conv u) h = itself WalkNode (conv u) h
@@ -144,7 +137,7 @@ module _ (T : Tables) where
     load-type : (s : Source) → onArray t k s ≡ true → WalkSource s → ty ≡ sourceType s
     unfolding onArray
     load-type (field f u) p h = absurd (true→T p)
-    load-type (cell l r j u) p h = sym (array .0) ∙ ap (λ z. arrayOf T z .ty) (sym (eqb-eq r t (and-left (eqb r t) (eqb j k) p))) ∙ h .0
+    load-type (cell l r j u) p h = sym (array .0) ∙ ap (λ z. arrayOf T z .ty) (sym (eqb-true r t (and-left (eqb r t) (eqb j k) p))) ∙ h .0
 
     -- the variable stands for a load, and so for each atom where only loads pass the test
     put-stands : (b : Bool) (a : Atom) → (b ≡ true → Load a) → WalkNode (atom a) → Stand WalkNode (atom a) (cond b (var x ty) (atom a) ∷ [])
@@ -208,6 +201,5 @@ module _ (T : Tables) where
 pub derived-formed : (s : List ℕ) (P : Program) (S : Cond) → readProgram s ≡ ok P → derived (P .code) ≡ ok S → All (Formed (P .tables .fields)) S
 derived-formed s P S p d =
     let T = P .tables in
-    all-imp (λ e h. record { nodes = h .nodes; one = h .one }) S
-    (derived-every (Whole (InFile T)) (Whole (WalkNode T)) (TypedInstr T) (whole-renumber (InFile T) (λ a n h. h)) (whole-renumber (WalkNode T) (λ a n h. h))
-    (site-whole T) (before-whole T) (whole-map (WalkNode T) (InFile T) zeroed (zeroed-stands T)) (P .code) (program-typed s P (program-checked s P p)) S d)
+    derived-every (Whole (InFile T)) (Whole (WalkNode T)) (TypedInstr T) (whole-renumber (InFile T) (λ a n h. h)) (whole-renumber (WalkNode T) (λ a n h. h))
+    (site-whole T) (before-whole T) (whole-map (WalkNode T) (InFile T) zeroed (zeroed-stands T)) (P .code) (program-typed s P (program-checked s P p)) S d

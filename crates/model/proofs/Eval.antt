@@ -1,39 +1,17 @@
--- The value of a changed conjunct is the value of the conjunct in a changed state.
+-- The value of a changed conjunct is the value of the conjunct in a changed state; renumbering changes no value.
 -- Assumes nothing.
 use mathlib.Core.Path.{_≡_, refl, sym, _∙_, ap}
-use mathlib.Core.Bool.{Bool, true, false}
+use mathlib.Core.Bool.{true}
 use mathlib.Core.List.{List, [], _∷_, _++_, map, flatMap}
-use Prim.Native.Nat.{ℕ}
-use Rattle.model.specs.Conjunct.{Atom, Node, const, atom, var, op, conv, Conj, onAtom}
+use Prim.Native.Nat.{ℕ, zero, suc}
+use Rattle.model.specs.Conjunct.{Atom, Node, const, atom, var, op, conv, Conj, atoms, renamed, onAtom, renumber}
 use Rattle.model.specs.Input.{Input}
 use Rattle.model.specs.Lists.{All}
 use Rattle.model.specs.Run.{State}
 use Rattle.model.specs.Values.{Val}
-use Rattle.model.proofs.Meaning.{AtAtom, Env, pick, push, eval, topMark, LiveAtom, Live, Holds}
-use Rattle.model.proofs.Sets.{all-imp, all-map, all-append}
-
--- ---- nodes by their atoms
-
-pub at-imp : (P Q : Atom → Type 0) → ((a : Atom) → P a → Q a) → (v : Node) → AtAtom P v → AtAtom Q v
-at-imp P Q f (const ty i) h = tt
-at-imp P Q f (atom a) h = f a h
-at-imp P Q f (var x ty) h = tt
-at-imp P Q f (op o ty) h = tt
-at-imp P Q f (conv ty) h = tt
-
-pub at-onAtom : (P Q : Atom → Type 0) (g : Atom → Node) → ((a : Atom) → P a → AtAtom Q (g a)) → (v : Node) → AtAtom P v → AtAtom Q (onAtom g v)
-at-onAtom P Q g f (const ty i) h = tt
-at-onAtom P Q g f (atom a) h = f a h
-at-onAtom P Q g f (var x ty) h = tt
-at-onAtom P Q g f (op o ty) h = tt
-at-onAtom P Q g f (conv ty) h = tt
-
--- what holds of every atom of one conjunct, and so of every atom of another
-pub every-imp : (P Q : Atom → Type 0) → ((a : Atom) → P a → Q a) → (e : Conj) → All (AtAtom P) e → All (AtAtom Q) e
-every-imp P Q f e h = all-imp (at-imp P Q f) e h
-
-pub every-map : (P Q : Atom → Type 0) (g : Atom → Node) → ((a : Atom) → P a → AtAtom Q (g a)) → (e : Conj) → All (AtAtom P) e → All (AtAtom Q) (map (onAtom g) e)
-every-map P Q g f e h = all-map (AtAtom Q) (onAtom g) e (all-imp (at-onAtom P Q g f) e h)
+use Rattle.model.proofs.Atoms.{has, has-atoms, nth, nth-rank, every-map}
+use Rattle.model.proofs.Lists.{all-imp, all-append}
+use Rattle.model.proofs.Meaning.{AtAtom, Env, pick, push, eval, topMark, LiveAtom, Live, Holds, Meets}
 
 -- ---- changed conjuncts
 
@@ -41,6 +19,14 @@ pub eval-append : (I : Input) (σ : State) (env : Env) (d e : Conj) (st : List V
 unfolding eval
 eval-append I σ env [] e st = refl
 eval-append I σ env (v ∷ d) e st = eval-append I σ env d e (push I σ env v st)
+
+map-id : (e : Conj) → map (onAtom atom) e ≡ e
+map-id [] = refl
+map-id (const ty i ∷ e) = ap (const ty i ∷_) (map-id e)
+map-id (atom a ∷ e) = ap (atom a ∷_) (map-id e)
+map-id (var x ty ∷ e) = ap (var x ty ∷_) (map-id e)
+map-id (op o ty ∷ e) = ap (op o ty ∷_) (map-id e)
+map-id (conv ty ∷ e) = ap (conv ty ∷_) (map-id e)
 
 -- in what follows a node under σ and env stands for one under σ′ and env′
 module _ (I : Input) (σ σ′ : State) (env env′ : Env) where
@@ -74,14 +60,6 @@ module _ (I : Input) (σ σ′ : State) (env env′ : Env) where
         ap topMark (sym (eval-map (onAtom g) e (all-imp push-onAtom e h) []))
         ∙ k (every-map (λ a. LiveAtom I (a .src)) (λ a. LiveAtom I (a .src)) g live e l)
 
-  map-id : (e : Conj) → map (onAtom atom) e ≡ e
-  map-id [] = refl
-  map-id (const ty i ∷ e) = ap (const ty i ∷_) (map-id e)
-  map-id (atom a ∷ e) = ap (atom a ∷_) (map-id e)
-  map-id (var x ty ∷ e) = ap (var x ty ∷_) (map-id e)
-  map-id (op o ty ∷ e) = ap (op o ty ∷_) (map-id e)
-  map-id (conv ty ∷ e) = ap (conv ty ∷_) (map-id e)
-
   -- the same conjunct, where every atom has the same value
   pub holds-same : ((x : ℕ) → σ .vars x ≡ σ′ .vars x) → (P : Atom → Type 0)
       → ((a : Atom) → P a → pick I σ (a .src) (env (a .src) (a .n)) ≡ pick I σ′ (a .src) (env′ (a .src) (a .n)))
@@ -94,3 +72,16 @@ pub live-flatMap : (I : Input) (g : Node → List Node) → ((v : Node) → AtAt
 unfolding flatMap
 live-flatMap I g f [] h = tt
 live-flatMap I g f (v ∷ e) h = all-append (AtAtom (λ a. LiveAtom I (a .src))) (g v) (flatMap g e) (f v (h .0)) (live-flatMap I g f e (h .1))
+
+-- ---- renumbered conjuncts
+
+-- the choices for a renumbered conjunct that pick what `env` picks
+back-env : List Atom → Env → Env
+back-env ks env s m = env s (elim m [ zero ↦ 0 | suc k ↦ nth s k ks ])
+
+pub renumber-meets : (I : Input) (σ : State) (e : Conj) → Meets I σ (renumber e) → Meets I σ e
+unfolding Meets renumber renamed push back-env
+renumber-meets I σ e h env =
+    let ks = atoms e in
+    holds-map I σ σ (back-env ks env) env (λ x. refl) (λ a. has a ks ≡ true) (λ a. atom (renamed ks a))
+    (λ a p st. ap (λ n. pick I σ (a .src) (env (a .src) n) ∷ st) (nth-rank a ks p)) (λ a l. l) e (has-atoms e) (h (back-env ks env))

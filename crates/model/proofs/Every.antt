@@ -4,11 +4,11 @@ use mathlib.Core.Path.{_≡_, refl, sym, ap, _∙_}
 use mathlib.Core.Logic.{_⊎_, inl, inr}
 use mathlib.Core.Bool.{Bool, true, false, _&&_, and-assoc}
 use mathlib.Core.List.{List, [], _∷_, _++_, map, flatMap}
-use Prim.Native.Nat.{ℕ, zero, suc, _<_}
-use native.Mathlib.Omega.{arith}
+use Prim.Native.Nat.{ℕ, _<_}
 use lib.ListN.{length, getD}
 use Rattle.model.specs.Lists.{All, every}
 use Rattle.model.specs.Demands.{Some}
+use Rattle.model.proofs.Lists.{all-getD, some-getD}
 use Rattle.model.proofs.Tests.{case, true→T, and-left, and-right}
 
 -- ---- lists that are put together
@@ -51,10 +51,7 @@ module _ {A : Type 0} (p : A → Bool) where
   all-every (x ∷ xs) h = rw (h .0) (all-every xs (h .1))
 
   pub every-at : (d : A) (xs : List A) → every p xs ≡ true → (i : ℕ) → i < length xs → p (getD xs i d) ≡ true
-  unfolding every
-  every-at d [] h i l = absurd (omega arith)
-  every-at d (x ∷ xs) h zero l = and-left (p x) (every p xs) h
-  every-at d (x ∷ xs) h (suc i) l = every-at d xs (and-right (p x) (every p xs) h) i (omega arith)
+  every-at d xs h i l = all-getD (λ x. p x ≡ true) xs i d (every-all xs h) l
 
   -- ---- it fails
 
@@ -71,8 +68,4 @@ module _ {A : Type 0} (p : A → Bool) where
   some-every (x ∷ xs) (inr h) = case (p x) (λ z. (z && every p xs) ≡ false) (λ q. some-every xs h) (λ q. refl)
 
   pub every-not : (d : A) (xs : List A) → every p xs ≡ false → (i : ℕ) × (i < length xs) × (p (getD xs i d) ≡ false)
-  unfolding every
-  every-not d [] h = absurd (true→T (sym h))
-  every-not d (x ∷ xs) h =
-      case (p x) (λ z. (z && every p xs) ≡ false → (i : ℕ) × (i < suc (length xs)) × (p (getD (x ∷ xs) i d) ≡ false))
-      (λ q k. let r = every-not d xs k in (suc (r .0), omega arith, r .2)) (λ q k. (0, omega arith, q)) h
+  every-not d xs h = some-getD (λ x. p x ≡ false) xs d (every-some xs h)

@@ -1,9 +1,9 @@
 -- The bytes of a condition file: how many they are, and what its reader finds in them.
 -- Assumes nothing.
 use mathlib.Core.Path.{_≡_, refl, sym, _∙_, ap, ap₂}
-use mathlib.Core.Bool.{Bool, true, _&&_}
+use mathlib.Core.Bool.{true}
 use mathlib.Core.List.{List, [], _∷_, _++_, map, flatMap, append-assoc, map-id}
-use Prim.Native.Nat.{ℕ, zero, suc, _+_, _*_, _/_}
+use Prim.Native.Nat.{ℕ, suc, _+_, _*_, _/_}
 use native.Mathlib.Nat.{add-assoc, add-zero}
 use native.Mathlib.Omega.{arith}
 use lib.ListN.{length, take, length-append}
@@ -13,11 +13,12 @@ use Rattle.model.specs.Lists.{All, every}
 use Rattle.model.specs.Bytes.{u32At, bytes4, part, Pair, pairAt, pairsAt, chained, entries}
 use Rattle.model.specs.Conjunct.{Conj, Cond}
 use Rattle.model.specs.Condition.{conjunctBytes, pairBytes, conjunctsAt, encode, nodeAt, conjunctAt, nodeRight, nodesRight}
+use Rattle.model.proofs.Every.{every-of-map, all-every}
 use Rattle.model.proofs.Formed.{FileNode}
+use Rattle.model.proofs.Lists.{all-of}
 use Rattle.model.proofs.LittleEndian.{four-back, u32-bytes4}
 use Rattle.model.proofs.NodeBytes.{conjunct-size, conjunct-read, conjunct-right}
 use Rattle.model.proofs.Places.{From, from-after, Local, local-from, length-things, entries-read}
-use Rattle.model.proofs.Sets.{all-of}
 use Rattle.model.proofs.Tests.{eqb-self}
 
 -- how many nodes a set has
@@ -34,17 +35,8 @@ abbrev pub pairs : ℕ → Cond → List Pair
 pairs a [] = []
 pairs a (e ∷ S) = pairOf a e ∷ pairs (a + 8 * length e) S
 
--- ---- tests that all pass
-
-every-mapped : {A : Type 0} (f : A → Bool) (xs : List A) → every f xs ≡ every (λ b. b) (map f xs)
-unfolding every
-every-mapped f [] = refl
-every-mapped f (x ∷ xs) = ap (f x &&_) (every-mapped f xs)
-
 every-true : {A : Type 0} (xs : List A) → every (λ b. b) (map (λ x. true) xs) ≡ true
-unfolding every
-every-true [] = refl
-every-true (x ∷ xs) = every-true xs
+every-true xs = every-of-map (λ b. b) (λ x. true) xs ∙ all-every (λ x. true) xs (all-of (λ x. refl) xs)
 
 eighth : (n : ℕ) → 8 * n / 8 ≡ n
 eighth n = omega arith
@@ -82,7 +74,7 @@ module _ (types : List ℕ) where
 
     conjuncts-right : every (nodesRight types s) (pairs a S) ≡ true
     conjuncts-right =
-        every-mapped (nodesRight types s) (pairs a S)
+        sym (every-of-map (λ b. b) (nodesRight types s) (pairs a S))
         ∙ ap (every (λ b. b)) (conjuncts-found (nodesRight types) (λ e. true) placed-right S h s a f)
         ∙ every-true S
 

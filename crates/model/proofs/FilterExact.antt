@@ -2,24 +2,18 @@
 -- it back exactly where one does.
 -- Assumes nothing.
 use mathlib.Core.Path.{_≡_, ap, _∙_}
-use mathlib.Core.Logic.{inl, inr}
 use mathlib.Core.Bool.{true, false}
-use mathlib.Core.List.{List, [], _∷_}
+use mathlib.Core.List.{List}
 use Prim.Native.Nat.{ℕ}
 use Rattle.model.specs.Lists.{every}
 use Rattle.model.specs.Refusals.{ok}
 use Rattle.model.specs.Condition.{Condition, readCondition}
 use Rattle.model.specs.Input.{Input, readInput}
 use Rattle.model.specs.Filter.{holds, fewCombinations, filter}
-use Rattle.model.specs.Demands.{Some, Demand2}
+use Rattle.model.specs.Demands.{Demand2}
 use Rattle.model.proofs.Choosing.{holds-safe, safe-holds, held-overflows, overflows-held}
 use Rattle.model.proofs.Every.{every-all, all-every, every-some, some-every}
-use Rattle.model.proofs.Sets.{all-imp}
-
-some-imp : {A : Type 0} {P Q : A → Type 0} → ((x : A) → P x → Q x) → (xs : List A) → Some P xs → Some Q xs
-some-imp f [] h = absurd h
-some-imp f (x ∷ xs) (inl h) = inl (f x h)
-some-imp f (x ∷ xs) (inr h) = inr (some-imp f xs h)
+use Rattle.model.proofs.Lists.{all-imp, some-imp}
 
 -- within the limit the answer is the test of every conjunct
 pub filter-answer : (condition input : List ℕ) (C : Condition) (I : Input) → readCondition condition ≡ ok C → readInput (C .types) input ≡ ok I

@@ -1,27 +1,27 @@
 -- The exact run follows the run: a value is marked exactly where a step of its making overflowed, and unmarked it is its whole number.
 -- Assumes nothing.
-use mathlib.Core.Path.{_≡_, refl, sym, _∙_, ap, ap₂, subst}
-use mathlib.Core.Logic.{_⊎_, inl, inr, _≢_}
-use mathlib.Core.Bool.{Bool, true, false, _&&_, _||_, cond, true≢false, or-assoc, or-comm}
+use mathlib.Core.Path.{_≡_, refl, sym, _∙_, ap, ap₂}
+use mathlib.Core.Bool.{Bool, true, false, _&&_, _||_, cond, true≢false, or-assoc, or-comm, or-self-left}
 use mathlib.Core.List.{List, [], _∷_, _++_}
 use Prim.Native.Nat.{ℕ, zero, suc, _+_, _%_, _<_}
 use native.Mathlib.Omega.{arith as linear}
-use lib.Dec.{T, eqb}
+use lib.Dec.{eqb}
 use lib.IntN.{ℤ, pos}
 use lib.ListN.{length, getD}
+use borrow.Author.Tests.{eqb-true}
 use Rattle.arith.specs.declared.Op.the-variants.{Convert}
 use Rattle.arith.specs.Step.{overflows, exactOf}
 use Rattle.arith.specs.Words.{immediate}
-use Rattle.model.specs.Code.{Right, number, copy, calc, change, read, load, Instr, assign, store, site, Code, done, step, branch, loop}
+use Rattle.arith.proofs.StepLaws.{step-wraps}
+use Rattle.model.specs.Code.{number, copy, calc, change, read, load, Instr, assign, store, site, Code, done, step, branch, loop}
 use Rattle.model.specs.Exact.{Made, given, Store, nothing, makeVar, makeCell, member, put, both, first, make, over, flag, count, Note, noted, following, notes}
 use Rattle.model.specs.Input.{Input}
 use Rattle.model.specs.Lists.{All}
-use Rattle.model.specs.Run.{State, zeros, setVar, setCell, reading, Next, go, halt, taking, index, exec, append, Line, logged, permit, roomLeft, taken, Ended, ended, stepped, after, spent, execute}
+use Rattle.model.specs.Run.{State, zeros, setVar, setCell, reading, Next, go, halt, taking, index, exec, append, Line, logged, permit, roomLeft, taken, Ended, stepped, after, execute}
 use Rattle.model.specs.Values.{Val, plain, Operation, stepOp, operated, converted}
-use Rattle.model.proofs.Instruction.{Leads, permit-leads}
-use Rattle.model.proofs.Sets.{all-imp}
-use Rattle.model.proofs.Tests.{case, true→T, eqb-eq, eqb-self}
-use Rattle.arith.proofs.StepLaws.{step-wraps}
+use Rattle.model.proofs.Lists.{all-imp}
+use Rattle.model.proofs.Runs.{Leads, permit-leads}
+use Rattle.model.proofs.Tests.{case, or-left, or-right, true→T, eqb-self}
 
 -- ---- sets of places
 
@@ -39,13 +39,9 @@ or-swap true true c = refl
 or-swap true false c = refl
 or-swap false b c = refl
 
-or-again : (a b : Bool) → (a || (a || b)) ≡ (a || b)
-or-again true b = refl
-or-again false b = refl
-
 flag-older : (b : Bool) (H : List Bool) (p : ℕ) → p < length H → flag (b ∷ H) p ≡ flag H p
 flag-older b H p h =
-    case (eqb p (length H)) (λ z. cond z b (flag H p) ≡ flag H p) (λ r. let e : p ≡ length H = eqb-eq p (length H) r in absurd (omega linear)) (λ r. refl)
+    case (eqb p (length H)) (λ z. cond z b (flag H p) ≡ flag H p) (λ r. let e : p ≡ length H = eqb-true p (length H) r in absurd (omega linear)) (λ r. refl)
 
 hot-older : (b : Bool) (H : List Bool) (ps : List ℕ) → Placed H ps → hot (b ∷ H) ps ≡ hot H ps
 unfolding hot Placed
@@ -61,7 +57,7 @@ unfolding hot
 hot-member H p [] e = absurd (true→T e)
 hot-member H p (q ∷ qs) e =
     case (eqb p q) (λ z. (z || member p qs) ≡ true → (flag H p || (flag H q || hot H qs)) ≡ (flag H q || hot H qs))
-    (λ r k. ap (λ x. x || (flag H q || hot H qs)) (ap (flag H) (eqb-eq p q r)) ∙ or-again (flag H q) (hot H qs))
+    (λ r k. ap (λ x. x || (flag H q || hot H qs)) (ap (flag H) (eqb-true p q r)) ∙ or-self-left (flag H q) (hot H qs))
     (λ r k. or-swap (flag H p) (flag H q) (hot H qs) ∙ ap (flag H q ||_) (hot-member H p qs k)) e
 
 hot-put : (H : List Bool) (p : ℕ) (qs : List ℕ) → hot H (put p qs) ≡ (flag H p || hot H qs)
@@ -110,14 +106,6 @@ beside-older b H v m h =
 beside-given : (H : List Bool) (z : ℤ) → Beside H (plain z) (given z)
 unfolding hot Placed
 beside-given H z = record { placed = tt; mark = refl; number = λ e. refl }
-
-or-left : (a b : Bool) → (a || b) ≡ false → a ≡ false
-or-left true b e = e
-or-left false b e = refl
-
-or-right : (a b : Bool) → (a || b) ≡ false → b ≡ false
-or-right true b e = absurd (true≢false e)
-or-right false b e = e
 
 -- this step's place, in the list with this step
 placed-new : (f : Bool) (H : List Bool) (ps : List ℕ) → Placed H ps → Placed (f ∷ H) (put (length H) ps)

@@ -24,7 +24,11 @@ FileNode types (var x ty) = ⊥
 FileNode types (op o ty) = ty < 8
 FileNode types (conv ty) = ty < 8
 
--- a conjunct of such nodes that is one whole expression
-pub record Formed (types : List ℕ) (e : Conj) : Type 0 where
-  pub nodes : All (FileNode types) e
+-- one whole expression, every node with the property N
+pub record Whole (N : Node → Type 0) (e : Conj) : Type 0 where
+  pub nodes : All N e
   pub one : whole e ≡ true
+
+-- of nodes that a condition file may hold
+abbrev pub Formed : List ℕ → Conj → Type 0
+Formed types e = Whole (FileNode types) e

@@ -3,35 +3,26 @@
 use mathlib.Core.Path.{_≡_, refl, sym, _∙_, ap, subst}
 use mathlib.Core.Logic.{_⊎_, inl, inr}
 use mathlib.Core.Bool.{Bool, true, false, _&&_, _||_, cond}
-use mathlib.Core.List.{List, [], _∷_, _++_, map, flatMap}
+use mathlib.Core.List.{List, [], _∷_, flatMap}
 use Prim.Native.Nat.{ℕ, zero, suc, _%_, _<_, zero-le, suc-le-suc}
 use native.Mathlib.Omega.{arith}
-use lib.Dec.{eqb, T}
+use lib.Dec.{eqb}
 use lib.IntN.{ℤ, natAbs}
 use lib.ListN.{length}
+use borrow.Author.Tests.{eqb-true}
 use Rattle.model.specs.Code.{Right, number, copy, calc, change, read, load, Instr, assign, store, site}
-use Rattle.model.specs.Conjunct.{Source, field, cell, Atom, Node, const, atom, var, op, conv, Conj, sameAtom, atoms, onAtom}
+use Rattle.model.specs.Conjunct.{Source, field, cell, Atom, Node, const, atom, var, op, conv, Conj, sameAtom, atoms}
 use Rattle.model.specs.Input.{Input}
 use Rattle.model.specs.Lists.{All}
-use Rattle.model.specs.Run.{State, setVar, setCell, reading, Next, go, halt, taking, index, permit, exec}
+use Rattle.model.specs.Run.{State, setVar, setCell, reading, taking, index, exec}
 use Rattle.model.specs.Values.{Val}
 use Rattle.model.specs.Walk.{nodes, replace, onArray, loads, swap, swapAll, subsets, before}
-use Rattle.model.proofs.Eval.{every-imp, every-map, eval-flatMap, holds-map, holds-same, live-flatMap}
+use Rattle.model.proofs.Atoms.{every-imp, every-map, has, has-atoms, atom-eq}
+use Rattle.model.proofs.Eval.{eval-flatMap, holds-map, holds-same, live-flatMap}
+use Rattle.model.proofs.Lists.{all-imp, all-left, all-right}
 use Rattle.model.proofs.Meaning.{AtAtom, Env, pick, push, eval, topMark, LiveAtom, Live, Holds, Meets}
-use Rattle.model.proofs.Number.{has, has-atoms}
-use Rattle.model.proofs.Sets.{all-imp, all-left, all-right, all-of, all-map}
-use Rattle.model.proofs.Tests.{case, true→T, eqb-eq, eqb-self, atom-eq, and-left, and-right}
-
--- what a statement leads to, if it leads on, has the property
-abbrev pub Leads : (State → Type 0) → Next → Type 0
-Leads P (go σ ch) = P σ
-Leads P (halt n) = Unit {0}
-
-pub permit-leads : (P : State → Type 0) (room : ℕ) (i : Instr) (nx : Next) → Leads P nx → Leads P (permit room i nx)
-permit-leads P room (assign a ty r) nx h = h
-permit-leads P room (store t k i x ty) nx h = h
-permit-leads P zero (site a ty) nx h = tt
-permit-leads P (suc room) (site a ty) nx h = h
+use Rattle.model.proofs.Runs.{Leads}
+use Rattle.model.proofs.Tests.{case, true→T, eqb-self, and-right}
 
 -- ---- assignments
 
@@ -105,7 +96,7 @@ only-cell : (t k i : ℕ) → ((c : ℕ) → c % k ≡ i) → (s : Source) (c : 
 unfolding hits onArray
 only-cell t k i one (field f ty) c p = p
 only-cell t k i one (cell l s j ty) c p =
-    rw (p, eqb-eq j k (and-right (eqb s t) (eqb j k) p), one c) (eqb-self i)
+    rw (p, eqb-true j k (and-right (eqb s t) (eqb j k) p), one c) (eqb-self i)
 
 has-loads : (t k : ℕ) (a : Atom) (ks : List Atom) → onArray t k (a .src) ≡ true → has a ks ≡ true → has a (loads t k ks) ≡ true
 unfolding loads
@@ -220,7 +211,7 @@ store-meets : (I : Input) (σ : State) (t k i x ty : ℕ) (e : Conj)
     → All (Meets I σ) (cond (eqb k 1) (swapAll t k x ty e ∷ []) (subsets (loads t k (atoms e)) x ty e)) → Meets I (setCell σ t k (index σ k i) (σ .vars x)) e
 store-meets I σ t k i x ty e h =
     case (eqb k 1) (λ z. All (Meets I σ) (cond z (swapAll t k x ty e ∷ []) (subsets (loads t k (atoms e)) x ty e)) → Meets I (setCell σ t k (index σ k i) (σ .vars x)) e)
-    (λ p m. swapAll-meets I σ t k (index σ k i) x ty (λ c. one-index k (natAbs (σ .vars i .num)) c (eqb-eq k 1 p)) e (m .0))
+    (λ p m. swapAll-meets I σ t k (index σ k i) x ty (λ c. one-index k (natAbs (σ .vars i .num)) c (eqb-true k 1 p)) e (m .0))
     (λ p m. subsets-meet I σ t k (index σ k i) x ty e m) h
 
 -- the law of one statement

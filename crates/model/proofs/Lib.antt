@@ -1,41 +1,53 @@
-pub mod LittleEndian
-pub mod Meaning
+-- Booleans, numbers, lists and results
 pub mod Tests
-pub mod Sets
-pub mod Eval
-pub mod Number
-pub mod Instruction
-pub mod Sound
-pub mod Laws
-pub mod Notions
+pub mod Lists
+pub mod Every
+pub mod Results
+pub mod LittleEndian
+-- sets of conjuncts
+pub mod TidySets
 pub mod Order
 pub mod Canonical
-pub mod Kept
+pub mod Limits
+pub mod Gather
+-- one conjunct: its atoms, its numbering and its value
+pub mod Meaning
+pub mod Atoms
 pub mod Renumber
+pub mod Eval
+-- the walk
+pub mod Trees
+pub mod Invariant
+pub mod Tidied
+pub mod Walks
 pub mod Touch
+pub mod Skip
 pub mod Paths
 pub mod Goes
-pub mod Skip
-pub mod Tidied
-pub mod Trees
+-- the run
+pub mod Runs
+pub mod Instruction
+pub mod Sound
+pub mod Follow
+-- what is read: typed programs, typed inputs, and the log
 pub mod Typing
 pub mod Checked
-pub mod Formed
-pub mod Follow
 pub mod Typed
 pub mod Records
-pub mod WorkedExamples
+-- the condition file
+pub mod Formed
+pub mod Derives
 pub mod Places
 pub mod NodeBytes
 pub mod FileBytes
 pub mod ReadBack
-pub mod Every
+-- the filter
 pub mod Combining
 pub mod Worked
 pub mod Choosing
 pub mod FilterExact
 pub mod SafeMeets
+-- the operations on byte strings
 pub mod RefusalNumbers
-pub mod Invariant
-pub mod Derives
 pub mod Demand3
+pub mod WorkedExamples

@@ -1,10 +1,9 @@
 -- The bytes of a number, read back, give the number.
 -- Assumes nothing.
-use mathlib.Core.Path.{_≡_, refl, sym, _∙_, ap, ap₂}
-use mathlib.Core.List.{List, [], _∷_, _++_}
+use mathlib.Core.Path.{_≡_, _∙_, ap₂}
+use mathlib.Core.List.{List, _++_}
 use Prim.Native.Nat.{ℕ, _+_, _*_, _%_, _/_}
 use native.Mathlib.Omega.{arith}
-use lib.ListN.{length}
 use Rattle.model.specs.Bytes.{u16At, u32At, u64At, bytes2, bytes4, bytes8}
 
 pub two-back : (v : ℕ) → v % 256 + 256 * (v / 256) ≡ v

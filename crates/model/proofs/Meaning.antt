@@ -9,7 +9,7 @@ use lib.IntN.{pos}
 use lib.ListN.{length, getD, drop}
 use Rattle.arith.specs.Words.{immediate}
 use Rattle.model.specs.Lists.{All}
-use Rattle.model.specs.Values.{Val, plain, Operation, operated, converted}
+use Rattle.model.specs.Values.{Val, plain, operated, converted}
 use Rattle.model.specs.Conjunct.{Source, field, cell, Atom, Node, const, atom, var, op, conv, Conj}
 use Rattle.model.specs.Input.{Input}
 use Rattle.model.specs.Run.{State, reading}

@@ -14,9 +14,9 @@ use Rattle.model.specs.Values.{add, sub, mul, div}
 use Rattle.model.specs.Conjunct.{Source, field, cell, Node, const, atom, var, op, conv, Conj, bytes, sourceBytes}
 use Rattle.model.specs.Condition.{conjunctBytes, nodeAt, nodeRight}
 use Rattle.model.proofs.Formed.{FileSource, FileNode}
+use Rattle.model.proofs.Lists.{all-imp}
 use Rattle.model.proofs.LittleEndian.{two-back, four-back}
 use Rattle.model.proofs.Places.{From, Local, length-things, entries-read}
-use Rattle.model.proofs.Sets.{all-imp}
 
 -- ---- one node
 

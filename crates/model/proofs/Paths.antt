@@ -3,12 +3,10 @@
 -- Assumes nothing.
 use mathlib.Core.Path.{_≡_}
 use mathlib.Core.Logic.{_⊎_}
-use mathlib.Core.List.{[], _∷_}
 use Prim.Native.Nat.{ℕ, zero, suc}
 use Rattle.model.specs.Code.{Code, done, step, branch, loop}
 use Rattle.model.specs.Conjunct.{Cond, union}
 use Rattle.model.specs.Walk.{before, gather}
-use Rattle.model.proofs.Notions.{Canon, Sub}
 
 -- from S, with n rounds left, the rounds over D come to R: a round stays, or goes on with its set
 abbrev pub Rounds : (Cond → Cond → Type 0) → (Cond → Type 0) → ℕ → Cond → Cond → Cond → Type 0
@@ -22,19 +20,3 @@ Goes K done S R = S ≡ R
 Goes K (step l i rest) S R = (D : Cond) × Goes K rest S D × (gather (before l i) D ≡ R) × K l R
 Goes K (branch l v yes′ no′ rest) S R = (D A B : Cond) × Goes K rest S D × Goes K yes′ D A × Goes K no′ D B × (union A B ≡ R) × K l R
 Goes K (loop l v body rest) S R = (D : Cond) × Goes K rest S D × Rounds (λ X Y. Goes K body X Y) (K l) 16 D D R
-
--- P of every label
-abbrev pub Over : (ℕ → Type 0) → Code → Type 0
-Over P done = Unit {0}
-Over P (step l i rest) = P l × Over P rest
-Over P (branch l v yes′ no′ rest) = P l × (Over P yes′ × (Over P no′ × Over P rest))
-Over P (loop l v body rest) = P l × (Over P body × Over P rest)
-
--- each conjunct by itself comes to a set, and R is the union of these
-abbrev pub Singly : (ℕ → Cond → Type 0) → Code → Cond → Cond → Type 0
-Singly K c [] R = R ≡ []
-Singly K c (e ∷ S) R = (X Y : Cond) × Goes K c (e ∷ []) X × Singly K c S Y × (R ≡ union X Y)
-
--- within a table that has a set for each label
-abbrev pub Held : (ℕ → Cond) → ℕ → Cond → Type 0
-Held F l X = Canon X × Sub X (F l)

@@ -1,31 +1,28 @@
 -- The condition file of a tidy set of formed conjuncts is accepted, and read back to the set.
 -- Assumes nothing.
-use mathlib.Core.Path.{_≡_, refl, sym, _∙_, ap, ap₂}
-use mathlib.Core.Bool.{Bool, true, false, _&&_, _||_}
+use mathlib.Core.Path.{_≡_, refl, _∙_, ap, ap₂}
+use mathlib.Core.Bool.{true, _&&_}
 use mathlib.Core.List.{List, [], _∷_}
 use Prim.Native.Nat.{ℕ, _+_, _*_, _%_, _≤_, _<_}
 use native.Mathlib.Omega.{arith}
-use lib.Dec.{ltb, isEq}
+use lib.Dec.{isEq}
 use lib.ListN.{length}
-use borrow.Author.Tests.{lt-ltb, le-leb, eq-eqb, ltb-false}
+use borrow.Author.Tests.{lt-ltb, le-leb, eq-eqb}
 use Rattle.model.specs.Lists.{All, every}
 use Rattle.model.specs.Refusals.{ok}
 use Rattle.model.specs.Program.{typeRight}
-use Rattle.model.specs.Conjunct.{Conj, Cond, long, orderNodes}
+use Rattle.model.specs.Conjunct.{Conj, Cond, orderNodes}
 use Rattle.model.specs.Condition.{conjunctsAt, encode, typeNodes, whole, numbered, isBefore, rising, lengthRight, readCondition}
-use Rattle.model.proofs.Notions.{Canon, Numbered, Fine, Tidy}
-use Rattle.model.proofs.Formed.{FileNode, Formed}
-use Rattle.model.proofs.Order.{nodes-self}
-use Rattle.model.proofs.Sets.{all-imp}
-use Rattle.model.proofs.Tests.{true→T}
+use Rattle.model.proofs.Every.{all-every}
 use Rattle.model.proofs.FileBytes.{size, pairOf, pairs, table-chained, file-conjuncts, file-fields, file-types, file-table, file-read, file-right, length-encode}
+use Rattle.model.proofs.Formed.{FileNode, Formed}
+use Rattle.model.proofs.Limits.{short-each}
+use Rattle.model.proofs.Lists.{all-imp}
+use Rattle.model.proofs.Order.{nodes-self}
+use Rattle.model.proofs.Tests.{true→T}
+use Rattle.model.proofs.TidySets.{Canon, Numbered, Fine, Tidy}
 
 -- ---- the tests of the reader
-
-pub every-of : {A : Type 0} (f : A → Bool) (xs : List A) → All (λ x. f x ≡ true) xs → every f xs ≡ true
-unfolding every
-every-of f [] h = refl
-every-of f (x ∷ xs) h = ap₂ _&&_ (h .0) (every-of f xs (h .1))
 
 numbered-test : (e : Conj) → Numbered e → numbered e ≡ true
 unfolding numbered
@@ -42,16 +39,6 @@ whole-some : (e : Conj) → whole e ≡ true → 0 < length e
 unfolding whole typeNodes
 whole-some [] h = absurd (true→T h)
 whole-some (v ∷ e) h = omega arith
-
--- no conjunct is over 120 nodes
-short-each : (S : Cond) → long S ≡ false → All (λ e. length e ≤ 120) S
-unfolding long
-short-each [] h = tt
-short-each (e ∷ S) h = go (ltb 120 (length e)) refl h (short-each S)
-  where
-    go : (b : Bool) → ltb 120 (length e) ≡ b → (b || long S) ≡ false → (long S ≡ false → All (λ d. length d ≤ 120) S) → All (λ d. length d ≤ 120) (e ∷ S)
-    go true p h f = absurd (true→T (sym h))
-    go false p h f = (ltb-false 120 (length e) p, f h)
 
 short-size : (S : Cond) → All (λ e. length e ≤ 120) S → size S ≤ 120 * length S
 short-size [] h = omega arith
@@ -84,11 +71,11 @@ encode-reads types S few right tidy formed =
       le-leb (length S) 64 (tidy .fine .few),
       le-leb (length types) 32 few,
       table-chained S begin (length (encode types S)) total,
-      every-of typeRight types (all-imp (λ t. lt-ltb t 8) types right),
+      all-every typeRight types (all-imp (λ t. lt-ltb t 8) types right),
       lengths-test S begin (all-imp (λ e h. whole-some e (h .one)) S formed) (short-each S (tidy .fine .short)),
       file-right types S nodes,
-      every-of whole S (all-imp (λ e h. h .one) S formed),
-      every-of numbered S (all-imp numbered-test S (tidy .numbered)),
+      all-every whole S (all-imp (λ e h. h .one) S formed),
+      all-every numbered S (all-imp numbered-test S (tidy .numbered)),
       rising-test S (tidy .canon),
     )
 

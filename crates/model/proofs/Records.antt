@@ -7,25 +7,26 @@ use mathlib.Core.List.{List, [], _∷_, _++_, map, flatMap, append-assoc}
 use Prim.Native.Nat.{ℕ, zero, suc, _+_, _*_, _/_}
 use native.Mathlib.Omega.{arith}
 use lib.Dec.{ltb}
-use lib.IntN.{ℤ, pos}
+use lib.IntN.{pos}
 use lib.ListN.{length, getD, drop}
-use Rattle.arith.specs.Step.{fits, wrap}
+use Rattle.arith.specs.Step.{fits}
 use Rattle.arith.specs.Words.{wordOf, valueAt}
 use Rattle.arith.proofs.WrapLaws.{wrap-fits, fits-word}
 use Rattle.model.specs.Lists.{All}
-use Rattle.model.specs.Refusals.{Out, ok, _>>=_, check, wrongInput}
+use Rattle.model.specs.Refusals.{Out, ok, _>>=_, wrongInput}
 use Rattle.model.specs.Bytes.{bytes2, bytes4, bytes8, Pair, pairAt, pairsAt, chained, entries}
 use Rattle.model.specs.Program.{Tables, Program, fieldType, readProgram}
 use Rattle.model.specs.Input.{Input, width, bitsAt, readingAt, readingsOf, lengthsRight, readInput}
-use Rattle.model.specs.Run.{zeros, Line, Ended, execute, markByte, recordBytes, written, choicesOf, Ran, ranOf, run}
+use Rattle.model.specs.Run.{zeros, Line, execute, markByte, recordBytes, written, choicesOf, Ran, ranOf, run}
 use Rattle.model.specs.Exact.{nothing, Note, notes, exactRun}
 use Rattle.model.specs.Demands.{Record, recordAt, recordsOf, Pairwise, Marks, MarkExact}
-use Rattle.model.proofs.LittleEndian.{two-back, u64-bytes8}
-use Rattle.model.proofs.Tests.{case}
+use Rattle.model.proofs.Checked.{program-checked, program-typed}
 use Rattle.model.proofs.Follow.{Follows, Alike, run-alike, begin}
-use Rattle.model.proofs.Checked.{check-ok, bind-ok, ok-eq, program-checked, program-typed}
+use Rattle.model.proofs.LittleEndian.{two-back, u64-bytes8}
+use Rattle.model.proofs.Results.{check-ok, bind-ok, ok-eq}
+use Rattle.model.proofs.Tests.{case}
+use Rattle.model.proofs.Typed.{run-inside, zeros-inside}
 use Rattle.model.proofs.Typing.{TypedInput}
-use Rattle.model.proofs.Typed.{Inside, run-inside, zeros-inside}
 
 -- ---- the bytes of the log
 

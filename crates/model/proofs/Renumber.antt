@@ -5,32 +5,14 @@ use mathlib.Core.Bool.{true, false, _&&_, cond}
 use mathlib.Core.List.{List, [], _∷_, map}
 use Prim.Native.Nat.{ℕ, suc}
 use lib.Dec.{eqb, eqb·suc-suc}
-use Rattle.model.specs.Conjunct.{Atom, Node, const, atom, var, op, conv, Conj, sameSource, sameAtom, without, atoms, rank, renamed, onAtom, renumber}
+use borrow.Author.Tests.{eqb-true}
+use Rattle.model.specs.Conjunct.{Atom, const, atom, var, op, conv, Conj, sameSource, sameAtom, without, atoms, rank, renamed, onAtom, renumber}
 use Rattle.model.specs.Lists.{All}
+use Rattle.model.proofs.Atoms.{at-any, atoms-all, has, has-atoms, nth, nth-rank, source-eq}
+use Rattle.model.proofs.Lists.{all-of}
 use Rattle.model.proofs.Meaning.{AtAtom}
-use Rattle.model.proofs.Notions.{Numbered}
-use Rattle.model.proofs.Number.{has, has-atoms, nth, nth-rank}
-use Rattle.model.proofs.Sets.{all-of}
-use Rattle.model.proofs.Tests.{case, true→T, eqb-eq, eqb-self, source-eq}
-
--- ---- what holds of every atom of a conjunct holds of its distinct atoms
-
-module _ (P : Atom → Type 0) where
-  without-all : (a : Atom) (ks : List Atom) → All P ks → All P (without a ks)
-  unfolding without
-  without-all a [] h = tt
-  without-all a (b ∷ ks) h =
-      let ih = without-all a ks (h .1) in
-      case (sameAtom a b) (λ z. All P (cond z (without a ks) (b ∷ without a ks))) (λ q. ih) (λ q. (h .0, ih))
-
-  pub atoms-all : (e : Conj) → All (AtAtom P) e → All P (atoms e)
-  unfolding atoms
-  atoms-all [] h = tt
-  atoms-all (const ty i ∷ e) h = atoms-all e (h .1)
-  atoms-all (atom a ∷ e) h = (h .0, without-all a (atoms e) (atoms-all e (h .1)))
-  atoms-all (var x ty ∷ e) h = atoms-all e (h .1)
-  atoms-all (op o ty ∷ e) h = atoms-all e (h .1)
-  atoms-all (conv ty ∷ e) h = atoms-all e (h .1)
+use Rattle.model.proofs.Tests.{case, true→T, eqb-self}
+use Rattle.model.proofs.TidySets.{Numbered}
 
 -- ---- other numbers
 
@@ -94,13 +76,6 @@ module _ (g : Atom → ℕ) (P : Atom → Type 0)
 
 -- ---- two uses
 
-at-any : (v : Node) → AtAtom (λ a. Unit {0}) v
-at-any (const ty i) = tt
-at-any (atom a) = tt
-at-any (var x ty) = tt
-at-any (op o ty) = tt
-at-any (conv ty) = tt
-
 -- every number one higher
 pub renumber-raised : (e : Conj) → renumber (movedAll (λ a. suc (a .n)) e) ≡ renumber e
 renumber-raised e = renumber-moved (λ a. suc (a .n)) (λ a. Unit {0}) (λ a b p q s. eqb·suc-suc (a .n) (b .n)) e (all-of at-any e)
@@ -110,8 +85,8 @@ rank-apart : (ks : List Atom) (a b : Atom) → has a ks ≡ true → has b ks �
 rank-apart ks a b p q s =
     eqb·suc-suc (rank a ks) (rank b ks)
     ∙ case (eqb (a .n) (b .n)) (λ z. eqb (rank a ks) (rank b ks) ≡ z)
-    (λ t. ap (λ m. eqb (rank a ks) m) (sym (ap₂ (λ u m. rank (record { src = u; n = m }) ks) same (eqb-eq (a .n) (b .n) t))) ∙ eqb-self (rank a ks))
-    (λ t. case (eqb (rank a ks) (rank b ks)) (λ z. z ≡ false) (λ r. absurd (true→T (sym t ∙ ap (λ m. eqb (a .n) m) (sym (numbers (eqb-eq (rank a ks) (rank b ks) r))) ∙ eqb-self (a .n)))) (λ r. refl))
+    (λ t. ap (λ m. eqb (rank a ks) m) (sym (ap₂ (λ u m. rank (record { src = u; n = m }) ks) same (eqb-true (a .n) (b .n) t))) ∙ eqb-self (rank a ks))
+    (λ t. case (eqb (rank a ks) (rank b ks)) (λ z. z ≡ false) (λ r. absurd (true→T (sym t ∙ ap (λ m. eqb (a .n) m) (sym (numbers (eqb-true (rank a ks) (rank b ks) r))) ∙ eqb-self (a .n)))) (λ r. refl))
   where
     same : a .src ≡ b .src
     same = source-eq (a .src) (b .src) s

@@ -20,17 +20,11 @@ use Rattle.model.specs.Input.{Input}
 use Rattle.model.specs.Filter.{fromTop, valuesOf}
 use Rattle.model.specs.Run.{zeros, reading}
 use Rattle.model.specs.Demands.{Choice, Takes, chosen, Safe}
-use Rattle.model.proofs.Eval.{every-imp}
+use Rattle.model.proofs.Atoms.{every-imp, has, has-atoms, atoms-all}
+use Rattle.model.proofs.Lists.{drop-map}
 use Rattle.model.proofs.Meaning.{AtAtom, Env, pick, push, eval, topMark, LiveAtom, Meets}
-use Rattle.model.proofs.Number.{has, has-atoms}
-use Rattle.model.proofs.Renumber.{atoms-all}
 use Rattle.model.proofs.Tests.{case, true→T}
 use Rattle.model.proofs.Worked.{Stack, stack, stopped, onTop, goOn, outcome, worksOut, worked, evaluate-worked}
-
-drop-map : {A B : Type 0} (f : A → B) (n : ℕ) (xs : List A) → drop n (map f xs) ≡ map f (drop n xs)
-drop-map f zero xs = refl
-drop-map f (suc n) [] = refl
-drop-map f (suc n) (x ∷ xs) = drop-map f n xs
 
 -- the values are the stack's numbers, unmarked, unless a step overflowed
 abbrev Unmarked : Stack → List Val → Type 0

@@ -1,46 +1,40 @@
 -- The analysis is sound: where the condition holds of the zero state, no run of the program logs a marked value.
 -- Assumes nothing.
 use mathlib.Core.Path.{_≡_, refl, sym, _∙_, ap, subst}
-use mathlib.Core.Logic.{_⊎_, inl, inr}
 use mathlib.Core.Bool.{Bool, true, false, cond}
 use mathlib.Core.List.{List, [], _∷_, _++_, map}
 use Prim.Native.Nat.{ℕ, zero, suc}
-use lib.Dec.{ltb}
-use lib.ListN.{length}
 use Rattle.arith.proofs.WrapLaws.{immediate-zero}
 use Rattle.model.specs.Code.{Instr, assign, store, site, Code, done, step, branch, loop}
-use Rattle.model.specs.Conjunct.{Source, field, cell, Node, const, atom, var, op, conv, Conj, Cond, union, same, long, limits, renumber}
+use Rattle.model.specs.Conjunct.{Source, field, cell, Node, const, atom, var, op, conv, Conj, Cond, union, same, limits, renumber}
 use Rattle.model.specs.Input.{Input}
 use Rattle.model.specs.Lists.{All}
 use Rattle.model.specs.Refusals.{Out, ok, refused, _>>=_}
-use Rattle.model.specs.Run.{State, zeros, Next, go, halt, exec, append, Line, logged, permit, roomLeft, taken, Ended, ended, stepped, after, spent, execute}
+use Rattle.model.specs.Run.{State, zeros, exec, append, Line, logged, execute}
 use Rattle.model.specs.Values.{Val, plain}
 use Rattle.model.specs.Walk.{before, gather, back, rounds, joined, walk, here, sites, zeroed, start, join, derived}
-use Rattle.model.proofs.Eval.{eval-map}
-use Rattle.model.proofs.Instruction.{Leads, permit-leads, before-meets}
+use Rattle.model.proofs.Canonical.{union-all}
+use Rattle.model.proofs.Eval.{eval-map, renumber-meets}
+use Rattle.model.proofs.Gather.{gather-all}
+use Rattle.model.proofs.Instruction.{before-meets}
+use Rattle.model.proofs.Limits.{limits-cases, limits-inv}
+use Rattle.model.proofs.Lists.{all-imp, all-of, all-left, all-right, all-append, all-map, all-unmap}
 use Rattle.model.proofs.Meaning.{AtAtom, Env, push, pick, eval, topMark, LiveAtom, Meets}
-use Rattle.model.proofs.Number.{renumber-meets}
-use Rattle.model.proofs.Sets.{all-imp, all-of, all-left, all-right, all-append, all-map, all-unmap, union-all, gather-all, limits-ok}
-use Rattle.model.proofs.Tests.{decide, same-eq}
+use Rattle.model.proofs.Order.{same-eq}
+use Rattle.model.proofs.Results.{Ends, bind-self, bind-assoc}
+use Rattle.model.proofs.Runs.{Leads, leads-all, run-all}
 
 module _ (I : Input) where
   -- the result is a set, and the state meets each conjunct
   abbrev Safe : State → Out Cond → Type 0
-  Safe σ (ok S) = All (Meets I σ) S
-  Safe σ (refused n) = ⊥
+  Safe σ o = Ends (All (Meets I σ)) (λ n. ⊥) o
 
   -- each site of the program still to be run has a set that the state meets
   abbrev Good : State → Code → Type 0
   Good σ c = All (Safe σ) (sites c)
 
   safe-limits : (σ : State) (S : Cond) → Safe σ (limits S) → All (Meets I σ) S
-  unfolding limits
-  safe-limits σ S h = go′ (long S) (ltb 64 (length S)) h
-    where
-      go′ : (a b : Bool) → Safe σ (cond a (refused 9) (cond b (refused 10) (ok S))) → All (Meets I σ) S
-      go′ true b h = absurd h
-      go′ false true h = absurd h
-      go′ false false h = h
+  safe-limits σ S = limits-cases (λ o. Safe σ o → All (Meets I σ) S) S (λ h. absurd h) (λ h. absurd h) (λ fine h. h)
 
   safe-gather : (σ : State) (f : Conj → List Conj) (S : Cond) → Safe σ (limits (gather f S)) → All (λ e. All (Meets I σ) (f e)) S
   safe-gather σ f S h =
@@ -48,10 +42,6 @@ module _ (I : Input) where
       (gather-all (Meets I σ) f S (safe-limits σ (gather f S) h))
 
   -- ---- one statement
-
-  leads-all : {A : Type 0} (P : State → A → Type 0) (nx : Next) (xs : List A) → All (λ x. Leads (λ σ. P σ x) nx) xs → Leads (λ σ. All (P σ) xs) nx
-  leads-all P (go σ ch) xs h = h
-  leads-all P (halt n) xs h = tt
 
   back-safe : (σ : State) (l : ℕ) (i : Instr) (ch : List ℕ) (o : Out Cond) → Safe σ (o >>= back l i) → Leads (λ σ′. Safe σ′ o) (exec I σ i ch)
   unfolding back
@@ -68,14 +58,14 @@ module _ (I : Input) where
 
   append-sites : (P : Out Cond → Type 0) (c d : Code) → All P (sites c) → All (λ o. P (o >>= walk c)) (sites d) → All P (sites (append c d))
   unfolding sites walk
-  append-sites P done d h k = all-imp (λ o. elim o [ ok C ↦ λ p. p | refused n ↦ λ p. p ]) (sites d) k
+  append-sites P done d h k = all-imp (λ o. subst P (bind-self o)) (sites d) k
   append-sites P (step l i rest) d h k =
       all-append P (here i) (map (_>>= back l i) (sites (append rest d)))
       (all-left P (here i) (map (_>>= back l i) (sites rest)) h)
       (all-map P (_>>= back l i) (sites (append rest d))
       (append-sites (λ o. P (o >>= back l i)) rest d
       (all-unmap P (_>>= back l i) (sites rest) (all-right P (here i) (map (_>>= back l i) (sites rest)) h))
-      (all-imp (λ o. elim o [ ok C ↦ λ p. p | refused n ↦ λ p. p ]) (sites d) k)))
+      (all-imp (λ o. subst P (sym (bind-assoc o (walk rest) (back l i)))) (sites d) k)))
   append-sites P (branch l v y n rest) d h k =
       let f = joined (walk y) (walk n) in
       let m = map (_>>= f) (sites rest) in
@@ -87,7 +77,7 @@ module _ (I : Input) where
       (all-map P (_>>= f) (sites (append rest d))
       (append-sites (λ o. P (o >>= f)) rest d
       (all-unmap P (_>>= f) (sites rest) (all-right P (sites n) m h₁))
-      (all-imp (λ o. elim o [ ok C ↦ λ p. p | refused n ↦ λ p. p ]) (sites d) k))))
+      (all-imp (λ o. subst P (sym (bind-assoc o (walk rest) f))) (sites d) k))))
   append-sites P (loop l v body rest) d h k =
       let f : Cond → Out Cond = λ D. rounds 16 (walk body) D D in
       let h₁ = all-unmap P (_>>= f) (sites body ++ sites rest) h in
@@ -96,7 +86,7 @@ module _ (I : Input) where
       (all-left (λ o. P (o >>= f)) (sites body) (sites rest) h₁)
       (append-sites (λ o. P (o >>= f)) rest d
       (all-right (λ o. P (o >>= f)) (sites body) (sites rest) h₁)
-      (all-imp (λ o. elim o [ ok C ↦ λ p. p | refused n ↦ λ p. p ]) (sites d) k)))
+      (all-imp (λ o. subst P (sym (bind-assoc o (walk rest) f))) (sites d) k)))
 
   joined-both : (σ : State) (p q : Out Cond) → Safe σ (p >>= λ A. q >>= λ B. limits (union A B)) → Safe σ p × Safe σ q
   joined-both σ (ok A) (ok B) h = union-all (Meets I σ) A B (safe-limits σ (union A B) h)
@@ -129,7 +119,7 @@ module _ (I : Input) where
       third B S′ p q false r k ih = ih S′ k
 
       second : (B : Cond) → f S ≡ ok B → (o : Out Cond) → limits (union D B) ≡ o → Safe σ (o >>= next) → Below → All (Meets I σ) D × Safe σ (o >>= next >>= f)
-      second B p (ok S′) q k ih = third B S′ p (limits-ok (union D B) S′ q) (same S S′) refl k ih
+      second B p (ok S′) q k ih = third B S′ p (limits-inv (union D B) S′ q .0) (same S S′) refl k ih
       second B p (refused m) q k ih = absurd k
 
       first : (o : Out Cond) → f S ≡ o → Safe σ (o >>= λ B. limits (union D B) >>= next) → Below → All (Meets I σ) D × Safe σ ((o >>= λ B. limits (union D B) >>= next) >>= f)
@@ -180,24 +170,12 @@ module _ (I : Input) where
   logged-unmarked σ l (store t k i x ty) h = tt
   logged-unmarked σ l (site a ty) h = (h .0 .0 (λ s n. 0) (tt, tt), tt)
 
-  after-unmarked : (P : State → Type 0) (f : State → List ℕ → Ended) → ((σ : State) (ch : List ℕ) → P σ → All Unmarked (f σ ch .log))
-      → (nx : Next) → Leads P nx → All Unmarked (after nx f .log)
-  after-unmarked P f k (go σ ch) h = k σ ch h
-  after-unmarked P f k (halt n) h = tt
-
   run-unmarked : (n room : ℕ) (σ : State) (c : Code) (ch : List ℕ) → Good σ c → All Unmarked (execute I n room σ c ch .log)
-  unfolding execute sites
-  run-unmarked zero room σ c ch h = tt
-  run-unmarked (suc n) room σ done ch h = tt
-  run-unmarked (suc n) room σ (step l i rest) ch h =
-      after-unmarked (λ σ′. Good σ′ rest) (λ σ′ ch′. stepped (logged l i σ) (execute I n (roomLeft room i) σ′ rest ch′))
-      (λ σ′ ch′ k. all-append Unmarked (logged l i σ) (execute I n (roomLeft room i) σ′ rest ch′ .log) now (run-unmarked n (roomLeft room i) σ′ rest ch′ k))
-      (permit room i (exec I σ i ch)) (permit-leads (λ σ′. Good σ′ rest) room i (exec I σ i ch) (step-good σ l i rest ch h))
-    where
-      now : All Unmarked (logged l i σ)
-      now = logged-unmarked σ l i (all-left (Safe σ) (here i) (map (_>>= back l i) (sites rest)) h)
-  run-unmarked (suc n) room σ (branch l v y m rest) ch h = run-unmarked n room σ (cond (taken σ v) (append y rest) (append m rest)) ch (branch-good σ l v y m rest (taken σ v) h)
-  run-unmarked (suc n) room σ (loop l v body rest) ch h = run-unmarked n room σ (cond (taken σ v) (append body (loop l v body rest)) rest) ch (loop-good σ l v body rest (taken σ v) h)
+  unfolding sites
+  run-unmarked =
+      run-all I Unmarked Good
+      (λ σ l i rest ch h. (logged-unmarked σ l i (all-left (Safe σ) (here i) (map (_>>= back l i) (sites rest)) h), step-good σ l i rest ch h))
+      branch-good loop-good
 
   -- ---- the start
 
@@ -253,7 +231,7 @@ module _ (I : Input) where
           → All (Meets I zeros) R × (Safe zeros o × All (Safe zeros) os)
       second S (ok R′) q k f ih =
           let w = ih R′ k in
-          let u = union-all (Meets I zeros) R S (subst (All (Meets I zeros)) (sym (limits-ok (union R S) R′ q)) (w .0)) in
+          let u = union-all (Meets I zeros) R S (subst (All (Meets I zeros)) (sym (limits-inv (union R S) R′ q .0)) (w .0)) in
           (u .0, (f (u .1), w .1))
       second S (refused n) q k f ih = absurd k
 

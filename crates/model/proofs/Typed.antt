@@ -1,38 +1,33 @@
 -- In a run of a typed program on a typed input every logged number is inside its type.
 -- Assumes nothing.
-use mathlib.Core.Path.{_≡_, refl, sym, _∙_, ap, subst}
-use mathlib.Core.Bool.{Bool, true, false, _&&_, _||_, not, cond}
-use mathlib.Core.List.{List, [], _∷_, _++_}
-use Prim.Native.Nat.{ℕ, zero, suc, _-_, _*_, _%_, _≤_, _<_}
+use mathlib.Core.Path.{_≡_, sym, _∙_, subst}
+use mathlib.Core.Bool.{Bool, false, true, _&&_, cond}
+use mathlib.Core.List.{List, [], _∷_}
+use Prim.Native.Nat.{ℕ, _%_, suc-le-suc, zero-le}
 use native.Mathlib.Nat.{mod-lt}
-use native.Mathlib.Omega.{arith as linear}
-use lib.Dec.{leb, eqb, leb·zero}
-use lib.IntN.{ℤ, pos, negsuc}
-use lib.ListN.{length, getD}
+use lib.Dec.{eqb}
+use lib.IntN.{ℤ, pos}
+use lib.ListN.{length}
+use borrow.Author.Tests.{eqb-true}
 use Rattle.arith.specs.Step.{fits, exactOf}
-use Rattle.model.specs.Code.{Right, number, copy, calc, change, read, load, Instr, assign, store, site, Code, done, step, branch, loop}
+use Rattle.arith.proofs.WrapLaws.{wrap-fits, fits-zero}
+use Rattle.model.specs.Code.{number, copy, calc, change, read, load, Instr, assign, store, site, Code, loop}
 use Rattle.model.specs.Input.{Input}
 use Rattle.model.specs.Lists.{All}
 use Rattle.model.specs.Program.{Tables, variableType, fieldType, arrayOf}
-use Rattle.model.specs.Run.{State, zeros, setVar, setCell, reading, Next, go, halt, taking, index, exec, append, Line, logged, permit, roomLeft, taken, Ended, stepped, after, execute}
+use Rattle.model.specs.Run.{State, zeros, setVar, setCell, reading, taking, index, exec, append, Line, logged, execute}
 use Rattle.model.specs.Values.{Val, stepOp, operated, converted}
-use Rattle.model.proofs.Instruction.{Leads, permit-leads}
-use Rattle.model.proofs.Sets.{all-append}
-use Rattle.model.proofs.Tests.{case, eqb-eq, and-left}
-use Rattle.model.proofs.Typing.{TypedInstr, TypedRight, Typed, TypedInput, InTypes}
-use Rattle.arith.proofs.WrapLaws.{wrap-fits, fits-zero}
+use Rattle.model.proofs.Lists.{all-getD}
+use Rattle.model.proofs.Runs.{Leads, leads-imp, run-all}
+use Rattle.model.proofs.Tests.{case, and-left}
 use Rattle.model.proofs.Trees.{each-append}
-
-getD-all : (P : ℤ → Type 0) (rs : List ℤ) (n : ℕ) (d : ℤ) → All P rs → P d → P (getD rs n d)
-getD-all P [] n d h k = k
-getD-all P (r ∷ rs) zero d h k = h .0
-getD-all P (r ∷ rs) (suc n) d h k = getD-all P rs n d (h .1) k
+use Rattle.model.proofs.Typing.{TypedInstr, Typed, TypedInput, InTypes}
 
 module _ (T : Tables) (I : Input) (typed : TypedInput T I) where
   in-var : (σ : State) → InTypes T σ → (a : ℕ) (w : Val) → fits (variableType T a) (w .num) ≡ true → InTypes T (setVar σ a w)
   in-var σ h a w p = record {
     inVars = λ x. case (eqb x a) (λ z. fits (variableType T x) (cond z w (σ .vars x) .num) ≡ true)
-        (λ q. subst (λ y. fits (variableType T y) (w .num) ≡ true) (sym (eqb-eq x a q)) p) (λ q. h .inVars x);
+        (λ q. subst (λ y. fits (variableType T y) (w .num) ≡ true) (sym (eqb-true x a q)) p) (λ q. h .inVars x);
     inCells = h .inCells;
   }
 
@@ -40,7 +35,7 @@ module _ (T : Tables) (I : Input) (typed : TypedInput T I) where
   in-cell σ h t k i w p = record {
     inVars = h .inVars;
     inCells = λ s j n. case (eqb s t && eqb j k && eqb n i) (λ z. fits (arrayOf T s .ty) (cond z w (σ .cells s j n) .num) ≡ true)
-        (λ q. subst (λ y. fits (arrayOf T y .ty) (w .num) ≡ true) (sym (eqb-eq s t (and-left (eqb s t) (eqb j k) (and-left (eqb s t && eqb j k) (eqb n i) q)))) p)
+        (λ q. subst (λ y. fits (arrayOf T y .ty) (w .num) ≡ true) (sym (eqb-true s t (and-left (eqb s t) (eqb j k) (and-left (eqb s t && eqb j k) (eqb n i) q)))) p)
         (λ q. h .inCells s j n);
   }
 
@@ -51,7 +46,7 @@ module _ (T : Tables) (I : Input) (typed : TypedInput T I) where
   read-in σ h a f e (r ∷ rs) k [] = tt
   read-in σ h a f e (r ∷ rs) k (c ∷ ch) =
       in-var σ h a (reading (r ∷ rs) c)
-      (rw e (getD-all (λ z. fits (fieldType T f) z ≡ true) (r ∷ rs) (c % length (r ∷ rs)) (pos 0) k (fits-zero (fieldType T f))))
+      (rw e (all-getD (λ z. fits (fieldType T f) z ≡ true) (r ∷ rs) (c % length (r ∷ rs)) (pos 0) k (mod-lt c (suc-le-suc zero-le))))
 
   exec-in : (σ : State) → InTypes T σ → (i : Instr) → TypedInstr T i → (ch : List ℕ) → Leads (InTypes T) (exec I σ i ch)
   unfolding exec operated converted
@@ -73,24 +68,18 @@ module _ (T : Tables) (I : Input) (typed : TypedInput T I) where
   logged-inside σ h l (store s k i x ty) t = tt
   logged-inside σ h l (site a ty) t = (rw (← t .0) (h .inVars a), tt)
 
-  after-inside : (f : State → List ℕ → Ended) → ((σ : State) (ch : List ℕ) → InTypes T σ → All Inside (f σ ch .log)) → (nx : Next) → Leads (InTypes T) nx → All Inside (after nx f .log)
-  after-inside f k (go σ ch) h = k σ ch h
-  after-inside f k (halt c) h = tt
-
   pub run-inside : (n room : ℕ) (σ : State) (c : Code) (ch : List ℕ) → InTypes T σ → Typed T c → All Inside (execute I n room σ c ch .log)
-  unfolding execute
-  run-inside zero room σ c ch h t = tt
-  run-inside (suc n) room σ done ch h t = tt
-  run-inside (suc n) room σ (step l i rest) ch h t =
-      after-inside (λ σ′ ch′. stepped (logged l i σ) (execute I n (roomLeft room i) σ′ rest ch′))
-      (λ σ′ ch′ k. all-append Inside (logged l i σ) (execute I n (roomLeft room i) σ′ rest ch′ .log) (logged-inside σ h l i (t .0)) (run-inside n (roomLeft room i) σ′ rest ch′ k (t .1)))
-      (permit room i (exec I σ i ch)) (permit-leads (InTypes T) room i (exec I σ i ch) (exec-in σ h i (t .0) ch))
-  run-inside (suc n) room σ (branch l v y m rest) ch h t =
-      run-inside n room σ (cond (taken σ v) (append y rest) (append m rest)) ch h
-      (case (taken σ v) (λ z. Typed T (cond z (append y rest) (append m rest))) (λ q. each-append (TypedInstr T) y rest (t .0) (t .2)) (λ q. each-append (TypedInstr T) m rest (t .1) (t .2)))
-  run-inside (suc n) room σ (loop l v body rest) ch h t =
-      run-inside n room σ (cond (taken σ v) (append body (loop l v body rest)) rest) ch h
-      (case (taken σ v) (λ z. Typed T (cond z (append body (loop l v body rest)) rest)) (λ q. each-append (TypedInstr T) body (loop l v body rest) (t .0) t) (λ q. t .1))
+  run-inside n room σ c ch h t =
+      let each = each-append (TypedInstr T) in
+      run-all I Inside (λ σ c. InTypes T σ × Typed T c)
+      (λ σ l i rest ch h. (logged-inside σ (h .0) l i (h .1 .0), leads-imp (λ σ′ k. (k, h .1 .1)) (exec I σ i ch) (exec-in σ (h .0) i (h .1 .0) ch)))
+      (λ σ l v y m rest b h. (h .0, cond-typed b (append y rest) (append m rest) (each y rest (h .1 .0) (h .1 .2)) (each m rest (h .1 .1) (h .1 .2))))
+      (λ σ l v body rest b h. (h .0, cond-typed b (append body (loop l v body rest)) rest (each body (loop l v body rest) (h .1 .0) (h .1)) (h .1 .1)))
+      n room σ c ch (h, t)
+    where
+      cond-typed : (b : Bool) (c d : Code) → Typed T c → Typed T d → Typed T (cond b c d)
+      cond-typed true c d h k = h
+      cond-typed false c d h k = k
 
   pub zeros-inside : InTypes T zeros
   zeros-inside = record { inVars = λ x. fits-zero (variableType T x); inCells = λ t k i. fits-zero (arrayOf T t .ty) }

@@ -8,10 +8,13 @@ use Prim.Native.Nat.{ℕ, zero, suc, _+_, _*_}
 use lib.IntN.{ℤ, pos, negsuc}
 use lib.ListN.{length}
 use Rattle.arith.specs.Step.{Outcome, value, overflow}
-use Rattle.model.specs.Refusals.{Out, ok, refused, _>>=_, tooManyConjuncts, neverSettles}
+use Rattle.arith.specs.Types
+use Rattle.arith.specs.Words
+use Rattle.model.specs.Refusals.{Out, ok, refused, _>>=_, wrongBlocks, tooManyConjuncts, neverSettles}
 use Rattle.model.specs.Bytes.{bytes4}
-use Rattle.model.specs.Values.{Operation, add, sub, mul, div}
-use Rattle.model.specs.Conjunct.{field, Node, const, atom, op, conv, Conj, Cond, atoms}
+use Rattle.model.specs.Values.{Operation, sub, mul, div}
+use Rattle.model.specs.Code.{plain, site, done, step, branch, loop, if, else, end, while, treeOf}
+use Rattle.model.specs.Conjunct.{field, Node, const, atom, op, conv, Cond, atoms}
 use Rattle.model.specs.Condition.{Condition, encode, readCondition, analysis}
 use Rattle.model.specs.Input.{readInput}
 use Rattle.model.specs.Filter.{evaluate, combinationsOf, valueIn, filter}
@@ -25,29 +28,32 @@ use Rattle.model.specs.Lists
 use Rattle.model.specs.Program
 use Rattle.model.specs.Values
 use Rattle.model.specs.Walk
-use Rattle.arith.specs.Types
-use Rattle.arith.specs.Words
 
 -- ---- the definitions, with all that they are made of open
 
+-- to unfold this is to unfold all that they are made of
+definitions : Type 0
+unfolding Bytes.bytes2 Bytes.bytes4 Bytes.bytes8 Bytes.entries Bytes.chained Code.taking Code.opened Code.treeOf Condition.conjunctBytes Condition.pairBytes Condition.encode Condition.analysis Condition.nodeAt Condition.nodeRight Condition.typeNode Condition.typeNodes Condition.whole Condition.numbered Condition.rising Condition.readCondition Conjunct.sourceBytes Conjunct.bytes Conjunct.orderNumbers Conjunct.orderNodes Conjunct.order Conjunct.insert Conjunct.union Conjunct.same Conjunct.long Conjunct.limits Conjunct.sameSource Conjunct.sameAtom Conjunct.without Conjunct.atoms Conjunct.rank Conjunct.renamed Conjunct.renumber Filter.evaluate Filter.combinations Filter.valueIn Filter.combinationsOf Filter.holds Filter.productOf Filter.fewCombinations Filter.filter Input.width Input.bitsAt Input.readingAt Input.readingsOf Input.lengthsRight Input.readInput Lists.every Program.layoutOf Program.tablesAt Program.sectionsRight Program.countsRight Program.typesRight Program.formRight Program.typesAgree Program.immediateRight Program.stmtOf Program.readProgram Values.operated Values.converted Walk.nodes Walk.replace Walk.onArray Walk.loads Walk.swap Walk.swapAll Walk.subsets Walk.before Walk.gather Walk.back Walk.rounds Walk.walk Walk.here Walk.sites Walk.zeroed Walk.start Walk.join Walk.derived Types.bits Types.signed Types.depth Types.height Words.wideOf Words.wordOf Words.valueAt Words.immediate mathlib.Core.List.flatMap
+definitions = Unit {0}
+
 -- the analysis
 derive : List ℕ → Out (List ℕ)
-unfolding Bytes.bytes2 Bytes.bytes4 Bytes.bytes8 Bytes.entries Bytes.chained Code.taking Code.opened Code.treeOf Condition.conjunctBytes Condition.pairBytes Condition.encode Condition.analysis Condition.nodeAt Condition.nodeRight Condition.typeNode Condition.typeNodes Condition.whole Condition.numbered Condition.rising Condition.readCondition Conjunct.sourceBytes Conjunct.bytes Conjunct.orderNumbers Conjunct.orderNodes Conjunct.order Conjunct.insert Conjunct.union Conjunct.same Conjunct.long Conjunct.limits Conjunct.sameSource Conjunct.sameAtom Conjunct.without Conjunct.atoms Conjunct.rank Conjunct.renamed Conjunct.renumber Filter.evaluate Filter.combinations Filter.valueIn Filter.combinationsOf Filter.holds Filter.productOf Filter.fewCombinations Filter.filter Input.width Input.bitsAt Input.readingAt Input.readingsOf Input.lengthsRight Input.readInput Lists.every Program.layoutOf Program.tablesAt Program.sectionsRight Program.countsRight Program.typesRight Program.formRight Program.typesAgree Program.immediateRight Program.stmtOf Program.readProgram Values.operated Values.converted Walk.nodes Walk.replace Walk.onArray Walk.loads Walk.swap Walk.swapAll Walk.subsets Walk.before Walk.gather Walk.back Walk.rounds Walk.walk Walk.here Walk.sites Walk.zeroed Walk.start Walk.join Walk.derived Types.bits Types.signed Types.depth Types.height Words.wideOf Words.wordOf Words.valueAt Words.immediate mathlib.Core.List.flatMap
+unfolding definitions
 derive program = analysis program
 
 -- the condition file of a set
 file : List ℕ → Cond → List ℕ
-unfolding Bytes.bytes2 Bytes.bytes4 Bytes.bytes8 Bytes.entries Bytes.chained Code.taking Code.opened Code.treeOf Condition.conjunctBytes Condition.pairBytes Condition.encode Condition.analysis Condition.nodeAt Condition.nodeRight Condition.typeNode Condition.typeNodes Condition.whole Condition.numbered Condition.rising Condition.readCondition Conjunct.sourceBytes Conjunct.bytes Conjunct.orderNumbers Conjunct.orderNodes Conjunct.order Conjunct.insert Conjunct.union Conjunct.same Conjunct.long Conjunct.limits Conjunct.sameSource Conjunct.sameAtom Conjunct.without Conjunct.atoms Conjunct.rank Conjunct.renamed Conjunct.renumber Filter.evaluate Filter.combinations Filter.valueIn Filter.combinationsOf Filter.holds Filter.productOf Filter.fewCombinations Filter.filter Input.width Input.bitsAt Input.readingAt Input.readingsOf Input.lengthsRight Input.readInput Lists.every Program.layoutOf Program.tablesAt Program.sectionsRight Program.countsRight Program.typesRight Program.formRight Program.typesAgree Program.immediateRight Program.stmtOf Program.readProgram Values.operated Values.converted Walk.nodes Walk.replace Walk.onArray Walk.loads Walk.swap Walk.swapAll Walk.subsets Walk.before Walk.gather Walk.back Walk.rounds Walk.walk Walk.here Walk.sites Walk.zeroed Walk.start Walk.join Walk.derived Types.bits Types.signed Types.depth Types.height Words.wideOf Words.wordOf Words.valueAt Words.immediate mathlib.Core.List.flatMap
+unfolding definitions
 file types S = encode types S
 
 -- the filter
 check : List ℕ → List ℕ → Out Bool
-unfolding Bytes.bytes2 Bytes.bytes4 Bytes.bytes8 Bytes.entries Bytes.chained Code.taking Code.opened Code.treeOf Condition.conjunctBytes Condition.pairBytes Condition.encode Condition.analysis Condition.nodeAt Condition.nodeRight Condition.typeNode Condition.typeNodes Condition.whole Condition.numbered Condition.rising Condition.readCondition Conjunct.sourceBytes Conjunct.bytes Conjunct.orderNumbers Conjunct.orderNodes Conjunct.order Conjunct.insert Conjunct.union Conjunct.same Conjunct.long Conjunct.limits Conjunct.sameSource Conjunct.sameAtom Conjunct.without Conjunct.atoms Conjunct.rank Conjunct.renamed Conjunct.renumber Filter.evaluate Filter.combinations Filter.valueIn Filter.combinationsOf Filter.holds Filter.productOf Filter.fewCombinations Filter.filter Input.width Input.bitsAt Input.readingAt Input.readingsOf Input.lengthsRight Input.readInput Lists.every Program.layoutOf Program.tablesAt Program.sectionsRight Program.countsRight Program.typesRight Program.formRight Program.typesAgree Program.immediateRight Program.stmtOf Program.readProgram Values.operated Values.converted Walk.nodes Walk.replace Walk.onArray Walk.loads Walk.swap Walk.swapAll Walk.subsets Walk.before Walk.gather Walk.back Walk.rounds Walk.walk Walk.here Walk.sites Walk.zeroed Walk.start Walk.join Walk.derived Types.bits Types.signed Types.depth Types.height Words.wideOf Words.wordOf Words.valueAt Words.immediate mathlib.Core.List.flatMap
+unfolding definitions
 check condition input = filter condition input
 
 -- the evaluation of each conjunct at each combination
 values : List ℕ → List ℕ → Out (List (List Outcome))
-unfolding Bytes.bytes2 Bytes.bytes4 Bytes.bytes8 Bytes.entries Bytes.chained Code.taking Code.opened Code.treeOf Condition.conjunctBytes Condition.pairBytes Condition.encode Condition.analysis Condition.nodeAt Condition.nodeRight Condition.typeNode Condition.typeNodes Condition.whole Condition.numbered Condition.rising Condition.readCondition Conjunct.sourceBytes Conjunct.bytes Conjunct.orderNumbers Conjunct.orderNodes Conjunct.order Conjunct.insert Conjunct.union Conjunct.same Conjunct.long Conjunct.limits Conjunct.sameSource Conjunct.sameAtom Conjunct.without Conjunct.atoms Conjunct.rank Conjunct.renamed Conjunct.renumber Filter.evaluate Filter.combinations Filter.valueIn Filter.combinationsOf Filter.holds Filter.productOf Filter.fewCombinations Filter.filter Input.width Input.bitsAt Input.readingAt Input.readingsOf Input.lengthsRight Input.readInput Lists.every Program.layoutOf Program.tablesAt Program.sectionsRight Program.countsRight Program.typesRight Program.formRight Program.typesAgree Program.immediateRight Program.stmtOf Program.readProgram Values.operated Values.converted Walk.nodes Walk.replace Walk.onArray Walk.loads Walk.swap Walk.swapAll Walk.subsets Walk.before Walk.gather Walk.back Walk.rounds Walk.walk Walk.here Walk.sites Walk.zeroed Walk.start Walk.join Walk.derived Types.bits Types.signed Types.depth Types.height Words.wideOf Words.wordOf Words.valueAt Words.immediate mathlib.Core.List.flatMap
+unfolding definitions
 values condition input =
     readCondition condition >>= λ C. readInput (C .types) input >>= λ I.
     ok (map (λ e. map (λ zs. evaluate (valueIn (atoms e) zs) e []) (combinationsOf I e)) (C .conjuncts))
@@ -122,7 +128,7 @@ held = filtered (ok ((overflow ∷ []) ∷ [])) (ok false)
 abbrev example : Answer → Answer → Example
 example f e = record { found = f; expected = e }
 
--- type codes: u16 is 1, u32 is 2, i32 is 6; readings as the 4 bytes of a sheet
+-- type codes: u16 is 1, u32 is 2, i32 is 6; readings as the 4 bytes of an input
 examples : List Example
 unfolding operation conversion stored
 examples =
@@ -192,7 +198,7 @@ each-step : check (file (6 ∷ 6 ∷ []) ((reading 0 6 ∷ reading 1 6 ∷ op mu
 unfolding check file two
 each-step = refl
 
--- no fields, no statements: the empty condition, and the empty sheet passes
+-- no fields, no statements: the empty condition, and the empty input passes
 nothing : derive (program [] [] [] []) ≡ ok (file [] [])
 unfolding derive program file
 nothing = refl
@@ -200,3 +206,19 @@ nothing = refl
 nothing-passes : check (file [] []) [] ≡ ok true
 unfolding check file
 nothing-passes = refl
+
+-- ---- block trees
+
+-- if v0: site v1; else: while v2: site v3; end; end; site v4
+nested : treeOf (if 0 ∷ plain (site 1 0) ∷ else ∷ while 2 ∷ plain (site 3 0) ∷ end ∷ end ∷ plain (site 4 0) ∷ [])
+    ≡ ok (branch 0 0 (step 1 (site 1 0) done) (loop 3 2 (step 4 (site 3 0) done) done) (step 7 (site 4 0) done))
+unfolding definitions
+nested = refl
+
+five-deep : treeOf (while 0 ∷ while 0 ∷ while 0 ∷ while 0 ∷ while 0 ∷ end ∷ end ∷ end ∷ end ∷ end ∷ []) ≡ refused wrongBlocks
+unfolding definitions
+five-deep = refl
+
+no-else : treeOf (if 0 ∷ end ∷ []) ≡ refused wrongBlocks
+unfolding definitions
+no-else = refl

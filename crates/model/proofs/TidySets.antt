@@ -1,4 +1,4 @@
--- Members of sets of conjuncts, canonical sets, and sets within the limits.
+-- What the sets of an analysis are: canonical, numbered, and within the limits; and what is a member of a set.
 -- Assumes nothing.
 use mathlib.Core.Path.{_≡_}
 use mathlib.Core.Logic.{_⊎_}
