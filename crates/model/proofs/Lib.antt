@@ -24,6 +24,9 @@ pub mod Touch
 pub mod Skip
 pub mod Paths
 pub mod Goes
+-- positions
+pub mod Laid
+pub mod Positions
 -- the run
 pub mod Runs
 pub mod Instruction
@@ -38,6 +41,7 @@ pub mod Records
 pub mod Formed
 pub mod Derives
 pub mod Places
+pub mod Parts
 pub mod NodeBytes
 pub mod FileBytes
 pub mod ReadBack

@@ -3,7 +3,7 @@
 use mathlib.Core.Path.{_≡_, refl, subst}
 use mathlib.Core.Bool.{Bool, true, false, true≢false}
 use Prim.Native.Nat.{ℕ}
-use Rattle.model.specs.Refusals.{Out, ok, refused, _>>=_, check}
+use Rattle.model.specs.Refusals.{Out, ok, refused, _>>=_, check, mapped}
 
 -- ---- a result
 
@@ -72,3 +72,12 @@ module _ {A : Type 0} (P : ℕ → Type 0) where
 
   pub refuses-by : (o : Out A) (n : ℕ) → o ≡ refused n → Refuses P o → P n
   refuses-by o n p h = subst (Refuses P) p h
+
+-- a part of a result that a test guards
+pub mapped-check : {A B : Type 0} (f : A → B) (b : Bool) (n : ℕ) (a : A) → mapped f (check b n (ok a)) ≡ check b n (ok (f a))
+mapped-check f true n a = refl
+mapped-check f false n a = refl
+
+pub mapped-ok : {A B : Type 0} (f : A → B) (o : Out A) (b : B) → mapped f o ≡ ok b → (a : A) × (o ≡ ok a) × (f a ≡ b)
+mapped-ok f (ok a) b e = (a, refl, ok-eq (f a) b e)
+mapped-ok f (refused n) b e = absurd (refused-ok n b e)

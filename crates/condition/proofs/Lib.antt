@@ -1,0 +1,7 @@
+pub mod Numbering
+pub mod Nodes
+pub mod Stacks
+pub mod Orders
+pub mod Counting
+pub mod Passes
+pub mod Table

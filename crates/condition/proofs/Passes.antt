@@ -1,0 +1,95 @@
+-- The passes over types, pairs and nodes, turn by turn: what is left from a place on.
+-- Assumes nothing.
+use mathlib.Core.Path.{_≡_, refl, sym, _∙_, ap}
+use mathlib.Core.Bool.{Bool, true, false}
+use mathlib.Core.List.{List, _∷_}
+use Prim.Native.Nat.{ℕ, _+_, _*_, _-_, _/_, _≤_, _<_}
+use native.Mathlib.Numerals.{add-one}
+use native.Mathlib.Nat.{add-zero}
+use native.Mathlib.Omega.{arith}
+use lib.Dec.{eqb}
+use lib.ListN.{length, getD, drop}
+use lib.Seq.{drop-cons, drop-length}
+use borrow.Author.Tests.{eq-eqb, ne-eqb, lt-ltb, le-ltb}
+use Rattle.model.specs.Lists.{every}
+use Rattle.model.specs.Refusals.{ok, refused, check}
+use Rattle.model.specs.Bytes.{Pair, pairAt, entries, pairsAt, chained}
+use Rattle.model.specs.Program.{typeRight}
+use Rattle.model.specs.Condition.{nodeAt, nodeRight}
+use Rattle.model.proofs.Results.{check-ok}
+use Rattle.model.proofs.Parts.{entries-step}
+use Rattle.condition.specs.Answers.{nodeOf, nodeOut, partRight}
+use Rattle.condition.specs.declared.Node.{Node}
+use Rattle.condition.specs.declared.NodeRead.{NodeRead}
+use Rattle.condition.specs.declared.NodeRead.the-variants.{Node as Entry, Refused as Wrong}
+
+-- ---- types
+
+module _ (types : List ℕ) (i : ℕ) (more : i < length types) where
+  pub types-on : getD types i 0 < 8 → every typeRight (drop i types) ≡ every typeRight (drop (i + 1) types)
+  unfolding every
+  types-on h = rw (drop-cons types i 0 more, lt-ltb (getD types i 0) 8 h, add-one i)
+
+  pub types-off : 8 ≤ getD types i 0 → every typeRight (drop i types) ≡ false
+  unfolding every
+  types-off h = rw (drop-cons types i 0 more, le-ltb (getD types i 0) 8 h)
+
+pub types-end : (types : List ℕ) (i : ℕ) → length types ≤ i → i ≤ length types → every typeRight (drop i types) ≡ true
+unfolding every
+types-end types i h k = let e : i ≡ length types = omega arith in rw (e, drop-length types)
+
+-- ---- pairs
+
+-- those from the one with number i on
+abbrev pub pairsFrom : List ℕ → ℕ → ℕ → ℕ → List Pair
+pairsFrom s at n i = pairsAt s (at + 8 * i) (n - i)
+
+pub pairs-all : (s : List ℕ) (at n : ℕ) → pairsFrom s at n 0 ≡ pairsAt s at n
+pairs-all s at n =
+    let e : n - 0 ≡ n = omega arith in
+    rw (e, add-zero at)
+
+pub pairs-step : (s : List ℕ) (at n i : ℕ) → i < n → pairsFrom s at n i ≡ pairAt s (at + 8 * i) ∷ pairsFrom s at n (i + 1)
+pairs-step s at n i h = entries-step pairAt 8 s (at + 8 * i) (at + 8 * (i + 1)) (n - i) (n - (i + 1)) (omega arith) (omega arith)
+
+module _ (s : List ℕ) (at n i start o l : ℕ) (more : i < n) (eo : o ≡ pairAt s (at + 8 * i) .offset) (el : l ≡ pairAt s (at + 8 * i) .len) (end : ℕ) where
+  pub chained-off : (o ≡ start → ⊥) → chained start (pairsFrom s at n i) end ≡ false
+  unfolding chained
+  chained-off h = rw (pairs-step s at n i more, ← eo, ne-eqb o start h)
+
+  pub chained-on : o ≡ start → chained start (pairsFrom s at n i) end ≡ chained (o + l) (pairsFrom s at n (i + 1)) end
+  unfolding chained
+  chained-on h = rw (pairs-step s at n i more, ← eo, ← el, eq-eqb o start h, h)
+
+pub chained-end : (s : List ℕ) (at n i start end : ℕ) → n ≤ i → chained start (pairsFrom s at n i) end ≡ eqb start end
+unfolding chained entries
+chained-end s at n i start end h = let e : n - i ≡ 0 = omega arith in rw e
+
+-- ---- nodes
+
+-- the forms of those from the one with number k on
+abbrev pub formsFrom : List ℕ → List ℕ → ℕ → ℕ → List Bool
+formsFrom types s n k = entries (nodeRight types) 8 s (8 * k) (n - k)
+
+check-wrong : {A : Type 0} (b : Bool) (m n : ℕ) (a : A) → refused n ≡ check b m (ok a) → b ≡ false
+check-wrong true m n a e = let z : _≡_ {A = ℕ} 0 1 = cc in absurd (omega arith)
+check-wrong false m n a e = refl
+
+pub forms-all : (types s : List ℕ) (n : ℕ) → n ≡ length s / 8 → partRight types s ≡ every (λ b. b) (formsFrom types s n 0)
+forms-all types s n e = let f : n - 0 ≡ n = omega arith in rw (f, e)
+
+module _ (types s : List ℕ) (n k : ℕ) (more : k < n) (r : NodeRead) (answer : nodeOut r ≡ check (nodeRight types s (8 * k)) 12 (ok (nodeAt s (8 * k)))) where
+  forms-step : formsFrom types s n k ≡ nodeRight types s (8 * k) ∷ formsFrom types s n (k + 1)
+  forms-step = entries-step (nodeRight types) 8 s (8 * k) (8 * (k + 1)) (n - k) (n - (k + 1)) (omega arith) (omega arith)
+
+  pub forms-on : (v : Node) → r ≡ Entry v → every (λ b. b) (formsFrom types s n k) ≡ every (λ b. b) (formsFrom types s n (k + 1))
+  unfolding every
+  forms-on v e = rw (forms-step, check-ok (nodeRight types s (8 * k)) 12 (ok (nodeAt s (8 * k))) (nodeOf v) (sym answer ∙ ap nodeOut e) .0)
+
+  pub forms-off : (m : ℕ) → r ≡ Wrong m → every (λ b. b) (formsFrom types s n k) ≡ false
+  unfolding every
+  forms-off m e = rw (forms-step, check-wrong (nodeRight types s (8 * k)) 12 m (nodeAt s (8 * k)) (sym (ap nodeOut e) ∙ answer))
+
+pub forms-end : (types s : List ℕ) (n k : ℕ) → n ≤ k → every (λ b. b) (formsFrom types s n k) ≡ true
+unfolding every entries
+forms-end types s n k h = let e : n - k ≡ 0 = omega arith in rw e

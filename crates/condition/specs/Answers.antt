@@ -1,0 +1,102 @@
+-- What the answers of the condition's reader stand for, and a node by its four numbers.
+-- Assumes nothing.
+use mathlib.Core.Path.{_≡_}
+use mathlib.Core.Bool.{Bool, false, _&&_}
+use mathlib.Core.List.{List, [], _∷_, map}
+use Prim.Native.Nat.{ℕ, _+_, _/_}
+use lib.Dec.{ltb, eqb}
+use lib.ListN.{length, getD}
+use Rattle.arith.specs.Step.{fits}
+use Rattle.arith.specs.Words.{immediate}
+use Rattle.model.specs.Lists.{every}
+use Rattle.model.specs.Refusals.{Out, ok, refused, mapped}
+use Rattle.model.specs.Bytes.{byteAt, u16At, u32At, part, Pair, pairAt, entries, pairsAt}
+use Rattle.model.specs.Values.{add, sub, mul, div}
+use Rattle.model.specs.Program.{typeRight}
+use Rattle.model.specs.Conjunct.{field, Node as ModelNode, const, atom, op, conv, Conj, Cond}
+use Rattle.model.specs.Condition.{Condition, nodeAt, nodeRight, nodesRight, conjunctAt, whole, numbered, lengthRight, readCondition}
+use Rattle.condition.specs.declared.Node.{Node}
+use Rattle.condition.specs.declared.NodeRead.{NodeRead}
+use Rattle.condition.specs.declared.NodeRead.the-variants.{Node as Entry, Refused as Wrong}
+use Rattle.condition.specs.declared.Counts.{Counts}
+use Rattle.condition.specs.declared.ConditionRead.{ConditionRead}
+use Rattle.condition.specs.declared.ConditionRead.the-variants.{Counts as Form, Refused}
+
+-- ---- nodes
+
+-- the node with a kind, a type, a field number and an immediate or n
+unfoldable pub nodeBy : ℕ → ℕ → ℕ → ℕ → ModelNode
+nodeBy k ty f i =
+    getD (const ty i ∷ atom (record { src = field f ty; n = i }) ∷ op add ty ∷ op sub ty ∷ op mul ty ∷ op div ty ∷ []) k (conv ty)
+
+abbrev pub constantRight : ℕ → ℕ → ℕ → Bool
+constantRight ty f i = typeRight ty && eqb f 0 && fits ty (immediate ty i)
+
+abbrev pub readingRight : List ℕ → ℕ → ℕ → Bool
+readingRight types ty f = ltb f (length types) && eqb ty (getD types f 0)
+
+abbrev pub operationRight : ℕ → ℕ → ℕ → Bool
+operationRight ty f i = typeRight ty && eqb f 0 && eqb i 0
+
+-- its form
+unfoldable pub rightBy : List ℕ → ℕ → ℕ → ℕ → ℕ → Bool
+rightBy types k ty f i =
+    let o = operationRight ty f i in
+    getD (constantRight ty f i ∷ readingRight types ty f ∷ o ∷ o ∷ o ∷ o ∷ o ∷ []) k false
+
+-- the node that a value of the code stands for
+abbrev pub nodeOf : Node → ModelNode
+nodeOf v = nodeBy (v .kind) (v .ty) (v .field) (v .imm)
+
+-- it has the numbers that stand at a place
+pub record NodeIs (v : Node) (s : List ℕ) (a : ℕ) : Type 0 where
+  pub kind : v .kind ≡ byteAt s a
+  pub type : v .ty ≡ byteAt s (a + 1)
+  pub source : v .field ≡ u16At s (a + 2)
+  pub number : v .imm ≡ u32At s (a + 4)
+
+abbrev pub nodeOut : NodeRead → Out ModelNode
+nodeOut (Entry v) = ok (nodeOf v)
+nodeOut (Wrong n) = refused n
+
+-- ---- parts
+
+-- the nodes of a part
+abbrev pub partNodes : List ℕ → Conj
+partNodes s = entries nodeAt 8 s 0 (length s / 8)
+
+-- each of them has its form
+abbrev pub partRight : List ℕ → List ℕ → Bool
+partRight types s = every (λ b. b) (entries (nodeRight types) 8 s 0 (length s / 8))
+
+-- the bytes of the pair at a place
+abbrev pub pairPart : List ℕ → ℕ → List ℕ
+pairPart s a = part s (pairAt s a .offset) (pairAt s a .len)
+
+-- the tests of one pair
+unfoldable pub pairRight : List ℕ → List ℕ → Pair → Bool
+pairRight types s p = lengthRight p && nodesRight types s p && whole (conjunctAt s p) && numbered (conjunctAt s p)
+
+-- ---- the file
+
+-- how many conjuncts and fields
+abbrev pub sizes : Condition → ℕ × ℕ
+sizes C = (length (C .conjuncts), length (C .types))
+
+abbrev pub sizesOf : Counts → ℕ × ℕ
+sizesOf k = (k .conjuncts, k .fields)
+
+abbrev pub outOf : ConditionRead → Out (ℕ × ℕ)
+outOf (Form k) = ok (sizesOf k)
+outOf (Refused n) = refused n
+
+-- the condition is in its form, with these counts
+abbrev pub IsRead : List ℕ → Counts → Type 0
+IsRead s k = mapped sizes (readCondition s) ≡ ok (sizesOf k)
+
+-- the types and the conjuncts that a file holds
+abbrev pub typesOf : List ℕ → List ℕ
+typesOf s = part s 8 (u32At s 4)
+
+abbrev pub conjunctsOf : List ℕ → Cond
+conjunctsOf s = map (conjunctAt s) (pairsAt s (8 + u32At s 4) (u32At s 0))

@@ -1,0 +1,408 @@
+// The reader of the condition file: every clause of its form is tested, each by a pass of its own or
+// by one over the conjuncts; and what a filter needs of a condition that is read. Assumes nothing.
+ghost use mathlib.Core.Path.{_≡_};
+ghost use mathlib.Core.Bool.{true, _&&_};
+ghost use mathlib.Core.List.{[], map};
+ghost use Prim.Native.Nat.{_+_, _*_, _/_, _%_, _≤_, _<_, compare};
+ghost use lib.ListN.{length, getD};
+ghost use Rattle.model.specs.Lists.{every};
+ghost use Rattle.model.specs.Refusals.{ok, check, mapped};
+ghost use Rattle.model.specs.Bytes.{part, pairAt, pairsAt, chained};
+ghost use Rattle.model.specs.Program.{typeRight};
+ghost use Rattle.model.specs.Conjunct.{_then_, orderNumbers};
+ghost use Rattle.model.specs.Condition.{conjunctsAt, nodeAt, nodeRight, conjunctAt, whole, numbered, isBefore, rising, readCondition};
+ghost use Rattle.condition.specs.Answers.{constantRight, readingRight, operationRight, rightBy, NodeIs, nodeOut, partNodes, partRight, pairPart, pairRight, sizes, outOf, IsRead, typesOf, conjunctsOf};
+
+// A node by its numbers.
+pub struct Node {
+    pub kind: u8,
+    pub ty: u8,
+    pub field: usize,
+    pub imm: u64,
+}
+
+// A node in its form, or the number of the refusal.
+pub enum NodeRead {
+    Node(Node),
+    Refused(u8),
+}
+
+// How many conjuncts and fields a condition has.
+pub struct Counts {
+    pub conjuncts: usize,
+    pub fields: usize,
+}
+
+// The condition is in its form, or the number of the refusal.
+pub enum ConditionRead {
+    Counts(Counts),
+    Refused(u8),
+}
+
+// The node with a number in a part.
+pub fn node_at(part: &[u8], k: usize) -> Node
+    requires { ⌜ 8 * k + 8 ≤ length (now part) ⌝ }
+    ensures { λ v. ⌜ NodeIs v (now (part .entry)) (8 * k) ⌝ }
+{
+    let at = 8 * k;
+    let field = bytes_le::u16_at(part, at + 2) as usize;
+    let imm = bytes_le::u32_at(part, at + 4);
+    Node {
+        kind: part[at],
+        ty: part[at + 1],
+        field,
+        imm,
+    }
+}
+
+// A constant inside its type; the field number is not used.
+fn constant_right(ty: u8, field: usize, imm: u64) -> bool
+    ensures { λ r. ⌜ r ≡ constantRight ty field imm ⌝ }
+{
+    if 8 <= ty {
+        return false;
+    }
+    if field != 0 {
+        return false;
+    }
+    arith::is_of_type(ty, arith::immediate(ty, imm))
+}
+
+// A reading of a listed field in its type.
+fn reading_right(types: &[u8], ty: u8, field: usize) -> bool
+    ensures { λ r. ⌜ r ≡ readingRight (now (types .entry)) ty field ⌝ }
+{
+    if types.len() <= field {
+        return false;
+    }
+    ty == types[field]
+}
+
+// An operation or a conversion: only the type is used.
+fn operation_right(ty: u8, field: usize, imm: u64) -> bool
+    ensures { λ r. ⌜ r ≡ operationRight ty field imm ⌝ }
+{
+    if 8 <= ty {
+        return false;
+    }
+    if field != 0 {
+        return false;
+    }
+    imm == 0
+}
+
+// A node's form, by its kind.
+fn node_right(types: &[u8], v: Node) -> bool
+    ensures { λ r. ⌜ r ≡ rightBy (now (types .entry)) (v .kind) (v .ty) (v .field) (v .imm) ⌝ }
+{
+    let kind = v.kind;
+    if kind == 0 {
+        return constant_right(v.ty, v.field, v.imm);
+    }
+    if kind == 1 {
+        return reading_right(types, v.ty, v.field);
+    }
+    if kind < 7 {
+        return operation_right(v.ty, v.field, v.imm);
+    }
+    false
+}
+
+// The node with a number in a part, if it has its form.
+pub fn read_node(types: &[u8], part: &[u8], k: usize) -> NodeRead
+    requires { ⌜ 8 * k + 8 ≤ length (now part) ⌝ }
+    ensures { λ r. ⌜ nodeOut r ≡ check (nodeRight (now (types .entry)) (now (part .entry)) (8 * k)) 12 (ok (nodeAt (now (part .entry)) (8 * k))) ⌝ }
+{
+    let v = node_at(part, k);
+    if node_right(types, v) {
+        return NodeRead::Node(v);
+    }
+    NodeRead::Refused(12)
+}
+
+// Every node of a part has its form.
+fn nodes_right(types: &[u8], part: &[u8]) -> bool
+    ensures { λ r. ⌜ r ≡ partRight (now (types .entry)) (now (part .entry)) ⌝ }
+{
+    let n = part.len() / 8;
+    let mut k: usize = 0;
+    while k < n {
+        let r = read_node(types, part, k);
+        let NodeRead::Node(_) = r else {
+            return false;
+        };
+        k += 1;
+    }
+    true
+}
+
+// A part is one whole expression in which types agree. The types on the stack stand from the
+// bottom up.
+fn is_whole(part: &[u8]) -> bool
+    requires { ⌜ length (now part) ≤ 960 ⌝ }
+    ensures { λ r. ⌜ r ≡ whole (partNodes (now (part .entry))) ⌝ }
+{
+    let n = part.len() / 8;
+    let mut stack: [u8; 128] = [0; 128];
+    let mut height: usize = 0;
+    let mut k: usize = 0;
+    while k < n {
+        let v = node_at(part, k);
+        let kind = v.kind;
+        let ty = v.ty;
+        k += 1;
+        if kind < 2 {
+            stack[height] = ty;
+            height += 1;
+            continue;
+        }
+        if kind < 6 {
+            if height < 2 {
+                return false;
+            }
+            if stack[height - 1] != ty {
+                return false;
+            }
+            if stack[height - 2] != ty {
+                return false;
+            }
+            height -= 1;
+            continue;
+        }
+        if height == 0 {
+            return false;
+        }
+        stack[height - 1] = ty;
+    }
+    height == 1
+}
+
+// The n of each field count from 1 by first appearance: each is one met before or the next one.
+fn is_numbered(types: &[u8], part: &[u8]) -> bool
+    requires { ⌜ (length (now types) ≤ 32) × (partRight (now types) (now part) ≡ true) ⌝ }
+    ensures { λ r. ⌜ r ≡ numbered (partNodes (now (part .entry))) ⌝ }
+{
+    let n = part.len() / 8;
+    let mut seen: [u64; 32] = [0; 32];
+    let mut k: usize = 0;
+    while k < n {
+        let v = node_at(part, k);
+        k += 1;
+        let kind = v.kind;
+        if kind != 1 {
+            continue;
+        }
+        let f = v.field;
+        let i = v.imm;
+        let last = seen[f];
+        if i == 0 {
+            return false;
+        }
+        if i <= last {
+            continue;
+        }
+        if i - 1 != last {
+            return false;
+        }
+        seen[f] = i;
+    }
+    true
+}
+
+// By length, then by bytes, smaller first byte first.
+fn comes_before(a: &[u8], b: &[u8]) -> bool
+    ensures { λ r. ⌜ r ≡ isBefore (compare (length (now (a .entry))) (length (now (b .entry))) then orderNumbers (now (a .entry)) (now (b .entry))) ⌝ }
+{
+    if a.len() < b.len() {
+        return true;
+    }
+    if b.len() < a.len() {
+        return false;
+    }
+    let mut i: usize = 0;
+    while i < a.len() {
+        let x = a[i];
+        let y = b[i];
+        if x < y {
+            return true;
+        }
+        if y < x {
+            return false;
+        }
+        i += 1;
+    }
+    false
+}
+
+// Each type code is below 8.
+fn types_right(types: &[u8]) -> bool
+    ensures { λ r. ⌜ r ≡ every typeRight (now (types .entry)) ⌝ }
+{
+    let mut i: usize = 0;
+    while i < types.len() {
+        let ty = types[i];
+        if 8 <= ty {
+            return false;
+        }
+        i += 1;
+    }
+    true
+}
+
+// The parts of the pairs from a place on stand one after the other, from start to the file's end.
+fn is_chained(condition: &[u8], at: usize, count: usize, start: usize) -> bool
+    requires { ⌜ at + 8 * count ≤ length (now condition) ⌝ }
+    ensures { λ r. ⌜ r ≡ chained start (pairsAt (now (condition .entry)) at count) (length (now (condition .entry))) ⌝ }
+{
+    let mut next = start;
+    let mut i: usize = 0;
+    while i < count {
+        let here = at + 8 * i;
+        let offset = bytes_le::u32_at(condition, here) as usize;
+        let len = bytes_le::u32_at(condition, here + 4) as usize;
+        if offset != next {
+            return false;
+        }
+        next = offset + len;
+        i += 1;
+    }
+    next == condition.len()
+}
+
+// The part of the pair at a place.
+fn part_at(condition: &[u8], at: usize) -> &[u8]
+    requires { ⌜ (at + 8 ≤ length (now condition)) × (pairAt (now condition) at .offset + pairAt (now condition) at .len ≤ length (now condition)) ⌝ }
+    ensures { λ r. ⌜ now r ≡ pairPart (now (condition .entry)) at ⌝ }
+{
+    let start = bytes_le::u32_at(condition, at) as usize;
+    let len = bytes_le::u32_at(condition, at + 4) as usize;
+    let end = start + len;
+    &condition[start..end]
+}
+
+// A part is a conjunct in its form.
+fn conjunct_right(types: &[u8], part: &[u8]) -> bool
+    requires { ⌜ (length (now types) ≤ 32) × (length (now part) ≤ 960) ⌝ }
+    ensures { λ r. ⌜ r ≡ (partRight (now (types .entry)) (now (part .entry)) && whole (partNodes (now (part .entry))) && numbered (partNodes (now (part .entry)))) ⌝ }
+{
+    let formed = nodes_right(types, part);
+    if !formed {
+        return false;
+    }
+    let one = is_whole(part);
+    if !one {
+        return false;
+    }
+    is_numbered(types, part)
+}
+
+// The conjunct of a pair: 1 to 120 nodes, in its form.
+fn pair_right(condition: &[u8], fields: usize, at: usize) -> bool
+    requires { ⌜ (fields ≤ 32) × (8 + fields ≤ length (now condition)) × (at + 8 ≤ length (now condition)) × (pairAt (now condition) at .offset + pairAt (now condition) at .len ≤ length (now condition)) ⌝ }
+    ensures { λ r. ⌜ r ≡ pairRight (part (now (condition .entry)) 8 fields) (now (condition .entry)) (pairAt (now (condition .entry)) at) ⌝ }
+{
+    let held = part_at(condition, at);
+    let len = held.len();
+    if len == 0 {
+        return false;
+    }
+    if 960 < len {
+        return false;
+    }
+    if len % 8 != 0 {
+        return false;
+    }
+    let end = 8 + fields;
+    conjunct_right(&condition[8..end], held)
+}
+
+// Every conjunct is in its form.
+fn conjuncts_right(condition: &[u8], fields: usize, count: usize) -> bool
+    requires { ⌜ (fields ≤ 32) × (chained (conjunctsAt fields count) (pairsAt (now condition) (8 + fields) count) (length (now condition)) ≡ true) ⌝ }
+    ensures { λ r. ⌜ r ≡ every (pairRight (part (now (condition .entry)) 8 fields) (now (condition .entry))) (pairsAt (now (condition .entry)) (8 + fields) count) ⌝ }
+{
+    let mut i: usize = 0;
+    while i < count {
+        let right = pair_right(condition, fields, 8 + fields + 8 * i);
+        if !right {
+            return false;
+        }
+        i += 1;
+    }
+    true
+}
+
+// The conjuncts stand in rising order, none twice: each before the next.
+fn is_rising(condition: &[u8], fields: usize, count: usize) -> bool
+    requires { ⌜ (chained (conjunctsAt fields count) (pairsAt (now condition) (8 + fields) count) (length (now condition)) ≡ true) × (every (pairRight (part (now condition) 8 fields) (now condition)) (pairsAt (now condition) (8 + fields) count) ≡ true) ⌝ }
+    ensures { λ r. ⌜ r ≡ rising (map (conjunctAt (now (condition .entry))) (pairsAt (now (condition .entry)) (8 + fields) count)) ⌝ }
+{
+    let mut i: usize = 0;
+    while i + 1 < count {
+        let a = part_at(condition, 8 + fields + 8 * i);
+        let b = part_at(condition, 8 + fields + 8 * (i + 1));
+        let before = comes_before(a, b);
+        if !before {
+            return false;
+        }
+        i += 1;
+    }
+    true
+}
+
+// The condition's form. Every refusal has the number 12, so the order of the tests does not show.
+pub fn read(condition: &[u8]) -> ConditionRead
+    ensures { λ r. ⌜ outOf r ≡ mapped sizes (readCondition (now (condition .entry))) ⌝ }
+{
+    if condition.len() < 8 {
+        return ConditionRead::Refused(12);
+    }
+    let conjuncts = bytes_le::u32_at(condition, 0) as usize;
+    let fields = bytes_le::u32_at(condition, 4) as usize;
+    if 64 < conjuncts {
+        return ConditionRead::Refused(12);
+    }
+    if 32 < fields {
+        return ConditionRead::Refused(12);
+    }
+    let at = 8 + fields;
+    let start = at + 8 * conjuncts;
+    if condition.len() < start {
+        return ConditionRead::Refused(12);
+    }
+    let linked = is_chained(condition, at, conjuncts, start);
+    if !linked {
+        return ConditionRead::Refused(12);
+    }
+    let typed = types_right(&condition[8..at]);
+    if !typed {
+        return ConditionRead::Refused(12);
+    }
+    let formed = conjuncts_right(condition, fields, conjuncts);
+    if !formed {
+        return ConditionRead::Refused(12);
+    }
+    let sorted = is_rising(condition, fields, conjuncts);
+    if !sorted {
+        return ConditionRead::Refused(12);
+    }
+    ConditionRead::Counts(Counts { conjuncts, fields })
+}
+
+// A conjunct of a condition that is read, as the part that starts at its offset.
+pub fn conjunct(condition: &[u8], counts: Counts, i: usize) -> &[u8]
+    requires { ⌜ IsRead (now condition) counts × (i < counts .conjuncts) ⌝ }
+    ensures { λ r. ⌜ (now r ≡ pairPart (now (condition .entry)) (8 + counts .fields + 8 * i)) × (partNodes (now r) ≡ getD (conjunctsOf (now (condition .entry))) i []) × (length (now r) ≤ 960) ⌝ }
+{
+    let fields = counts.fields;
+    part_at(condition, 8 + fields + 8 * i)
+}
+
+// The types of the fields of a condition that is read.
+pub fn types(condition: &[u8], counts: Counts) -> &[u8]
+    requires { ⌜ IsRead (now condition) counts ⌝ }
+    ensures { λ r. ⌜ (now r ≡ typesOf (now (condition .entry))) × (length (now r) ≡ counts .fields) ⌝ }
+{
+    let end = 8 + counts.fields;
+    &condition[8..end]
+}

@@ -1,0 +1,169 @@
+-- The fields of an input that is read: how wide their readings are, where their parts stand, and which readings they hold.
+-- Assumes nothing.
+use mathlib.Core.Path.{_≡_, refl, sym, _∙_, ap, subst}
+use mathlib.Core.Bool.{true, _&&_, cond}
+use mathlib.Core.List.{List, [], _∷_}
+use Prim.Native.Nat.{ℕ, zero, suc, _+_, _*_, _/_, _%_, _^_, _-_, _≤_, _<_}
+use native.Mathlib.Nat.{mul-comm, div-mul-le-self, add-zero, add-mul, div-le-of-le-mul}
+use native.Mathlib.Omega.{arith}
+use lib.Dec.{leb, eqb, ltb}
+use lib.IntN.{pos}
+use lib.ListN.{length, getD, take, drop}
+use borrow.Author.Tests.{lt-ltb, leb-true}
+use Rattle.arith.specs.Types.{bits}
+use Rattle.arith.specs.Step.{wrap}
+use Rattle.model.specs.Refusals.{ok, mapped, wrongInput}
+use Rattle.model.specs.Bytes.{u16At, part, Pair, pairAt, entries, pairsAt, chained}
+use Rattle.model.specs.Input.{Input, width, bitsAt, readingAt, readingsOf, lengthsRight, readInput}
+use Rattle.model.proofs.Tests.{and-left, and-right}
+use Rattle.model.proofs.Results.{check-ok}
+use Rattle.model.proofs.Parts.{length-entries, entries-getD, chained-inside, length-part, Narrow, byte-narrow, u16-narrow, u32-narrow, u64-narrow, entries-part}
+use Rattle.input.specs.Answers.{IsRead, fieldPart, fieldReadings}
+use Rattle.input.proofs.Links.{inputRight, read-check}
+
+-- ---- one reading
+
+pub width-by : (t k : ℕ) → t % 4 ≡ k → width t ≡ 8 * 2 ^ k / 8
+unfolding width bits
+width-by t k e = rw e
+
+pub bits-by : (t k : ℕ) (s : List ℕ) (a : ℕ) → t % 4 ≡ k
+    → bitsAt t s a ≡ getD (getD s a 0 ∷ u16At s a ∷ Rattle.model.specs.Bytes.u32At s a ∷ Rattle.model.specs.Bytes.u64At s a ∷ []) k 0
+unfolding bitsAt
+bits-by t k s a e = rw e
+
+-- by the four widths
+by-width : (t : ℕ) (P : Type 0) → (t % 4 ≡ 0 → P) → (t % 4 ≡ 1 → P) → (t % 4 ≡ 2 → P) → (t % 4 ≡ 3 → P) → P
+by-width t P f g h k = go (t % 4) refl
+  where
+    go : (r : ℕ) → t % 4 ≡ r → P
+    go zero e = f e
+    go (suc zero) e = g e
+    go (suc (suc zero)) e = h e
+    go (suc (suc (suc zero))) e = k e
+    go (suc (suc (suc (suc r)))) e = absurd (omega arith)
+
+bits-narrow : (t : ℕ) → Narrow (bitsAt t) (width t)
+bits-narrow t s o n a h =
+    by-width t (bitsAt t (part s o n) a ≡ bitsAt t s (o + a))
+    (λ e. rw (bits-by t 0 (part s o n) a e, bits-by t 0 s (o + a) e) (byte-narrow s o n a (omega (arith, width-by t 0 e))))
+    (λ e. rw (bits-by t 1 (part s o n) a e, bits-by t 1 s (o + a) e) (u16-narrow s o n a (omega (arith, width-by t 1 e))))
+    (λ e. rw (bits-by t 2 (part s o n) a e, bits-by t 2 s (o + a) e) (u32-narrow s o n a (omega (arith, width-by t 2 e))))
+    (λ e. rw (bits-by t 3 (part s o n) a e, bits-by t 3 s (o + a) e) (u64-narrow s o n a (omega (arith, width-by t 3 e))))
+
+reading-narrow : (t : ℕ) → Narrow (readingAt t) (width t)
+unfolding readingAt
+reading-narrow t s o n a h = ap (λ (v : ℕ). wrap t (pos v)) (bits-narrow t s o n a h)
+
+some-width : (t : ℕ) → 0 < width t
+some-width t =
+    by-width t (0 < width t) (λ e. omega (arith, width-by t 0 e)) (λ e. omega (arith, width-by t 1 e)) (λ e. omega (arith, width-by t 2 e)) (λ e. omega (arith, width-by t 3 e))
+
+-- the last of them, where it is none of the others
+pub third : (t : ℕ) → (t % 4 ≡ 0 → ⊥) → (t % 4 ≡ 1 → ⊥) → (t % 4 ≡ 2 → ⊥) → t % 4 ≡ 3
+third t f g h = by-width t (t % 4 ≡ 3) (λ e. absurd (f e)) (λ e. absurd (g e)) (λ e. absurd (h e)) (λ e. e)
+
+-- ---- an input that is read
+
+module _ (types s : List ℕ) (read : IsRead types s) where
+  right : inputRight types s ≡ true
+  right = check-ok (inputRight types s) wrongInput (ok (tt {0})) (tt {0}) (sym (read-check types s) ∙ read) .0
+
+  chain : chained (8 * length types) (pairsAt s 0 (length types)) (length s) ≡ true
+  unfolding inputRight
+  chain = and-left (chained (8 * length types) (pairsAt s 0 (length types)) (length s)) (lengthsRight types (pairsAt s 0 (length types))) right
+
+  lengths : lengthsRight types (pairsAt s 0 (length types)) ≡ true
+  unfolding inputRight
+  lengths = and-right (chained (8 * length types) (pairsAt s 0 (length types)) (length s)) (lengthsRight types (pairsAt s 0 (length types))) right
+
+-- the length of a field's part
+lengths-at : (types : List ℕ) (ps : List Pair) (i : ℕ) (d : Pair) → lengthsRight types ps ≡ true → i < length types → i < length ps
+    → getD ps i d .len ≤ 128 * width (getD types i 0)
+unfolding lengthsRight
+lengths-at [] ps i d h k l = absurd (omega arith)
+lengths-at (ty ∷ types) [] i d h k l = absurd (omega arith)
+lengths-at (ty ∷ types) (p ∷ ps) zero d h k l =
+    let m = eqb (p .len % width ty) 0 in
+    leb-true (p .len) (128 * width ty) (and-right m (leb (p .len) (128 * width ty)) (and-left (m && leb (p .len) (128 * width ty)) (lengthsRight types ps) h))
+lengths-at (ty ∷ types) (p ∷ ps) (suc i) d h k l =
+    lengths-at types ps i d (and-right (eqb (p .len % width ty) 0 && leb (p .len) (128 * width ty)) (lengthsRight types ps) h) (omega arith) (omega arith)
+
+pub record Placed (types s : List ℕ) (f : ℕ) : Type 0 where
+  pub pair : 8 * f + 8 ≤ length s
+  pub inside : pairAt s (8 * f) .offset + pairAt s (8 * f) .len ≤ length s
+  pub few : pairAt s (8 * f) .len / width (getD types f 0) ≤ 128
+
+-- where a field's part stands
+pub placed : (types s : List ℕ) (f : ℕ) → IsRead types s → f < length types → Placed types s f
+placed types s f read h =
+    let ps = pairsAt s 0 (length types) in
+    let d = pairAt s 0 in
+    let n = length-entries pairAt 8 s (length types) 0 in
+    let at : getD ps f d ≡ pairAt s (0 + 8 * f) = entries-getD pairAt 8 s (length types) 0 f d h in
+    let e : 0 + 8 * f ≡ 8 * f = omega arith in
+    let p : getD ps f d ≡ pairAt s (8 * f) = at ∙ ap (pairAt s) e in
+    let within = chained-inside ps (8 * length types) (length s) (chain types s read) f d (omega arith) in
+    let short = lengths-at types ps f d (lengths types s read) h (omega arith) in
+    record {
+      pair = omega (arith, within .0, within .1);
+      inside = subst (λ (q : Pair). q .offset + q .len ≤ length s) p (within .1);
+      few = div-le-of-le-mul (width (getD types f 0)) (subst (λ (q : Pair). q .len ≤ width (getD types f 0) * 128) p (omega (arith, short, mul-comm 128 (width (getD types f 0)))));
+    }
+
+-- ---- its readings
+
+pub count-readings : (types s : List ℕ) (f : ℕ) → length (fieldReadings types s f) ≡ pairAt s (8 * f) .len / width (getD types f 0)
+unfolding readingsOf
+count-readings types s f =
+    let t = getD types f 0 in
+    length-entries (readingAt t) (width t) s (pairAt s (8 * f) .len / width t) (pairAt s (8 * f) .offset)
+
+-- the model's list of a field's readings
+pub field-readings : (types s : List ℕ) (I : Input) (f : ℕ) → readInput types s ≡ ok I → f < length types → I f ≡ fieldReadings types s f
+unfolding readInput
+field-readings types s I f e h =
+    let ps = pairsAt s 0 (length types) in
+    let J : Input = λ g. cond (ltb g (length types)) (readingsOf (getD types g 0) s (pairAt s (8 * g))) [] in
+    let same : J ≡ I = cc (check-ok (chained (8 * length types) ps (length s) && lengthsRight types ps) wrongInput (ok J) I e .1) in
+    sym (ap (λ (K : Input). K f) same) ∙ rw (lt-ltb f (length types) h)
+
+-- a field's part holds its readings
+pub part-readings : (types s : List ℕ) (f : ℕ) → IsRead types s → f < length types
+    → fieldReadings types s f ≡ entries (readingAt (getD types f 0)) (width (getD types f 0)) (fieldPart s f) 0 (length (fieldPart s f) / width (getD types f 0))
+unfolding readingsOf
+part-readings types s f read h =
+    let t = getD types f 0 in
+    let p = pairAt s (8 * f) in
+    let n : length (fieldPart s f) ≡ p .len = length-part s (p .offset) (p .len) (placed types s f read h .inside) in
+    let fit : 0 + width t * (p .len / width t) ≤ p .len = omega (arith, div-mul-le-self (p .len) (width t), mul-comm (width t) (p .len / width t)) in
+    sym (ap (λ (k : ℕ). entries (readingAt t) (width t) (fieldPart s f) 0 (k / width t)) n
+    ∙ entries-part (readingAt t) (width t) (reading-narrow t) s (p .offset) (p .len) (p .len / width t) 0 fit
+    ∙ ap (λ (a : ℕ). entries (readingAt t) (width t) s a (p .len / width t)) (add-zero (p .offset)))
+
+-- so it is the model's list that a field's part holds
+pub input-part : (types s : List ℕ) (I : Input) (f : ℕ) → readInput types s ≡ ok I → f < length types
+    → I f ≡ entries (readingAt (getD types f 0)) (width (getD types f 0)) (fieldPart s f) 0 (length (fieldPart s f) / width (getD types f 0))
+input-part types s I f e h = field-readings types s I f e h ∙ part-readings types s f (ap (mapped (λ (J : Input). tt {0})) e) h
+
+-- ---- by what was read of a field's pair
+
+module _ (types s : List ℕ) (f : ℕ) where
+  pub counted : (l w : ℕ) → IsRead types s → f < length types → l ≡ pairAt s (8 * f) .len → w ≡ width (getD types f 0)
+      → (l / w ≡ length (fieldReadings types s f)) × (l / w ≤ 128)
+  counted l w read h el ew = (rw (el, ew) (sym (count-readings types s f)), rw (el, ew) (placed types s f read h .few))
+
+  pub taken : (a l : ℕ) → a ≡ pairAt s (8 * f) .offset → l ≡ pairAt s (8 * f) .len → take (a + l - a) (drop a s) ≡ fieldPart s f
+  taken a l ea el = let e : a + l - a ≡ l = omega arith in rw (e, ea, el)
+
+  pub ends-inside : (a l : ℕ) → IsRead types s → f < length types → a ≡ pairAt s (8 * f) .offset → l ≡ pairAt s (8 * f) .len → a + l ≤ length s
+  ends-inside a l read h ea el = rw (ea, el) (placed types s f read h .inside)
+
+-- ---- the reading with a number
+
+pub inside : (k t w n : ℕ) → (k + 1) * width t ≤ n → w ≡ width t → k * w + width t ≤ n
+inside k t w n h e = rw e (omega (arith, add-mul k 1 (width t)))
+
+pub read-at : (t : ℕ) (s : List ℕ) (k w b : ℕ) → w ≡ width t → b ≡ bitsAt t s (k * w) → wrap t (pos b) ≡ readingAt t s (k * width t)
+unfolding readingAt
+read-at t s k w b ew eb = rw (eb, ew)

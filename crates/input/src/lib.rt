@@ -1,0 +1,122 @@
+// The reader of the input file (document 01: sheet): one pass over the pairs that carries the place
+// where the next part begins; a field's readings as a part of the caller's slice; one reading as a
+// number. Assumes nothing.
+ghost use mathlib.Core.Path.{_≡_};
+ghost use Prim.Native.Nat.{_+_, _*_, _≤_, _<_};
+ghost use lib.ListN.{length};
+ghost use Rattle.arith.specs.Whole.{valueOf};
+ghost use Rattle.model.specs.Refusals.{mapped};
+ghost use Rattle.model.specs.Bytes.{pairAt};
+ghost use Rattle.model.specs.Input.{width, bitsAt, readingAt, readInput};
+ghost use Rattle.input.specs.Answers.{outOf, linkedOut, linkOf, IsRead, fieldPart, fieldReadings};
+
+// The input is in its form, or the number of the refusal.
+pub enum InputRead {
+    Yes,
+    Refused(u8),
+}
+
+// Where a field's part ends, or the number of the refusal.
+enum PartRead {
+    Ends(usize),
+    Refused(u8),
+}
+
+// How many bytes a reading of a type has.
+pub fn width_of(ty: u8) -> usize
+    ensures { λ w. ⌜ (w ≡ width ty) × (1 ≤ w) × (w ≤ 8) ⌝ }
+{
+    match ty % 4 {
+        0 => 1,
+        1 => 2,
+        2 => 4,
+        _ => 8,
+    }
+}
+
+// The part of the pair at a place: it begins at next, and is whole readings, at most 128.
+fn part_end(ty: u8, input: &[u8], at: usize, next: usize) -> PartRead
+    requires { ⌜ at + 8 ≤ length (now input) ⌝ }
+    ensures { λ r. ⌜ linkedOut r ≡ linkOf ty (pairAt (now (input .entry)) at) next ⌝ }
+{
+    let offset = bytes_le::u32_at(input, at) as usize;
+    let len = bytes_le::u32_at(input, at + 4) as usize;
+    let w = width_of(ty);
+    if offset != next {
+        return PartRead::Refused(13);
+    }
+    if len % w != 0 {
+        return PartRead::Refused(13);
+    }
+    if 128 * w < len {
+        return PartRead::Refused(13);
+    }
+    PartRead::Ends(offset + len)
+}
+
+// Whether the input has its form, for fields of these types.
+pub fn read(types: &[u8], input: &[u8]) -> InputRead
+    ensures { λ r. ⌜ outOf r ≡ mapped (λ I. tt {0}) (readInput (now (types .entry)) (now (input .entry))) ⌝ }
+{
+    let fields = types.len();
+    if input.len() / 8 < fields {
+        return InputRead::Refused(13);
+    }
+    let mut next = 8 * fields;
+    let mut f: usize = 0;
+    while f < fields {
+        let r = part_end(types[f], input, 8 * f, next);
+        let PartRead::Ends(end) = r else {
+            return InputRead::Refused(13);
+        };
+        next = end;
+        f += 1;
+    }
+    if next != input.len() {
+        return InputRead::Refused(13);
+    }
+    InputRead::Yes
+}
+
+// The readings of a field, as a part of an input that is read.
+pub fn readings<'a>(types: &'a [u8], input: &'a [u8], field: usize) -> &'a [u8]
+    requires { ⌜ IsRead (now types) (now input) × (field < length (now types)) ⌝ }
+    ensures { λ r. ⌜ now r ≡ fieldPart (now (input .entry)) field ⌝ }
+{
+    let start = bytes_le::u32_at(input, 8 * field) as usize;
+    let len = bytes_le::u32_at(input, 8 * field + 4) as usize;
+    let end = start + len;
+    &input[start..end]
+}
+
+// How many readings a field has in an input that is read.
+pub fn count(types: &[u8], input: &[u8], field: usize) -> usize
+    requires { ⌜ IsRead (now types) (now input) × (field < length (now types)) ⌝ }
+    ensures { λ r. ⌜ (r ≡ length (fieldReadings (now (types .entry)) (now (input .entry)) field)) × (r ≤ 128) ⌝ }
+{
+    let w = width_of(types[field]);
+    let len = bytes_le::u32_at(input, 8 * field + 4) as usize;
+    len / w
+}
+
+// The bytes of a reading as a number.
+fn bits_at(ty: u8, part: &[u8], at: usize) -> u64
+    requires { ⌜ at + width ty ≤ length (now part) ⌝ }
+    ensures { λ r. ⌜ r ≡ bitsAt ty (now (part .entry)) at ⌝ }
+{
+    match ty % 4 {
+        0 => part[at] as u64,
+        1 => bytes_le::u16_at(part, at),
+        2 => bytes_le::u32_at(part, at),
+        _ => bytes_le::u64_at(part, at),
+    }
+}
+
+// The reading with a number in a field's part.
+pub fn reading(ty: u8, part: &[u8], k: usize) -> arith::Num
+    requires { ⌜ (ty < 8) × ((k + 1) * width ty ≤ length (now part)) ⌝ }
+    ensures { λ r. ⌜ valueOf r ≡ readingAt ty (now (part .entry)) (k * width ty) ⌝ }
+{
+    let at = k * width_of(ty);
+    arith::of_bits(ty, bits_at(ty, part, at))
+}

@@ -1,0 +1,164 @@
+-- The section table: what check 2 says of the offsets and lengths, and that the sections then lie in the byte string.
+-- Assumes nothing.
+use mathlib.Core.Path.{_≡_, refl, sym, ap, subst, _∙_}
+use mathlib.Core.Bool.{Bool, true, false, _&&_, true≢false}
+use mathlib.Core.List.{List}
+use Prim.Native.Nat.{ℕ, _+_, _/_, _%_, _≤_, _<_, _^_}
+use native.Mathlib.Omega.{arith}
+use borrow.Author.Tests.{leb-true, eqb-true, le-leb, eq-eqb, eqb-false}
+use lib.Dec.{leb, eqb}
+use lib.ListN.{length}
+use Rattle.model.specs.Refusals.{ok, refused, check}
+use Rattle.model.specs.Bytes.{u32At, Pair, pairAt, entries, chained}
+use Rattle.model.specs.Program.{Layout as Layout′, layoutOf, sectionsRight}
+use Rattle.model.proofs.Tests.{case, and-left, and-right}
+use Rattle.program.specs.Reading.{sectionOf, Short, layoutFrom, answerOf, Placed}
+use Rattle.program.specs.declared.Layout.{Layout}
+use Rattle.program.specs.declared.ProgramRead.{ProgramRead}
+use Rattle.program.specs.declared.ProgramRead.the-variants.{Read, Refused as NotRead}
+use Rattle.program.specs.declared.SectionRead.{SectionRead}
+use Rattle.program.specs.declared.SectionRead.the-variants.{Section, Refused}
+
+-- ---- a test, and the result that goes with it
+
+pub check-ok : {A : Type 0} (b : Bool) (n : ℕ) (x y : A) → ok x ≡ check b n (ok y) → (b ≡ true) × (x ≡ y)
+check-ok true n x y e = (refl, cc)
+check-ok false n x y e = let z : true ≡ false = cc in absurd (true≢false z)
+
+pub check-refused : {A : Type 0} (b : Bool) (n m : ℕ) (y : A) → refused m ≡ check b n (ok y) → b ≡ false
+check-refused true n m y e = cc
+check-refused false n m y e = refl
+
+-- ---- one section
+
+module _ (s : List ℕ) (place start : ℕ) (r : SectionRead) (h : sectionOf r ≡ check (eqb (u32At s place) start) 2 (ok (pairAt s place))) where
+  pub section-taken : (at len : ℕ) → r ≡ Section at len → (u32At s place ≡ start) × (at ≡ u32At s place) × (len ≡ u32At s (place + 4))
+  section-taken at len e =
+      let p : Pair = record { offset = at; len = len } in
+      let k = check-ok (eqb (u32At s place) start) 2 p (pairAt s place) (sym (ap sectionOf e) ∙ h) in
+      (eqb-true (u32At s place) start (k .0), ap (λ (q : Pair). q .offset) (k .1), ap (λ (q : Pair). q .len) (k .1))
+
+  pub section-refused : (n : ℕ) → r ≡ Refused n → u32At s place ≡ start → ⊥
+  section-refused n e = eqb-false (u32At s place) start (check-refused (eqb (u32At s place) start) 2 n (pairAt s place) (sym (ap sectionOf e) ∙ h))
+
+pub section-short : (r : SectionRead) (at len : ℕ) → Short r → r ≡ Section at len → (at < 2 ^ 32) × (len < 2 ^ 32)
+section-short r at len h e = subst Short e h
+
+-- ---- the four sections, by their offsets and lengths and the file's length
+
+module _ (o₁ l₁ o₂ l₂ o₃ l₃ o₄ l₄ n : ℕ) where
+  pub record Chain : Type 0 where
+    pub long : 32 ≤ n
+    pub short : n ≤ 8384
+    pub first : o₁ ≡ 32
+    pub second : o₂ ≡ o₁ + l₁
+    pub third : o₃ ≡ o₂ + l₂
+    pub fourth : o₄ ≡ o₃ + l₃
+    pub last : o₄ + l₄ ≡ n
+    pub arrays : l₃ % 4 ≡ 0
+    pub statements : l₄ % 8 ≡ 0
+
+  -- the test, by its parts
+  abbrev tail₄ : Bool
+  tail₄ = eqb o₄ (32 + l₁ + l₂ + l₃) && eqb (32 + l₁ + l₂ + l₃ + l₄) n
+
+  abbrev tail₃ : Bool
+  tail₃ = eqb o₃ (32 + l₁ + l₂) && tail₄
+
+  abbrev tail₂ : Bool
+  tail₂ = eqb o₂ (32 + l₁) && tail₃
+
+  abbrev tail₁ : Bool
+  tail₁ = eqb o₁ 32 && tail₂
+
+  abbrev test : Bool
+  test = leb 32 n && leb n 8384 && tail₁ && eqb (l₃ % 4) 0 && eqb (l₄ % 8) 0
+
+  test-chain : test ≡ true → Chain
+  test-chain w =
+      let p₄ = leb 32 n && leb n 8384 && tail₁ && eqb (l₃ % 4) 0 in
+      let p₃ = leb 32 n && leb n 8384 && tail₁ in
+      let p₂ = leb 32 n && leb n 8384 in
+      let w₄ = and-left p₄ (eqb (l₄ % 8) 0) w in
+      let w₃ = and-left p₃ (eqb (l₃ % 4) 0) w₄ in
+      let w₂ = and-left p₂ tail₁ w₃ in
+      let t₁ = and-right p₂ tail₁ w₃ in
+      let t₂ = and-right (eqb o₁ 32) tail₂ t₁ in
+      let t₃ = and-right (eqb o₂ (32 + l₁)) tail₃ t₂ in
+      let t₄ = and-right (eqb o₃ (32 + l₁ + l₂)) tail₄ t₃ in
+      let e₁ = eqb-true o₁ 32 (and-left (eqb o₁ 32) tail₂ t₁) in
+      let e₂ = eqb-true o₂ (32 + l₁) (and-left (eqb o₂ (32 + l₁)) tail₃ t₂) in
+      let e₃ = eqb-true o₃ (32 + l₁ + l₂) (and-left (eqb o₃ (32 + l₁ + l₂)) tail₄ t₃) in
+      let e₄ = eqb-true o₄ (32 + l₁ + l₂ + l₃) (and-left (eqb o₄ (32 + l₁ + l₂ + l₃)) (eqb (32 + l₁ + l₂ + l₃ + l₄) n) t₄) in
+      let e₅ = eqb-true (32 + l₁ + l₂ + l₃ + l₄) n (and-right (eqb o₄ (32 + l₁ + l₂ + l₃)) (eqb (32 + l₁ + l₂ + l₃ + l₄) n) t₄) in
+      record {
+        long = leb-true 32 n (and-left (leb 32 n) (leb n 8384) w₂);
+        short = leb-true n 8384 (and-right (leb 32 n) (leb n 8384) w₂);
+        first = e₁;
+        second = omega arith;
+        third = omega arith;
+        fourth = omega arith;
+        last = omega arith;
+        arrays = eqb-true (l₃ % 4) 0 (and-right p₃ (eqb (l₃ % 4) 0) w₄);
+        statements = eqb-true (l₄ % 8) 0 (and-right p₄ (eqb (l₄ % 8) 0) w);
+      }
+
+  chain-test : Chain → test ≡ true
+  chain-test h =
+      let e₂ : o₂ ≡ 32 + l₁ = omega arith in
+      let e₃ : o₃ ≡ 32 + l₁ + l₂ = omega arith in
+      let e₄ : o₄ ≡ 32 + l₁ + l₂ + l₃ = omega arith in
+      let e₅ : 32 + l₁ + l₂ + l₃ + l₄ ≡ n = omega arith in
+      rw (
+        le-leb 32 n (h .long),
+        le-leb n 8384 (h .short),
+        eq-eqb o₁ 32 (h .first),
+        eq-eqb o₂ (32 + l₁) e₂,
+        eq-eqb o₃ (32 + l₁ + l₂) e₃,
+        eq-eqb o₄ (32 + l₁ + l₂ + l₃) e₄,
+        eq-eqb (32 + l₁ + l₂ + l₃ + l₄) n e₅,
+        eq-eqb (l₃ % 4) 0 (h .arrays),
+        eq-eqb (l₄ % 8) 0 (h .statements),
+      )
+
+-- the four sections of a byte string
+abbrev pub Chained : List ℕ → Type 0
+Chained s = Chain (u32At s 0) (u32At s 4) (u32At s 8) (u32At s 12) (u32At s 16) (u32At s 20) (u32At s 24) (u32At s 28) (length s)
+
+module _ (s : List ℕ) where
+  opened : sectionsRight s ≡ test (u32At s 0) (u32At s 4) (u32At s 8) (u32At s 12) (u32At s 16) (u32At s 20) (u32At s 24) (u32At s 28) (length s)
+  unfolding sectionsRight chained entries
+  opened = refl
+
+  pub right-chain : sectionsRight s ≡ true → Chained s
+  right-chain h = test-chain _ _ _ _ _ _ _ _ _ (sym opened ∙ h)
+
+  pub chain-right : Chained s → sectionsRight s ≡ true
+  chain-right h = opened ∙ chain-test _ _ _ _ _ _ _ _ _ h
+
+  pub no-chain : (Chained s → ⊥) → sectionsRight s ≡ false
+  no-chain f = case (sectionsRight s) (λ z. z ≡ false) (λ e. absurd (f (right-chain e))) (λ e. refl)
+
+  pub placed : (L : Layout) → sectionsRight s ≡ true → layoutFrom L ≡ layoutOf s → Placed s L
+  unfolding layoutOf
+  placed L h e =
+      let k = right-chain h in
+      let e₁ : L .«fields_at» ≡ u32At s 0 = ap (λ (M : Layout′). M .fieldsAt) e in
+      let e₂ : L .fields ≡ u32At s 4 = ap (λ (M : Layout′). M .fields) e in
+      let e₃ : L .«variables_at» ≡ u32At s 8 = ap (λ (M : Layout′). M .variablesAt) e in
+      let e₄ : L .variables ≡ u32At s 12 = ap (λ (M : Layout′). M .variables) e in
+      let e₅ : L .«arrays_at» ≡ u32At s 16 = ap (λ (M : Layout′). M .arraysAt) e in
+      let e₆ : L .arrays ≡ u32At s 20 / 4 = ap (λ (M : Layout′). M .arrays) e in
+      let e₇ : L .«statements_at» ≡ u32At s 24 = ap (λ (M : Layout′). M .statementsAt) e in
+      let e₈ : L .statements ≡ u32At s 28 / 8 = ap (λ (M : Layout′). M .statements) e in
+      record { layout = e; fields = omega arith; variables = omega arith; arrays = omega arith; statements = omega arith; small = k .short }
+
+-- ---- the answer to check 2
+
+pub table-read : (s : List ℕ) (r : ProgramRead) (L : Layout) → answerOf r ≡ check (sectionsRight s) 2 (ok (layoutOf s)) → r ≡ Read L → (sectionsRight s ≡ true) × Placed s L
+table-read s r L h e =
+    let k = check-ok (sectionsRight s) 2 (layoutFrom L) (layoutOf s) (sym (ap answerOf e) ∙ h) in
+    (k .0, placed s L (k .0) (k .1))
+
+pub table-refused : (s : List ℕ) (r : ProgramRead) (n : ℕ) → answerOf r ≡ check (sectionsRight s) 2 (ok (layoutOf s)) → r ≡ NotRead n → sectionsRight s ≡ false
+table-refused s r n h e = check-refused (sectionsRight s) 2 n (layoutOf s) (sym (ap answerOf e) ∙ h)

@@ -1,0 +1,25 @@
+-- A pass over a list, element by element: the test of the rest is the test of the whole.
+-- Assumes nothing.
+use mathlib.Core.Path.{_≡_, _∙_}
+use mathlib.Core.Bool.{Bool, true, false, _&&_}
+use mathlib.Core.List.{List}
+use Prim.Native.Nat.{ℕ, _+_, _≤_, _<_}
+use native.Mathlib.Numerals.{add-one}
+use lib.ListN.{length, getD, drop, drop-of-length-le}
+use lib.Seq.{drop-cons}
+use Rattle.model.specs.Lists.{every}
+
+module _ {A : Type 0} (f : A → Bool) (d : A) (xs : List A) (i : ℕ) where
+  pass-step : i < length xs → every f (drop i xs) ≡ (f (getD xs i d) && every f (drop (i + 1) xs))
+  unfolding every
+  pass-step h = rw (add-one, drop-cons xs i d h)
+
+  pub pass-fails : i < length xs → every f xs ≡ every f (drop i xs) → f (getD xs i d) ≡ false → every f xs ≡ false
+  pass-fails h w e = w ∙ pass-step h ∙ rw e
+
+  pub pass-goes : i < length xs → every f xs ≡ every f (drop i xs) → f (getD xs i d) ≡ true → every f xs ≡ every f (drop (i + 1) xs)
+  pass-goes h w e = w ∙ pass-step h ∙ rw e
+
+  pub pass-ends : length xs ≤ i → every f xs ≡ every f (drop i xs) → every f xs ≡ true
+  unfolding every
+  pass-ends h w = w ∙ rw (drop-of-length-le xs h)

@@ -1,0 +1,82 @@
+-- `program::are_arrays` meets its contract.
+-- Assumes nothing.
+use mathlib.Core.Path.{_≡_, refl, sym, _∙_}
+use Prim.Native.Nat.{_≤_, _-_}
+use native.Mathlib.Omega.{arith}
+use borrow.Author.Needs.{needs}
+use borrow.Author.Tests.{not-true, not-false}
+use lib.ListN.{drop}
+use Rattle.model.specs.Bytes.{entries}
+use Rattle.model.specs.Lists.{every}
+use Rattle.model.specs.Program.{Array, arrayRight, arrayAt}
+use Rattle.program.proofs.Entries.{length-entries, entry-at}
+use Rattle.program.proofs.Passes.{pass-fails, pass-goes, pass-ends}
+use Rattle.program.proofs.are_arrays.Statement.{statement}
+use Rattle.program.proofs.are_arrays.Tie as tie
+
+abbrev Inv-loop : tie.InvT-loop
+Inv-loop program at n i₀ i = (i ≤ n) × (every arrayRight (entries arrayAt 4 program at n) ≡ every arrayRight (drop i (entries arrayAt 4 program at n)))
+
+abbrev μ-loop : tie.MeasureT-loop
+μ-loop program at n i₀ i = n - i
+
+loop-holds : tie.Need-loop-holds Inv-loop μ-loop
+loop-holds c = (search needs, refl)
+
+mul-array-right : tie.Need-mul-array-right Inv-loop μ-loop
+mul-array-right c = search needs
+
+add-array-right : tie.Need-add-array-right Inv-loop μ-loop
+add-array-right c = search needs
+
+array-right-requires : tie.Need-array-right-requires Inv-loop μ-loop
+array-right-requires c κs = search needs
+
+returns : tie.Need-returns Inv-loop μ-loop
+returns c =
+    let a = c .before .before .before .before .before .args in
+    let lp = c .before .before .before .loop in
+    let s = a .program .now in
+    let none : Array = record { ty = 0; pad = 0; len = 0 } in
+    let l = length-entries arrayAt 4 s (a .at) (a .n) in
+    sym (pass-fails arrayRight none (entries arrayAt 4 s (a .at) (a .n)) (lp .i) (rw l (omega arith)) (lp .inv .1) (rw (entry-at arrayAt 4 s (a .at) (a .n) (lp .i) none (omega arith)) (sym (c .before .array-right .ensures) ∙ not-true _ (c .if1 .taken))))
+
+add-i : tie.Need-add-i Inv-loop μ-loop
+add-i c = search needs
+
+loop-less : tie.Need-loop-less Inv-loop μ-loop
+loop-less c = search needs
+
+loop-again : tie.Need-loop-again Inv-loop μ-loop
+loop-again c =
+    let a = c .before .before .before .before .before .args in
+    let lp = c .before .before .before .loop in
+    let s = a .program .now in
+    let none : Array = record { ty = 0; pad = 0; len = 0 } in
+    let l = length-entries arrayAt 4 s (a .at) (a .n) in
+    (omega arith, pass-goes arrayRight none (entries arrayAt 4 s (a .at) (a .n)) (lp .i) (rw l (omega arith)) (lp .inv .1) (rw (entry-at arrayAt 4 s (a .at) (a .n) (lp .i) none (omega arith)) (sym (c .before .array-right .ensures) ∙ not-false _ (c .if1 .left))))
+
+returns-2 : tie.Need-returns-2 Inv-loop μ-loop
+returns-2 c =
+    let a = c .before .before .before .args in
+    let lp = c .before .loop in
+    let s = a .program .now in
+    let none : Array = record { ty = 0; pad = 0; len = 0 } in
+    let l = length-entries arrayAt 4 s (a .at) (a .n) in
+    sym (pass-ends arrayRight none (entries arrayAt 4 s (a .at) (a .n)) (lp .i) (rw l (omega arith)) (lp .inv .1))
+
+pub are-arrays-spec : {M : Type 1} → statement M
+are-arrays-spec =
+    tie.close
+    (tie.spec
+    Inv-loop
+    μ-loop
+    loop-holds
+    mul-array-right
+    add-array-right
+    array-right-requires
+    returns
+    add-i
+    loop-less
+    loop-again
+    returns-2)

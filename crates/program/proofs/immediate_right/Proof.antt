@@ -1,0 +1,39 @@
+-- `program::immediate_right` meets its contract.
+-- Assumes nothing.
+use native.Mathlib.Omega.{arith}
+use borrow.Author.Needs.{needs}
+use Rattle.model.specs.Program.{immediateRight}
+use Rattle.program.specs.Reading.{entryOf}
+use Rattle.program.proofs.Statements.{type-small, immediate-none}
+use Rattle.program.proofs.immediate_right.Statement.{statement}
+use Rattle.program.proofs.immediate_right.Tie as tie
+
+cast-a : tie.Need-cast-a
+cast-a c = search needs
+
+returns : tie.Need-returns
+returns c = let q = c .before .before .before .before .args .q in rw (immediate-none _ (entryOf q) (omega (arith, c .if1 .taken)))
+
+variable-type-requires : tie.Need-variable-type-requires
+variable-type-requires c κs = search needs
+
+immediate-requires : tie.Need-immediate-requires
+immediate-requires c κs = rw (c .variable-type .ensures) (type-small _ (c .before .before .before .before .before .pre .1) _)
+
+is-of-type-requires : tie.Need-is-of-type-requires
+is-of-type-requires c κs = rw (c .before .variable-type .ensures) (type-small _ (c .before .before .before .before .before .before .pre .1) _)
+
+returns-2 : tie.Need-returns-2
+unfolding immediateRight
+returns-2 c = rw (c .before .before .before .if1 .left, ← c .before .before .variable-type .ensures, ← c .before .immediate .ensures) (c .is-of-type .ensures)
+
+pub immediate-right-spec : {M : Type 1} → statement M
+immediate-right-spec =
+    tie.close
+    (tie.spec
+    cast-a
+    returns
+    variable-type-requires
+    immediate-requires
+    is-of-type-requires
+    returns-2)

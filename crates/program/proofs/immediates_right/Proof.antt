@@ -1,0 +1,75 @@
+-- `program::immediates_right` meets its contract.
+-- Assumes nothing.
+use mathlib.Core.Path.{_≡_, refl, sym, _∙_}
+use Prim.Native.Nat.{_≤_, _-_}
+use native.Mathlib.Omega.{arith}
+use borrow.Author.Needs.{needs}
+use borrow.Author.Tests.{not-true, not-false}
+use lib.ListN.{drop}
+use Rattle.model.specs.Lists.{every}
+use Rattle.model.specs.Program.{immediateRight}
+use Rattle.program.specs.Reading.{noStatement, tablesOf}
+use Rattle.program.proofs.Passes.{pass-fails, pass-goes, pass-ends}
+use Rattle.program.proofs.Tables.{sized}
+use Rattle.program.proofs.immediates_right.Statement.{statement}
+use Rattle.program.proofs.immediates_right.Tie as tie
+
+abbrev Inv-loop : tie.InvT-loop
+Inv-loop program layout n i₀ i = (i ≤ n) × (every (immediateRight (tablesOf program)) (tablesOf program .statements) ≡ every (immediateRight (tablesOf program)) (drop i (tablesOf program .statements)))
+
+abbrev μ-loop : tie.MeasureT-loop
+μ-loop program layout n i₀ i = n - i
+
+loop-holds : tie.Need-loop-holds Inv-loop μ-loop
+loop-holds c = (search needs, refl)
+
+statement-requires : tie.Need-statement-requires Inv-loop μ-loop
+statement-requires c κs = search needs
+
+immediate-right-requires : tie.Need-immediate-right-requires Inv-loop μ-loop
+immediate-right-requires c κs = search needs
+
+returns : tie.Need-returns Inv-loop μ-loop
+returns c =
+    let a = c .before .before .before .before .before .before .args in
+    let lp = c .before .before .before .before .loop in
+    let T = tablesOf (a .program .now) in
+    let l = sized (a .program .now) (a .layout) (c .before .before .before .before .before .before .pre .0) .statements in
+    sym (pass-fails (immediateRight T) noStatement (T .statements) (lp .i) (rw l (omega arith)) (lp .inv .1) (rw (← c .before .before .statement .ensures) (sym (c .before .immediate-right .ensures) ∙ not-true _ (c .if1 .taken))))
+
+add-i : tie.Need-add-i Inv-loop μ-loop
+add-i c = search needs
+
+loop-less : tie.Need-loop-less Inv-loop μ-loop
+loop-less c = search needs
+
+loop-again : tie.Need-loop-again Inv-loop μ-loop
+loop-again c =
+    let a = c .before .before .before .before .before .before .args in
+    let lp = c .before .before .before .before .loop in
+    let T = tablesOf (a .program .now) in
+    let l = sized (a .program .now) (a .layout) (c .before .before .before .before .before .before .pre .0) .statements in
+    (omega arith, pass-goes (immediateRight T) noStatement (T .statements) (lp .i) (rw l (omega arith)) (lp .inv .1) (rw (← c .before .before .statement .ensures) (sym (c .before .immediate-right .ensures) ∙ not-false _ (c .if1 .left))))
+
+returns-2 : tie.Need-returns-2 Inv-loop μ-loop
+returns-2 c =
+    let a = c .before .before .before .args in
+    let lp = c .before .loop in
+    let T = tablesOf (a .program .now) in
+    let l = sized (a .program .now) (a .layout) (c .before .before .before .pre .0) .statements in
+    sym (pass-ends (immediateRight T) noStatement (T .statements) (lp .i) (rw l (omega arith)) (lp .inv .1))
+
+pub immediates-right-spec : {M : Type 1} → statement M
+immediates-right-spec =
+    tie.close
+    (tie.spec
+    Inv-loop
+    μ-loop
+    loop-holds
+    statement-requires
+    immediate-right-requires
+    returns
+    add-i
+    loop-less
+    loop-again
+    returns-2)

@@ -1,0 +1,98 @@
+-- What the reader's answers and entries stand for, and what its functions may assume of a layout.
+-- Assumes nothing.
+use mathlib.Core.Path.{_≡_}
+use mathlib.Core.List.{List, map}
+use Prim.Native.Nat.{ℕ, _+_, _*_, _≤_, _<_, _^_}
+use lib.ListN.{length, getD}
+use Rattle.model.specs.Refusals.{Out, ok, refused}
+use Rattle.model.specs.Bytes.{Pair}
+use Rattle.model.specs.Code.{Stmt, end}
+use Rattle.model.specs.Program.{Statement, Tables, tablesAt, layoutOf, stmtOf, Program, readProgram}
+use Rattle.model.specs.Program.{Layout as Sections}
+use Rattle.program.specs.declared.Layout.{Layout}
+use Rattle.program.specs.declared.Entry.{Entry}
+use Rattle.program.specs.declared.ProgramRead.{ProgramRead}
+use Rattle.program.specs.declared.ProgramRead.the-variants.{Read, Refused}
+use Rattle.program.specs.declared.SectionRead.{SectionRead}
+use Rattle.program.specs.declared.SectionRead.the-variants.{Section, Refused as NoSection}
+use Rattle.program.specs.declared.StatementRead.{StatementRead}
+use Rattle.program.specs.declared.StatementRead.the-variants.{Entry as AnEntry, Refused as NoEntry}
+
+-- the model's layout that the code's is
+abbrev pub layoutFrom : Layout → Sections
+layoutFrom L = record {
+  fieldsAt = L .«fields_at»;
+  fields = L .fields;
+  variablesAt = L .«variables_at»;
+  variables = L .variables;
+  arraysAt = L .«arrays_at»;
+  arrays = L .arrays;
+  statementsAt = L .«statements_at»;
+  statements = L .statements;
+}
+
+-- the reader's answer: where the sections are, or the number of the refusal
+abbrev pub answerOf : ProgramRead → Out Sections
+answerOf (Read L) = ok (layoutFrom L)
+answerOf (Refused n) = refused n
+
+-- a section's pair, or the number of the refusal
+abbrev pub sectionOf : SectionRead → Out Pair
+sectionOf (Section at len) = ok (record { offset = at; len = len })
+sectionOf (NoSection n) = refused n
+
+-- both numbers of 4 bytes
+abbrev pub Short : SectionRead → Type 0
+Short (Section at len) = (at < 2 ^ 32) × (len < 2 ^ 32)
+Short (NoSection n) = Unit {0}
+
+-- the model's entry that the code's is
+abbrev pub entryOf : Entry → Statement
+entryOf q = record { kind = q .kind; a = q .a; b = q .b; c = q .c; imm = q .imm }
+
+-- a statement's entry, or the number of the refusal
+abbrev pub statementFrom : StatementRead → Out Statement
+statementFrom (AnEntry q) = ok (entryOf q)
+statementFrom (NoEntry n) = refused n
+
+-- the tables of a byte string at its own layout
+abbrev pub tablesOf : List ℕ → Tables
+tablesOf s = tablesAt s (layoutOf s)
+
+-- past the last statement stands an end
+abbrev pub noStatement : Statement
+noStatement = record { kind = 13; a = 0; b = 0; c = 0; imm = 0 }
+
+-- the statement with a label
+abbrev pub statementOf : Tables → ℕ → Statement
+statementOf T i = getD (T .statements) i noStatement
+
+-- the model's statements of the tables
+abbrev pub stmtsOf : Tables → List Stmt
+stmtsOf T = map (stmtOf T) (T .statements)
+
+-- the statement with a label; past the last one an end
+abbrev pub stmtAt : Tables → ℕ → Stmt
+stmtAt T i = getD (stmtsOf T) i end
+
+-- the tables have as many entries as the layout says
+pub record Sized (T : Tables) (L : Layout) : Type 0 where
+  pub fields : length (T .fields) ≡ L .fields
+  pub variables : length (T .variables) ≡ L .variables
+  pub arrays : length (T .arrays) ≡ L .arrays
+  pub statements : length (T .statements) ≡ L .statements
+
+-- the layout is the byte string's own, and each section lies in it
+pub record Placed (s : List ℕ) (L : Layout) : Type 0 where
+  pub layout : layoutFrom L ≡ layoutOf s
+  pub fields : L .«fields_at» + L .fields ≤ length s
+  pub variables : L .«variables_at» + L .variables ≤ length s
+  pub arrays : L .«arrays_at» + 4 * L .arrays ≤ length s
+  pub statements : L .«statements_at» + 8 * L .statements ≤ length s
+  pub small : length s ≤ 8384
+
+-- the program is read, and the layout is its own
+pub record IsRead (s : List ℕ) (L : Layout) : Type 0 where
+  pub program : Program
+  pub read : readProgram s ≡ ok program
+  pub placed : Placed s L
