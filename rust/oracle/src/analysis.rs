@@ -1,0 +1,358 @@
+//! The analysis: walks backward from each site and gives the condition.
+//!
+//! A conjunct is its nodes in postfix, held as in `condition`, with two further
+//! kinds of atoms during the walk: variables, with their number in the place of
+//! the field number, and loaded values, with the load's label there and with n.
+
+use crate::condition::*;
+use crate::recipe::*;
+use crate::types::*;
+use std::cmp::Ordering;
+
+/// Node kinds that occur only during the walk.
+const VARIABLE: u8 = 7;
+const LOADED: u8 = 8;
+
+/// Rounds of a loop that are worked out before giving up.
+const MOST_ROUNDS: usize = 16;
+
+type Conjunct = Vec<u64>;
+
+/// A set of conjuncts: sorted, each once. `variables` and `trays` have a bit for
+/// each variable and for each tray with a loaded value that occurs in them, so
+/// that a statement that concerns none is passed over at once.
+#[derive(Clone, Default)]
+struct Set {
+    conjuncts: Vec<Conjunct>,
+    variables: u64,
+    trays: u16,
+}
+
+/// Any fixed order does during the walk; lengths first is quick.
+fn order(left: &Conjunct, right: &Conjunct) -> Ordering {
+    left.len().cmp(&right.len()).then_with(|| left.cmp(right))
+}
+
+/// The conjuncts of a recipe in file order, or the refusal 9, 10 or 11.
+pub fn conjuncts(recipe: &Recipe) -> Result<Vec<Conjunct>, u8> {
+    let walk = Walk { recipe };
+    let mut all = Set::default();
+    for (label, s) in recipe.statements.iter().enumerate() {
+        if s.kind == SITE {
+            let set = walk.site(label)?;
+            all = union(&all, set)?;
+        }
+    }
+    all.conjuncts.sort_unstable_by(|l, r| file_order(l, r));
+    Ok(all.conjuncts)
+}
+
+/// The union of two sets, tested for their number (10).
+fn union(left: &Set, right: Set) -> Result<Set, u8> {
+    let mut conjuncts = Vec::with_capacity(left.conjuncts.len() + right.conjuncts.len());
+    let mut from_left = left.conjuncts.iter().peekable();
+    for conjunct in right.conjuncts {
+        while let Some(smaller) = from_left.next_if(|l| order(l, &conjunct) == Ordering::Less) {
+            conjuncts.push(smaller.clone());
+        }
+        from_left.next_if(|l| **l == conjunct);
+        conjuncts.push(conjunct);
+    }
+    conjuncts.extend(from_left.cloned());
+    if conjuncts.len() > MOST_CONJUNCTS {
+        return Err(10);
+    }
+    let variables = left.variables | right.variables;
+    Ok(Set { conjuncts, variables, trays: left.trays | right.trays })
+}
+
+/// Adds a conjunct unless the set has it; 10 if it is one too many.
+fn insert(conjuncts: &mut Vec<Conjunct>, conjunct: Conjunct) -> Result<(), u8> {
+    if let Err(place) = conjuncts.binary_search_by(|c| order(c, &conjunct)) {
+        if conjuncts.len() == MOST_CONJUNCTS {
+            return Err(10);
+        }
+        conjuncts.insert(place, conjunct);
+    }
+    Ok(())
+}
+
+/// Renumbers the atoms of a conjunct: n counts from 1 by first appearance.
+fn renumber(conjunct: &mut [u64]) {
+    // Atoms met so far, as they were and as they are now. A conjunct of 120
+    // nodes has at most 60 atoms.
+    let mut before = [0u64; 64];
+    let mut after = [0u64; 64];
+    let mut met = 0;
+    for n in conjunct.iter_mut() {
+        if kind(*n) != READING && kind(*n) != LOADED {
+            continue;
+        }
+        let place = before[..met].iter().position(|b| b == n).unwrap_or_else(|| {
+            let nameless = *n as u32;
+            let same = after[..met].iter().filter(|&&a| a as u32 == nameless).count();
+            before[met] = *n;
+            after[met] = nameless as u64 | (same as u64 + 1) << 32;
+            met += 1;
+            met - 1
+        });
+        *n = after[place];
+    }
+}
+
+/// Replaces a node wherever it occurs by one other node; false if it does not occur.
+fn swap(conjunct: &mut [u64], old: u64, new: u64) -> bool {
+    let mut found = false;
+    for n in conjunct.iter_mut() {
+        if *n == old {
+            *n = new;
+            found = true;
+        }
+    }
+    found
+}
+
+/// Replaces a node wherever it occurs by several nodes; 9 if the conjunct gets too long.
+fn expand(conjunct: &mut Conjunct, old: u64, new: &[u64]) -> Result<bool, u8> {
+    let found = conjunct.iter().filter(|&&n| n == old).count();
+    if found == 0 {
+        return Ok(false);
+    }
+    let mut from = conjunct.len();
+    let mut to = from + found * (new.len() - 1);
+    if to > MOST_NODES {
+        return Err(9);
+    }
+    // From the back, so that nothing is written over before it is moved.
+    conjunct.resize(to, 0);
+    while from < to {
+        from -= 1;
+        if conjunct[from] == old {
+            to -= new.len();
+            conjunct[to..to + new.len()].copy_from_slice(new);
+        } else {
+            to -= 1;
+            conjunct[to] = conjunct[from];
+        }
+    }
+    Ok(true)
+}
+
+impl Set {
+    /// Applies a change to every conjunct and restores order; the change says
+    /// whether it did anything.
+    fn change(&mut self, mut f: impl FnMut(&mut Conjunct) -> Result<bool, u8>) -> Result<(), u8> {
+        let mut changed = false;
+        for conjunct in &mut self.conjuncts {
+            changed |= f(conjunct)?;
+        }
+        if changed && self.conjuncts.len() > 1 {
+            self.conjuncts.sort_unstable_by(order);
+            self.conjuncts.dedup();
+        }
+        Ok(())
+    }
+}
+
+struct Walk<'a> {
+    recipe: &'a Recipe,
+}
+
+impl Walk<'_> {
+    /// The set of one site at the recipe's start.
+    fn site(&self, label: usize) -> Result<Set, u8> {
+        let variable = self.recipe.statements[label].a;
+        let mut set = Set {
+            conjuncts: vec![vec![self.variable(variable)]],
+            variables: 1 << variable,
+            trays: 0,
+        };
+        let mut at = label;
+        let mut inside = self.recipe.inside[label];
+        while let Some(block) = inside {
+            let block = &self.recipe.blocks[block];
+            let start = match block.middle {
+                Some(middle) if middle < at => middle + 1,
+                _ => block.open + 1,
+            };
+            set = self.back(start, at, set)?;
+            if self.recipe.statements[block.open].kind == WHILE {
+                set = self.settle(block, set)?;
+            }
+            at = block.open;
+            inside = self.recipe.inside[at];
+        }
+        set = self.back(0, at, set)?;
+        self.start(set)
+    }
+
+    /// Walks back from the label `at` to the label `start` of the same block.
+    fn back(&self, start: usize, mut at: usize, mut set: Set) -> Result<Set, u8> {
+        while at > start {
+            at -= 1;
+            if self.recipe.statements[at].kind == END {
+                let block = &self.recipe.blocks[self.recipe.block[at].unwrap()];
+                set = match block.middle {
+                    Some(middle) => {
+                        let yes = self.back(block.open + 1, middle, set.clone())?;
+                        let no = self.back(middle + 1, block.end, set)?;
+                        union(&yes, no)?
+                    }
+                    None => self.settle(block, set)?,
+                };
+                at = block.open;
+            } else {
+                self.statement(at, &mut set)?;
+            }
+        }
+        Ok(set)
+    }
+
+    /// The whole of a while, from the set after it. S(0) is that set, S(k+1) is
+    /// S(0) joined with the body's walk of S(k); the first S(k) equal to S(k-1),
+    /// k from 1 to 16, is the result.
+    fn settle(&self, block: &Block, after: Set) -> Result<Set, u8> {
+        let mut last = after.clone();
+        for _ in 0..MOST_ROUNDS {
+            let body = self.back(block.open + 1, block.end, last.clone())?;
+            let next = union(&after, body)?;
+            if next.conjuncts == last.conjuncts {
+                return Ok(next);
+            }
+            last = next;
+        }
+        Err(11)
+    }
+
+    /// The rule of one statement. Kinds 0 to 6 put in no atoms with n and leave
+    /// those present in their order, so they need no renumbering.
+    fn statement(&self, label: usize, set: &mut Set) -> Result<(), u8> {
+        let s = &self.recipe.statements[label];
+        if s.kind == STORE {
+            return self.store(s, set);
+        }
+        let bit = 1u64 << (s.a & 63);
+        if s.kind > LOAD || set.variables & bit == 0 {
+            return Ok(());
+        }
+        set.variables &= !bit;
+        let old = self.variable(s.a);
+        let ty = self.recipe.variables[s.a as usize];
+        match s.kind {
+            CONSTANT => {
+                let new = node(CONSTANT, ty, 0, s.immediate);
+                set.change(|c| Ok(swap(c, old, new)))
+            }
+            COPY => {
+                set.variables |= 1 << s.b;
+                let new = self.variable(s.b);
+                set.change(|c| Ok(swap(c, old, new)))
+            }
+            CONVERT => {
+                set.variables |= 1 << s.b;
+                let new = [self.variable(s.b), node(CONVERT, ty, 0, 0)];
+                set.change(|c| expand(c, old, &new))
+            }
+            READ | LOAD => {
+                // A fresh atom has n = 0 until it is renumbered.
+                let new = if s.kind == READ {
+                    node(READING, ty, s.b as u16, 0)
+                } else {
+                    set.trays |= 1 << s.b;
+                    node(LOADED, ty, label as u16, 0)
+                };
+                set.change(|c| {
+                    let found = swap(c, old, new);
+                    if found {
+                        renumber(c);
+                    }
+                    Ok(found)
+                })
+            }
+            _ => {
+                set.variables |= 1 << s.b | 1 << s.c;
+                let new = [self.variable(s.b), self.variable(s.c), node(s.kind, ty, 0, 0)];
+                set.change(|c| expand(c, old, &new))
+            }
+        }
+    }
+
+    /// The rule of a store. It makes no conjunct longer, so 9 cannot arise.
+    fn store(&self, s: &Statement, set: &mut Set) -> Result<(), u8> {
+        let bit = 1u16 << s.a;
+        if set.trays & bit == 0 {
+            return Ok(());
+        }
+        set.variables |= 1 << s.c;
+        let stored = self.variable(s.c);
+        if self.recipe.trays[s.a as usize].length == 1 {
+            set.trays &= !bit;
+            return set.change(|conjunct| {
+                let mut found = false;
+                for n in conjunct.iter_mut() {
+                    if self.loaded_from(*n, s.a) {
+                        *n = stored;
+                        found = true;
+                    }
+                }
+                Ok(found)
+            });
+        }
+        let mut conjuncts = Vec::with_capacity(MOST_CONJUNCTS);
+        for conjunct in std::mem::take(&mut set.conjuncts) {
+            let mut atoms: Vec<u64> = Vec::new();
+            for &n in &conjunct {
+                if self.loaded_from(n, s.a) && !atoms.contains(&n) {
+                    atoms.push(n);
+                }
+            }
+            // Subsets differ in which nodes are the stored variable, so 7 atoms
+            // give 128 conjuncts.
+            if 1 << atoms.len().min(7) > MOST_CONJUNCTS {
+                return Err(10);
+            }
+            for subset in 1..1 << atoms.len() {
+                let mut replaced = conjunct.clone();
+                for n in replaced.iter_mut() {
+                    if let Some(place) = atoms.iter().position(|atom| atom == n) {
+                        if subset >> place & 1 == 1 {
+                            *n = stored;
+                        }
+                    }
+                }
+                renumber(&mut replaced);
+                insert(&mut conjuncts, replaced)?;
+            }
+            insert(&mut conjuncts, conjunct)?;
+        }
+        set.conjuncts = conjuncts;
+        Ok(())
+    }
+
+    /// The rule at the recipe's start: every variable and cell is 0 there.
+    fn start(&self, mut set: Set) -> Result<Set, u8> {
+        set.variables = 0;
+        set.trays = 0;
+        set.change(|conjunct| {
+            let mut found = false;
+            for n in conjunct.iter_mut() {
+                if kind(*n) == VARIABLE || kind(*n) == LOADED {
+                    *n = node(CONSTANT, ty(*n), 0, 0);
+                    found = true;
+                }
+            }
+            Ok(found)
+        })?;
+        Ok(set)
+    }
+
+    /// The node of a variable.
+    fn variable(&self, variable: u8) -> u64 {
+        node(VARIABLE, self.recipe.variables[variable as usize], variable as u16, 0)
+    }
+
+    /// Whether a node is a value loaded from a tray.
+    fn loaded_from(&self, n: u64, tray: u8) -> bool {
+        kind(n) == LOADED && self.recipe.statements[field(n)].b == tray
+    }
+}

@@ -1,0 +1,44 @@
+//! The survey gate of document 01: recipe, condition, sheet, gate and run.
+//!
+//! An independent implementation, written from the document for differential
+//! tests and benchmarks. A refusal is the number of its cause in the document's
+//! table. Cause 1 speaks of lent lengths and cannot arise here, since the
+//! library owns its outputs and scratch.
+
+pub mod analysis;
+pub mod bigint;
+pub mod condition;
+pub mod gate;
+pub mod generate;
+pub mod recipe;
+pub mod run;
+pub mod sheet;
+pub mod types;
+pub mod whole;
+
+pub use bigint::BigInt;
+pub use run::{run, Ran};
+pub use whole::{whole_bits, whole_run, Noted};
+
+/// The condition file of a recipe, or the refusal 2 to 11.
+pub fn derive(recipe: &[u8]) -> Result<Vec<u8>, u8> {
+    let recipe = recipe::Recipe::read(recipe)?;
+    let conjuncts = analysis::conjuncts(&recipe)?;
+    Ok(condition::write(&recipe.fields, &conjuncts))
+}
+
+/// The gate: true for pass, false for held, or the refusal 12 to 14.
+pub fn check(condition: &[u8], sheet: &[u8]) -> Result<bool, u8> {
+    let condition = condition::Condition::read(condition)?;
+    let sheet = sheet::Sheet::read(sheet, &condition.types)?;
+    gate::check(&condition, &sheet)
+}
+
+/// What the listing program prints for a recipe.
+pub fn listing(recipe: &[u8]) -> String {
+    let conjuncts = recipe::Recipe::read(recipe).and_then(|r| analysis::conjuncts(&r));
+    match conjuncts {
+        Ok(conjuncts) => condition::listing(&conjuncts),
+        Err(number) => format!("refused {number}\n"),
+    }
+}

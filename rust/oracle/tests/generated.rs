@@ -1,0 +1,154 @@
+//! Generated cases: the implementation must be coherent with itself.
+
+use gate_oracle::generate::{self, Rng};
+use gate_oracle::types::TYPES;
+use gate_oracle::*;
+use std::collections::BTreeMap;
+
+const CASES: u64 = 20_000;
+
+/// Whole numbers longer than this are not worked out.
+const MOST_BITS: u64 = 50_000;
+
+/// The field types of a recipe whose table is right, or else some types.
+fn field_types(recipe: &[u8]) -> Vec<u8> {
+    match recipe::Recipe::read(recipe) {
+        Ok(recipe) => recipe.fields,
+        Err(_) => vec![2],
+    }
+}
+
+/// A log's 8 bytes as the number they give.
+fn logged(recipe: &[u8], label: u16, bytes: &[u8]) -> BigInt {
+    let recipe = recipe::Recipe::read(recipe).unwrap();
+    let ty = recipe.variables[recipe.statements[label as usize].a as usize];
+    let value = u64::from_le_bytes(bytes.try_into().unwrap());
+    let number = types::number(ty, value);
+    let range = &TYPES[ty as usize];
+    assert!(range.lowest as i128 <= number && number <= range.highest as i128);
+    BigInt::from(number)
+}
+
+#[test]
+fn coherent() {
+    let mut tally: BTreeMap<String, usize> = BTreeMap::new();
+    let mut count = |what: String| *tally.entry(what).or_default() += 1;
+    for case in 0..CASES {
+        let rng = &mut Rng::new(case);
+        let mut recipe = generate::recipe(rng);
+        let damaged = rng.chance(15);
+        if damaged {
+            generate::damage(rng, &mut recipe);
+        }
+        let types = field_types(&recipe);
+        let mut sheet = generate::sheet(rng, &types);
+        if rng.chance(3) {
+            generate::damage(rng, &mut sheet);
+        }
+        let (limit, choices) = (generate::limit(rng), generate::choices(rng));
+        let mut log = vec![0xA5; generate::log_length(rng)];
+
+        let derived = derive(&recipe);
+        let from = if damaged { "damaged" } else { "whole" };
+        count(match &derived {
+            Ok(_) => format!("derive, {from}: accepted"),
+            Err(number) => format!("derive, {from}: refused {number:2}"),
+        });
+        let listing = listing(&recipe);
+        let first = listing.lines().next().unwrap();
+        let verdict = derived.as_ref().ok().map(|condition| {
+            let conjuncts = u32::from_le_bytes(condition[..4].try_into().unwrap());
+            assert_eq!(first, format!("conjuncts {conjuncts}"), "case {case}");
+            assert_eq!(listing.lines().count(), conjuncts as usize + 1, "case {case}");
+            let verdict = check(condition, &sheet);
+            count(format!("gate on derived: {verdict:?}"));
+            assert_ne!(verdict, Err(12), "case {case}");
+            verdict
+        });
+        if let Err(number) = derived {
+            assert_eq!(listing, format!("refused {number}\n"), "case {case}");
+        }
+
+        let ran = run(&recipe, &sheet, limit, &choices, &mut log);
+        count(match ran {
+            Ok(ran) => format!("run: end {}", ran.end),
+            Err(number) => format!("run: refused {number:2}"),
+        });
+        let bits = whole_bits(&recipe, &sheet, limit, &choices, log.len());
+        let Ok(ran) = ran else {
+            assert_eq!(bits, Err(ran.unwrap_err()), "case {case}");
+            assert!(log.iter().all(|&byte| byte == 0xA5), "case {case}");
+            continue;
+        };
+        if bits.unwrap() > MOST_BITS {
+            count("whole: too long to work out".to_string());
+            assert_ne!(verdict, Some(Ok(true)), "case {case}");
+            continue;
+        }
+        let notes = whole_run(&recipe, &sheet, limit, &choices, log.len()).unwrap();
+        assert_eq!(notes.len() as u64, ran.records, "case {case}");
+        let (records, rest) = log.split_at(12 * notes.len());
+        assert!(rest.iter().all(|&byte| byte == 0xA5), "case {case}");
+        for (record, note) in records.chunks_exact(12).zip(&notes) {
+            assert_eq!(u16::from_le_bytes([record[0], record[1]]), note.label, "case {case}");
+            assert_eq!(record[3], 0, "case {case}");
+            // A value is marked just if some step in its making overflowed, and
+            // an unmarked one is exact.
+            assert_eq!(record[2], (note.overflows > 0) as u8, "case {case}");
+            let same = logged(&recipe, note.label, &record[4..]) == note.number;
+            assert!(same || record[2] == 1, "case {case}");
+            if verdict == Some(Ok(true)) {
+                // Demand 3.
+                assert_eq!(record[2], 0, "case {case}: marked though the sheet passed");
+                assert!(same, "case {case}");
+                count("records of passed sheets".to_string());
+            } else if record[2] == 1 {
+                count("marked records of other runs".to_string());
+            }
+        }
+        if notes.iter().any(|note| note.number.bits() > 64) {
+            count("whole: over 64 bits".to_string());
+        }
+    }
+    for (what, times) in &tally {
+        println!("{times:7} {what}");
+    }
+    let times = |what: &str| tally.get(what).copied().unwrap_or(0);
+    let accepted = times("derive, whole: accepted") + times("derive, damaged: accepted");
+    println!("{accepted} of {CASES} accepted");
+    assert!(accepted as u64 * 3 >= CASES);
+    assert!(times("gate on derived: Ok(true)") > 0 && times("gate on derived: Ok(false)") > 0);
+    for number in 2..=11 {
+        let sum = times(&format!("derive, whole: refused {number:2}"))
+            + times(&format!("derive, damaged: refused {number:2}"));
+        assert!(sum > 0, "refusal {number} never occurs");
+    }
+}
+
+#[test]
+fn conditions() {
+    let mut tally: BTreeMap<String, usize> = BTreeMap::new();
+    for case in 0..CASES {
+        let rng = &mut Rng::new(1_000_000 + case);
+        let file = generate::condition(rng);
+        let types = match condition::Condition::read(&file) {
+            Ok(condition) => {
+                // What was read writes back to the same bytes.
+                assert_eq!(condition::write(&condition.types, &condition.conjuncts), file);
+                condition.types
+            }
+            Err(_) => vec![2],
+        };
+        let mut sheet = generate::sheet(rng, &types);
+        if rng.chance(10) {
+            generate::damage(rng, &mut sheet);
+        }
+        *tally.entry(format!("{:?}", check(&file, &sheet))).or_default() += 1;
+    }
+    for (what, times) in &tally {
+        println!("{times:7} gate on made-up: {what}");
+    }
+    for what in ["Ok(true)", "Ok(false)", "Err(12)", "Err(13)", "Err(14)"] {
+        assert!(tally.contains_key(what), "{what} never occurs");
+    }
+}

@@ -1,0 +1,413 @@
+//! The quick forms of the library against plain ones: arithmetic in `i128`, the
+//! analysis on trees without any short cut, and the gate by counting through all
+//! combinations.
+
+use gate_oracle::condition::{field, kind, rest, ty, Condition};
+use gate_oracle::generate::{self, Rng};
+use gate_oracle::types::*;
+use gate_oracle::*;
+use std::collections::{BTreeMap, BTreeSet};
+
+fn range(ty: u8) -> (i128, i128) {
+    let bits = [8, 16, 32, 64][ty as usize % 4];
+    if ty < 4 {
+        (0, (1 << bits) - 1)
+    } else {
+        (-(1 << (bits - 1)), (1 << (bits - 1)) - 1)
+    }
+}
+
+/// A step in whole numbers, and whether it overflows.
+fn whole_step(kind: u8, ty: u8, left: i128, right: i128) -> (i128, bool) {
+    let (low, high) = range(ty);
+    let result = match kind {
+        ADD => left.checked_add(right),
+        SUBTRACT => left.checked_sub(right),
+        // Only u64 goes past an i128, and then it overflows.
+        MULTIPLY => left.checked_mul(right),
+        DIVIDE => left.checked_div(right),
+        _ => Some(left),
+    };
+    match result {
+        Some(result) => (result, result < low || high < result),
+        None => (0, true),
+    }
+}
+
+#[test]
+fn arithmetic() {
+    let mut rng = Rng::new(7);
+    for ty in 0..8u8 {
+        let (low, high) = range(ty);
+        let mut values: Vec<i128> = Vec::new();
+        if high - low < 256 {
+            values.extend(low..=high);
+        } else {
+            for edge in
+                [0, low, high, high / 2, low / 2, 46_341, 65_536, 1 << 31, 1 << 32, 0xb504_f334]
+            {
+                values.extend(edge - 3..=edge + 3);
+            }
+            values.extend((0..60).map(|_| number(ty, wrap(ty, rng.draw() >> rng.below(64)))));
+            values.retain(|&v| low <= v && v <= high);
+        }
+        let modulus = high - low + 1;
+        let wrapped = |n: i128| (n - low).rem_euclid(modulus) + low;
+        for &x in &values {
+            assert_eq!(number(ty, x as u64), x);
+            for to in 0..8u8 {
+                let (low, high) = range(to);
+                assert_eq!(fits(ty, to, x as u64), low <= x && x <= high);
+                let back = (x - low).rem_euclid(high - low + 1) + low;
+                assert_eq!(number(to, wrap(to, x as u64)), back);
+            }
+            for &y in &values {
+                for kind in ADD..=DIVIDE {
+                    let (result, over) = whole_step(kind, ty, x, y);
+                    assert_eq!(exact(kind, ty, x as u64, y as u64).is_none(), over);
+                    let (held, marked) = wrapping(kind, ty, x as u64, y as u64);
+                    assert_eq!(marked, over);
+                    // u64 products past an i128 are left out here.
+                    if kind != MULTIPLY || x.checked_mul(y).is_some() {
+                        assert_eq!(number(ty, held), wrapped(result), "{kind} {ty} {x} {y}");
+                    }
+                }
+            }
+        }
+    }
+}
+
+/// An expression with its atoms.
+#[derive(Clone, PartialEq, Eq, PartialOrd, Ord)]
+enum Tree {
+    Constant(u8, u32),
+    Variable(u8),
+    Reading(u8, u32),
+    Loaded(usize, u32),
+    Step(u8, u8, Box<Tree>, Box<Tree>),
+    Convert(u8, Box<Tree>),
+}
+
+impl Tree {
+    fn nodes(&self) -> usize {
+        match self {
+            Tree::Step(_, _, left, right) => 1 + left.nodes() + right.nodes(),
+            Tree::Convert(_, of) => 1 + of.nodes(),
+            _ => 1,
+        }
+    }
+
+    /// Every atom replaced, from left to right.
+    fn replace(&self, f: &mut dyn FnMut(&Tree) -> Tree) -> Tree {
+        match self {
+            Tree::Step(kind, ty, left, right) => {
+                let left = left.replace(f);
+                Tree::Step(*kind, *ty, Box::new(left), Box::new(right.replace(f)))
+            }
+            Tree::Convert(ty, of) => Tree::Convert(*ty, Box::new(of.replace(f))),
+            atom => f(atom),
+        }
+    }
+
+    fn renumbered(&self) -> Tree {
+        let mut fields: BTreeMap<u8, Vec<u32>> = BTreeMap::new();
+        let mut labels: BTreeMap<usize, Vec<u32>> = BTreeMap::new();
+        let place = |met: &mut Vec<u32>, n: u32| {
+            if !met.contains(&n) {
+                met.push(n);
+            }
+            met.iter().position(|&m| m == n).unwrap() as u32 + 1
+        };
+        self.replace(&mut |atom| match *atom {
+            Tree::Reading(f, n) => Tree::Reading(f, place(fields.entry(f).or_default(), n)),
+            Tree::Loaded(l, n) => Tree::Loaded(l, place(labels.entry(l).or_default(), n)),
+            ref other => other.clone(),
+        })
+    }
+
+    fn text(&self, recipe: &recipe::Recipe) -> String {
+        let name = |ty: u8| TYPES[ty as usize].name;
+        match self {
+            Tree::Constant(ty, n) if *ty < 4 => format!("{n}:{}", name(*ty)),
+            Tree::Constant(ty, n) => format!("{}:{}", *n as i32, name(*ty)),
+            Tree::Reading(f, n) => format!("f{f}<{n}>:{}", name(recipe.fields[*f as usize])),
+            Tree::Step(kind, ty, left, right) => {
+                let word = ["add", "sub", "mul", "div"][*kind as usize - 2];
+                format!("{} {} {word}:{}", left.text(recipe), right.text(recipe), name(*ty))
+            }
+            Tree::Convert(ty, of) => format!("{} to:{}", of.text(recipe), name(*ty)),
+            _ => panic!("left over"),
+        }
+    }
+}
+
+type Trees = BTreeSet<Tree>;
+
+/// Statements as a tree of blocks.
+enum Part {
+    Plain(usize),
+    If(Vec<Part>, Vec<Part>),
+    While(Vec<Part>),
+}
+
+fn parts(recipe: &recipe::Recipe, at: &mut usize) -> Vec<Part> {
+    let mut list = Vec::new();
+    while let Some(s) = recipe.statements.get(*at) {
+        let label = *at;
+        *at += 1;
+        match s.kind {
+            IF => {
+                let yes = parts(recipe, at);
+                list.push(Part::If(yes, parts(recipe, at)));
+            }
+            WHILE => list.push(Part::While(parts(recipe, at))),
+            ELSE | END => break,
+            _ => list.push(Part::Plain(label)),
+        }
+    }
+    list
+}
+
+fn has(parts: &[Part], label: usize) -> bool {
+    parts.iter().any(|part| match part {
+        Part::Plain(l) => *l == label,
+        Part::If(yes, no) => has(yes, label) || has(no, label),
+        Part::While(body) => has(body, label),
+    })
+}
+
+/// What is done after every rule: renumber, merge, then the limits.
+fn rule(trees: impl IntoIterator<Item = Tree>) -> Result<Trees, u8> {
+    let set: Trees = trees.into_iter().map(|tree| tree.renumbered()).collect();
+    if set.iter().any(|tree| tree.nodes() > 120) {
+        return Err(9);
+    }
+    if set.len() > 64 {
+        Err(10)
+    } else {
+        Ok(set)
+    }
+}
+
+fn walk(recipe: &recipe::Recipe, list: &[Part], mut set: Trees) -> Result<Trees, u8> {
+    for part in list.iter().rev() {
+        set = match part {
+            Part::Plain(label) => plain(recipe, *label, &set)?,
+            Part::If(yes, no) => {
+                let one = walk(recipe, yes, set.clone())?;
+                let other = walk(recipe, no, set)?;
+                rule(one.into_iter().chain(other))?
+            }
+            Part::While(body) => rounds(recipe, body, set)?,
+        };
+    }
+    Ok(set)
+}
+
+fn rounds(recipe: &recipe::Recipe, body: &[Part], first: Trees) -> Result<Trees, u8> {
+    let mut before = first.clone();
+    for _ in 1..=16 {
+        let walked = walk(recipe, body, before.clone())?;
+        let now = rule(first.iter().cloned().chain(walked))?;
+        if now == before {
+            return Ok(now);
+        }
+        before = now;
+    }
+    Err(11)
+}
+
+fn plain(recipe: &recipe::Recipe, label: usize, set: &Trees) -> Result<Trees, u8> {
+    let s = recipe.statements[label];
+    let variable = |v: u8| Box::new(Tree::Variable(v));
+    let own = |v: u8| recipe.variables[v as usize];
+    let new = match s.kind {
+        CONSTANT => Tree::Constant(own(s.a), s.immediate),
+        COPY => Tree::Variable(s.b),
+        ADD..=DIVIDE => Tree::Step(s.kind, own(s.a), variable(s.b), variable(s.c)),
+        CONVERT => Tree::Convert(own(s.a), variable(s.b)),
+        READ => Tree::Reading(s.b, 9_999),
+        LOAD => Tree::Loaded(label, 9_999),
+        STORE => {
+            let of_tray =
+                |tree: &Tree| matches!(tree, Tree::Loaded(l, _) if recipe.statements[*l].b == s.a);
+            let mut all = Vec::new();
+            for tree in set {
+                let mut atoms: Vec<Tree> = Vec::new();
+                tree.replace(&mut |atom| {
+                    if of_tray(atom) && !atoms.contains(atom) {
+                        atoms.push(atom.clone());
+                    }
+                    atom.clone()
+                });
+                // More than enough to pass 64; a long enumeration would only take time.
+                let counted = atoms.len().min(8);
+                let long = recipe.trays[s.a as usize].length > 1;
+                for subset in if long { 0..1 << counted } else { (1 << counted) - 1..1 << counted }
+                {
+                    all.push(tree.replace(
+                        &mut |atom| match atoms.iter().position(|a| a == atom) {
+                            Some(place) if !long || (place < 8 && subset >> place & 1 == 1) => {
+                                *variable(s.c)
+                            }
+                            _ => atom.clone(),
+                        },
+                    ));
+                }
+            }
+            return rule(all);
+        }
+        _ => return Ok(set.clone()),
+    };
+    rule(set.iter().map(|tree| {
+        tree.replace(&mut |atom| {
+            if *atom == Tree::Variable(s.a) {
+                new.clone()
+            } else {
+                atom.clone()
+            }
+        })
+    }))
+}
+
+/// From a site inside a list of parts to the list's start.
+fn from(recipe: &recipe::Recipe, list: &[Part], site: usize) -> Result<Trees, u8> {
+    let place = list.iter().position(|part| has(std::slice::from_ref(part), site)).unwrap();
+    let set = match &list[place] {
+        Part::Plain(label) => rule([Tree::Variable(recipe.statements[*label].a)])?,
+        Part::If(yes, no) => from(recipe, if has(yes, site) { yes } else { no }, site)?,
+        Part::While(body) => {
+            let first = from(recipe, body, site)?;
+            rounds(recipe, body, first)?
+        }
+    };
+    walk(recipe, &list[..place], set)
+}
+
+/// The listing by the plain analysis, its conjuncts in any order.
+fn plain_listing(bytes: &[u8]) -> Result<Vec<String>, u8> {
+    let recipe = recipe::Recipe::read(bytes)?;
+    let list = parts(&recipe, &mut 0);
+    let mut all = Trees::new();
+    for (label, _) in recipe.statements.iter().enumerate().filter(|(_, s)| s.kind == SITE) {
+        let set = from(&recipe, &list, label)?;
+        let set = rule(set.iter().map(|tree| {
+            tree.replace(&mut |atom| match *atom {
+                Tree::Variable(v) => Tree::Constant(recipe.variables[v as usize], 0),
+                Tree::Loaded(l, _) => {
+                    Tree::Constant(recipe.trays[recipe.statements[l].b as usize].ty, 0)
+                }
+                ref other => other.clone(),
+            })
+        }))?;
+        all = rule(all.into_iter().chain(set))?;
+    }
+    Ok(all.iter().map(|tree| tree.text(&recipe)).collect())
+}
+
+#[test]
+fn analysis() {
+    for case in 0..6_000 {
+        let rng = &mut Rng::new(5_000_000 + case);
+        let mut recipe = generate::recipe(rng);
+        if rng.chance(10) {
+            generate::damage(rng, &mut recipe);
+        }
+        let quick = listing(&recipe);
+        match plain_listing(&recipe) {
+            Err(number) => assert_eq!(quick, format!("refused {number}\n"), "case {case}"),
+            Ok(mut expected) => {
+                let mut lines: Vec<&str> =
+                    quick.lines().skip(1).map(|line| line.split_once(": ").unwrap().1).collect();
+                lines.sort();
+                expected.sort();
+                assert_eq!(lines, expected, "case {case}");
+            }
+        }
+    }
+}
+
+/// The gate's verdict by counting through all combinations, or nothing if these are many.
+fn plain_gate(condition: &Condition, sheet: &[u8]) -> Option<bool> {
+    let number_at = |at: usize| u32::from_le_bytes(sheet[at..at + 4].try_into().unwrap()) as usize;
+    let readings: Vec<Vec<i128>> = condition
+        .types
+        .iter()
+        .enumerate()
+        .map(|(f, &ty)| {
+            let part = &sheet[number_at(8 * f)..number_at(8 * f) + number_at(8 * f + 4)];
+            let bytes = part.chunks_exact([1, 2, 4, 8][ty as usize % 4]);
+            bytes
+                .map(|bytes| {
+                    let value = bytes.iter().rev().fold(0, |sum, &byte| sum << 8 | byte as i128);
+                    let (low, high) = range(ty);
+                    if value > high {
+                        value - (high - low + 1)
+                    } else {
+                        value
+                    }
+                })
+                .collect()
+        })
+        .collect();
+    let mut pass = true;
+    for conjunct in &condition.conjuncts {
+        let mut atoms: Vec<u64> = conjunct.iter().copied().filter(|&n| kind(n) == 1).collect();
+        atoms.sort();
+        atoms.dedup();
+        let counts: Vec<usize> = atoms.iter().map(|&n| readings[field(n)].len()).collect();
+        let total = counts.iter().try_fold(1usize, |product, &n| product.checked_mul(n));
+        let total = if counts.contains(&0) { 0 } else { total.filter(|&n| n <= 5_000)? };
+        for combination in 0..total {
+            let mut left = combination;
+            let mut chosen: BTreeMap<u64, i128> = BTreeMap::new();
+            for (&atom, &count) in atoms.iter().zip(&counts) {
+                chosen.insert(atom, readings[field(atom)][left % count]);
+                left /= count;
+            }
+            let mut stack: Vec<i128> = Vec::new();
+            for &n in conjunct {
+                let value = match kind(n) {
+                    0 if ty(n) < 4 => rest(n) as i128,
+                    0 => rest(n) as i32 as i128,
+                    1 => chosen[&n],
+                    kind => {
+                        let right = stack.pop().unwrap();
+                        let left = if kind == CONVERT { right } else { stack.pop().unwrap() };
+                        let (result, over) = whole_step(kind, ty(n), left, right);
+                        pass &= !over;
+                        result
+                    }
+                };
+                stack.push(value);
+                if !pass {
+                    break;
+                }
+            }
+        }
+    }
+    Some(pass)
+}
+
+#[test]
+fn gate() {
+    let mut compared = 0;
+    for case in 0..8_000 {
+        let rng = &mut Rng::new(9_000_000 + case);
+        let file = if rng.chance(50) {
+            generate::condition(rng)
+        } else {
+            match derive(&generate::recipe(rng)) {
+                Ok(file) => file,
+                Err(_) => continue,
+            }
+        };
+        let Ok(condition) = Condition::read(&file) else { continue };
+        let sheet = generate::sheet(rng, &condition.types);
+        if let Some(pass) = plain_gate(&condition, &sheet) {
+            assert_eq!(check(&file, &sheet), Ok(pass), "case {case}");
+            compared += 1;
+        }
+    }
+    assert!(compared > 4_000, "{compared}");
+}
