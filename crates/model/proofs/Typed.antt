@@ -48,7 +48,7 @@ module _ (T : Tables) (I : Input) (typed : TypedInput T I) where
       in-var σ h a (reading (r ∷ rs) c)
       (rw e (all-getD (λ z. fits (fieldType T f) z ≡ true) (r ∷ rs) (c % length (r ∷ rs)) (pos 0) k (mod-lt c (suc-le-suc zero-le))))
 
-  exec-in : (σ : State) → InTypes T σ → (i : Instr) → TypedInstr T i → (ch : List ℕ) → Leads (InTypes T) (exec I σ i ch)
+  pub exec-in : (σ : State) → InTypes T σ → (i : Instr) → TypedInstr T i → (ch : List ℕ) → Leads (InTypes T) (exec I σ i ch)
   unfolding exec operated converted
   exec-in σ h (assign a ty (number i)) t ch = in-var σ h a _ (rw (t .0 .0) (t .1))
   exec-in σ h (assign a ty (copy b)) t ch = in-var σ h a _ (rw (t .0 .0 ∙ sym (t .1 .0)) (h .inVars b))

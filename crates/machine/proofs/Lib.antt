@@ -1,0 +1,4 @@
+pub mod Stores
+pub mod Numbers
+pub mod Records
+pub mod Executions
