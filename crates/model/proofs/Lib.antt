@@ -29,6 +29,7 @@ pub mod Laid
 pub mod Positions
 -- the run
 pub mod Runs
+pub mod Stepping
 pub mod Instruction
 pub mod Sound
 pub mod Follow
