@@ -125,7 +125,7 @@ module _ {A : Type 0} (o : A → A → Ordering) where
 
 -- ---- numbers
 
-compare-eq : (m n : ℕ) → compare m n ≡ Ordering·eq → m ≡ n
+pub compare-eq : (m n : ℕ) → compare m n ≡ Ordering·eq → m ≡ n
 compare-eq m n e = eqb-true m n (ap isEq e)
 
 compare-self : (m : ℕ) → compare m m ≡ Ordering·eq

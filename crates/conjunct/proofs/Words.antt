@@ -1,0 +1,108 @@
+-- Loops over the words of a conjunct: compared, changed one by one, and tested.
+-- Assumes nothing.
+use mathlib.Core.Bool.{Bool, false, _||_}
+use mathlib.Core.List.{List, [], _∷_, _++_, map}
+use mathlib.Core.Path.{_≡_, refl, sym, ap, ap₂, _∙_}
+use Prim.Native.Nat.{ℕ, zero, suc, _+_, _-_, _<_, _≤_, compare, Ordering·lt, Ordering·eq, Ordering·gt}
+use native.Mathlib.Numerals.{add-one}
+use native.Mathlib.Omega.{arith}
+use lib.ListN.{length, take, drop, getD, set}
+use lib.Seq.{drop-cons, take-suc, take-suc-set, drop-set-lt, getD-drop, getD-take, length-take-le, drop-length}
+use Rattle.model.proofs.Touch.{some}
+use Rattle.model.specs.Conjunct.{Node, _then_, orderNumbers, order}
+use Rattle.node.proofs.Lists.{conjunct-order}
+use Rattle.node.proofs.WordOrder.{compare-less, compare-more, compare-same}
+use Rattle.node.specs.Word.{nodeOf, nodesOf}
+
+-- ---- the order
+
+pub order-step : (s t : List ℕ) (n a b : ℕ) → 0 < n → a < length s → b < length t
+    → orderNumbers (take n (drop a s)) (take n (drop b t)) ≡ (compare (getD s a 0) (getD t b 0) then orderNumbers (take (n - 1) (drop (a + 1) s)) (take (n - 1) (drop (b + 1) t)))
+unfolding orderNumbers
+order-step s t zero a b h k l = absurd (omega arith)
+order-step s t (suc n) a b h k l =
+    let e : suc n - 1 ≡ n = omega arith in
+    rw (e, add-one a, add-one b, drop-cons s a 0 k, drop-cons t b 0 l)
+
+-- what is left to compare after i words that agree
+abbrev pub Rest : List ℕ → List ℕ → (n a b i : ℕ) → Type 0
+Rest s t n a b i = orderNumbers (take n (drop a s)) (take n (drop b t)) ≡ orderNumbers (take (n - i) (drop (a + i) s)) (take (n - i) (drop (b + i) t))
+
+pub rest-none : (s t : List ℕ) (n a b : ℕ) → Rest s t n a b 0
+rest-none s t n a b =
+    let p : n - 0 ≡ n = omega arith in
+    let q : a + 0 ≡ a = omega arith in
+    let r : b + 0 ≡ b = omega arith in
+    rw (p, q, r)
+
+module _ (s t : List ℕ) (n m a b i : ℕ) (e : n ≡ m) (k : a + n ≤ length s) (l : b + m ≤ length t) (r : Rest s t n a b i) where
+  -- the next two words
+  next : i < n → orderNumbers (take n (drop a s)) (take n (drop b t))
+      ≡ (compare (getD s (a + i) 0) (getD t (b + i) 0) then orderNumbers (take (n - (i + 1)) (drop (a + (i + 1)) s)) (take (n - (i + 1)) (drop (b + (i + 1)) t)))
+  next h =
+      let p : n - (i + 1) ≡ n - i - 1 = omega arith in
+      let q : a + (i + 1) ≡ a + i + 1 = omega arith in
+      let u : b + (i + 1) ≡ b + i + 1 = omega arith in
+      r ∙ rw (p, q, u) (order-step s t (n - i) (a + i) (b + i) (omega arith) (omega arith) (omega arith))
+
+  pub rest-less : i < n → getD s (a + i) 0 < getD t (b + i) 0 → Ordering·lt ≡ (compare n m then orderNumbers (take n (drop a s)) (take m (drop b t)))
+  rest-less h g = rw (compare-same n m e, ← e, next h, compare-less (getD s (a + i) 0) (getD t (b + i) 0) g)
+
+  pub rest-more : i < n → getD t (b + i) 0 < getD s (a + i) 0 → Ordering·gt ≡ (compare n m then orderNumbers (take n (drop a s)) (take m (drop b t)))
+  rest-more h g = rw (compare-same n m e, ← e, next h, compare-more (getD s (a + i) 0) (getD t (b + i) 0) g)
+
+  pub rest-next : i < n → getD s (a + i) 0 ≡ getD t (b + i) 0 → Rest s t n a b (i + 1)
+  rest-next h g = next h ∙ rw (compare-same (getD s (a + i) 0) (getD t (b + i) 0) g)
+
+  pub rest-same : n ≤ i → Ordering·eq ≡ (compare n m then orderNumbers (take n (drop a s)) (take m (drop b t)))
+  unfolding orderNumbers
+  rest-same h =
+      let z : n - i ≡ 0 = omega arith in
+      rw (compare-same n m e, ← e, r, z)
+
+-- ---- one more word changed
+
+pub map-join : {A B : Type 0} (f : A → B) (xs ys : List A) → map f (xs ++ ys) ≡ map f xs ++ map f ys
+map-join f [] ys = refl
+map-join f (x ∷ xs) ys = ap (f x ∷_) (map-join f xs ys)
+
+module _ (l l₀ : List ℕ) (i v : ℕ) (h : i < length l) (k : i < length l₀) (e : drop i l ≡ drop i l₀) where
+  -- the word at i is as it was
+  pub at-same : getD l i 0 ≡ getD l₀ i 0
+  at-same =
+      let p : i + 0 ≡ i = omega arith in
+      ap (λ j. getD l j 0) (sym p) ∙ sym (getD-drop i l 0 0) ∙ ap (λ x. getD x 0 0) e ∙ getD-drop i l₀ 0 0 ∙ ap (λ j. getD l₀ j 0) p
+
+  pub after-same : drop (i + 1) (set l i v) ≡ drop (i + 1) l₀
+  after-same =
+      let t : drop (suc i) l ≡ drop (suc i) l₀ = ap (drop 1) (sym (drop-cons l i 0 h) ∙ e ∙ drop-cons l₀ i 0 k) in
+      drop-set-lt (i + 1) l i v (omega arith) ∙ rw (add-one i) t
+
+  pub mapped-more : (f : Node → Node) → nodesOf (take i l) ≡ map f (nodesOf (take i l₀)) → nodeOf v ≡ f (nodeOf (getD l i 0))
+      → nodesOf (take (i + 1) (set l i v)) ≡ map f (nodesOf (take (i + 1) l₀))
+  mapped-more f m n =
+      rw (add-one i, take-suc-set l i v h, take-suc l₀ i 0 k, map-join, map-join, map-join, m, n, at-same)
+
+-- ---- tests
+
+-- one more word that does not pass
+pub some-step : (f : Node → Bool) (l : List ℕ) (n i : ℕ) → i < n → n ≤ length l
+    → some f (nodesOf (drop i (take n l))) ≡ (f (nodeOf (getD l i 0)) || some f (nodesOf (drop (i + 1) (take n l))))
+unfolding some
+some-step f l n i h k =
+    let len : length (take n l) ≡ n = length-take-le n l k in
+    rw (add-one i, drop-cons (take n l) i 0 (omega arith), getD-take n l i 0 h)
+
+pub some-none : (f : Node → Bool) (l : List ℕ) (n : ℕ) → n ≤ length l → some f (nodesOf (drop n (take n l))) ≡ false
+unfolding some
+some-none f l n k =
+    let e : drop n (take n l) ≡ [] = ap (λ j. drop j (take n l)) (sym (length-take-le n l k)) ∙ drop-length (take n l) in
+    rw e
+
+-- ---- conjuncts
+
+-- the order of two conjuncts, from their words
+pub order-values : (l m : List ℕ) (n k x y : ℕ) → n ≤ length l → k ≤ length m → take n l ≡ take x l → take k m ≡ take y m
+    → (compare n k then orderNumbers (take n l) (take k m)) ≡ order (nodesOf (take x l)) (nodesOf (take y m))
+order-values l m n k x y h g p q =
+    rw (← p, ← q) (ap₂ (λ a b. compare a b then orderNumbers (take n l) (take k m)) (sym (length-take-le n l h)) (sym (length-take-le k m g)) ∙ sym (conjunct-order (take n l) (take k m)))

@@ -1,0 +1,7 @@
+pub mod Shapes
+pub mod WordOrder
+pub mod Made
+pub mod Looked
+pub mod Lists
+pub mod Atoms
+pub mod FileWords

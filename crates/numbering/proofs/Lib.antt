@@ -1,0 +1,7 @@
+pub mod Snoc
+pub mod Ranks
+pub mod Notes
+pub mod Renumbered
+pub mod Fresh
+pub mod Replacing
+pub mod LoadsBehind

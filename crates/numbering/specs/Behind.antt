@@ -1,0 +1,71 @@
+-- The distinct atoms of a conjunct that grows at its end; the words of a right side; and what a substitution answers.
+-- Assumes nothing.
+use mathlib.Core.Bool.{true, false, cond}
+use mathlib.Core.List.{List, [], _∷_, _++_, map, flatMap}
+use mathlib.Core.Path.{_≡_}
+use Prim.Native.Nat.{ℕ, _+_, _≤_}
+use lib.Dec.{ltb}
+use lib.ListN.{length, take}
+use Rattle.model.proofs.Atoms.{has}
+use Rattle.model.proofs.Touch.{isVar, isLoad}
+use Rattle.model.specs.Conjunct.{Atom, Node, const, atom, var, op, conv, rank, renamed, onAtom, renumber}
+use Rattle.model.specs.Lists.{every}
+use Rattle.model.specs.Walk.{replace}
+use Rattle.node.specs.Word.{isAtom, atomOf, nodeOf, nodesOf}
+use Rattle.conjunct.specs.Value.{conjOf}
+use Rattle.conjunct.specs.declared.Conjunct.{Conjunct}
+use Rattle.numbering.specs.declared.Noted.{Noted}
+use Rattle.numbering.specs.declared.Rank.{Rank}
+use Rattle.numbering.specs.declared.Right.{Right}
+use Rattle.numbering.specs.declared.Substituted.{Substituted}
+
+-- the distinct atoms with a node put behind them
+unfoldable pub behind : Node → List Atom → List Atom
+behind (const ty i) ks = ks
+behind (atom a) ks = cond (has a ks) ks (ks ++ (a ∷ []))
+behind (var x ty) ks = ks
+behind (op o ty) ks = ks
+behind (conv ty) ks = ks
+
+-- the atoms of words that are all atoms'
+abbrev pub atomsOf : List ℕ → List Atom
+atomsOf ws = map atomOf ws
+
+-- all are atoms' words
+abbrev pub Atoms : List ℕ → Type 0
+Atoms ws = every isAtom ws ≡ true
+
+-- what is found of an atom among the words of atoms
+pub record Ranked (ks : List ℕ) (w : ℕ) (r : Rank) : Type 0 where
+  pub known : r .known ≡ has (atomOf w) (atomsOf ks)
+  pub number : r .n ≡ rank (atomOf w) (atomsOf ks)
+  pub small : r .n ≤ length ks
+
+-- a word noted behind the atoms ks: what they are then, and the word with its new number
+pub record Behind (ks : List ℕ) (w m : ℕ) (after : List ℕ) (r : Noted) : Type 0 where
+  pub count : r .count ≤ m + 1
+  pub atoms : atomsOf (take (r .count) after) ≡ behind (nodeOf w) (atomsOf ks)
+  pub all : Atoms (take (r .count) after)
+  pub word : nodeOf (r .word) ≡ onAtom (λ a. atom (renamed (behind (nodeOf w) (atomsOf ks)) a)) (nodeOf w)
+
+-- a word noted behind the loads ks from an array, if it is one of them
+pub record LoadBehind (t k : ℕ) (ks : List ℕ) (w : ℕ) (after : List ℕ) : Type 0 where
+  pub atoms : atomsOf after ≡ cond (isLoad t k (nodeOf w)) (behind (nodeOf w) (atomsOf ks)) (atomsOf ks)
+  pub all : Atoms after
+
+-- the words of a right side
+abbrev pub rightWords : Right → List ℕ
+rightWords r = take (r .len) (r .nodes)
+
+-- its nodes
+abbrev pub rightOf : Right → List Node
+rightOf r = nodesOf (rightWords r)
+
+-- a word, or the right side in the place of the variable x
+unfoldable pub pieceOf : ℕ → List ℕ → ℕ → List ℕ
+pieceOf x r w = cond (isVar x (nodeOf w)) r (w ∷ [])
+
+-- the answer of a substitution of r for x in e: whether it has over 120 nodes, and if not, what it is, numbered anew
+pub record Replaced (e : Conjunct) (x : ℕ) (r : Right) (s : Substituted) : Type 0 where
+  pub over : s .over ≡ ltb 120 (length (flatMap (replace x (rightOf r)) (conjOf e)))
+  pub conj : s .over ≡ false → conjOf (s .conj) ≡ renumber (flatMap (replace x (rightOf r)) (conjOf e))

@@ -1,0 +1,192 @@
+// The numbering of a conjunct's atoms, the substitution for a variable, and the loads of an array.
+// Assumes nothing.
+ghost use mathlib.Core.Path.{_≡_};
+ghost use mathlib.Core.Bool.{true, cond};
+ghost use mathlib.Core.List.{map, _++_};
+ghost use Prim.Native.Nat.{ℕ, _+_, _<_, _≤_};
+ghost use lib.Dec.{eqb};
+ghost use lib.ListN.{length, take};
+ghost use Rattle.model.specs.Conjunct.{Atom, atom, renumber, atoms};
+ghost use Rattle.model.specs.Lists.{All};
+ghost use Rattle.model.specs.Walk.{loads};
+ghost use Rattle.model.proofs.Meaning.{AtAtom};
+ghost use Rattle.model.proofs.TidySets.{Numbered};
+ghost use Rattle.node.specs.Word.{isAtom, keyOf, nodeOf, nodesOf};
+ghost use Rattle.conjunct.specs.Value.{conjOf};
+ghost use Rattle.numbering.specs.Behind.{Atoms, Ranked, Behind, LoadBehind, rightWords, rightOf, pieceOf, Replaced};
+use conjunct::Conjunct;
+
+// how many atoms of its source stand before an atom, and whether it is there
+pub struct Rank {
+    pub n: u64,
+    pub known: bool,
+}
+
+// a word with its new number, and how many atoms there are then
+pub struct Noted {
+    pub word: u64,
+    pub count: usize,
+}
+
+// a right side of an assignment: at most 3 nodes
+pub struct Right {
+    pub len: usize,
+    pub nodes: [u64; 3],
+}
+
+// a conjunct after a substitution, or over 120 nodes
+pub struct Substituted {
+    pub over: bool,
+    pub conj: Conjunct,
+}
+
+fn tick(k: u64, s: u64) -> u64
+    ensures { λ r. ⌜ (r ≡ cond (eqb s (keyOf k)) 1 0) × (r ≤ 1) ⌝ }
+{
+    if s == node::source(k) { 1 } else { 0 }
+}
+
+fn look_up(seen: &[u64], m: usize, w: u64) -> Rank
+    requires { ⌜ (m ≤ length (now seen)) × Atoms (take m (now seen)) × (isAtom w ≡ true) ⌝ }
+    ensures { λ r. ⌜ Ranked (take m (now (seen .entry))) w r ⌝ }
+{
+    let s = node::source(w);
+    let mut n: u64 = 0;
+    let mut j: usize = 0;
+    while j < m {
+        let k = seen[j];
+        if k == w {
+            return Rank { n: n, known: true };
+        }
+        n += tick(k, s);
+        j += 1;
+    }
+    Rank { n: n, known: false }
+}
+
+fn note(seen: &mut [u64], m: usize, w: u64) -> Noted
+    requires { ⌜ (m < 120) × (m < length (now seen)) × Atoms (take m (now seen)) ⌝ }
+    ensures { λ r. ⌜ Behind (take m (now (seen .entry))) w m (now (seen .exit)) r ⌝ }
+{
+    if !node::is_atom(w) {
+        return Noted { word: w, count: m };
+    }
+    let r = look_up(seen, m, w);
+    let v = node::numbered(w, r.n + 1);
+    if r.known {
+        return Noted { word: v, count: m };
+    }
+    seen[m] = w;
+    Noted {
+        word: v,
+        count: m + 1,
+    }
+}
+
+// the n of each source count from 1 by first appearance
+pub fn renumber(e: Conjunct) -> Conjunct
+    ensures { λ r. ⌜ conjOf r ≡ renumber (conjOf e) ⌝ }
+{
+    let n = conjunct::capped(e.len);
+    let mut r = e;
+    let mut seen: [u64; 120] = [0; 120];
+    let mut m: usize = 0;
+    let mut i: usize = 0;
+    while i < n {
+        let w = r.nodes[i];
+        let p = note(&mut seen, m, w);
+        r.nodes[i] = p.word;
+        m = p.count;
+        i += 1;
+    }
+    r
+}
+
+fn piece(w: u64, x: u64, r: Right) -> Right
+    requires { ⌜ r .len ≤ 3 ⌝ }
+    ensures { λ p. ⌜ (rightWords p ≡ pieceOf x (rightWords r) w) × (p .len ≤ 3) × (length (rightWords p) ≡ p .len) ⌝ }
+{
+    if node::is_variable(w, x) {
+        return r;
+    }
+    Right {
+        len: 1,
+        nodes: [w, 0, 0],
+    }
+}
+
+fn put(out: &mut [u64], m: usize, p: Right)
+    requires { ⌜ (p .len ≤ 3) × (m + p .len ≤ length (now out)) ⌝ }
+    ensures { λ _. ⌜ take (m + p .len) (now (out .exit)) ≡ take m (now (out .entry)) ++ rightWords p ⌝ }
+{
+    let n = p.len;
+    let mut j: usize = 0;
+    while j < n {
+        out[m + j] = p.nodes[j];
+        j += 1;
+    }
+}
+
+// the right side r for the variable x, numbered anew
+pub fn substitute(e: Conjunct, x: u64, r: Right) -> Substituted
+    requires { ⌜ (r .len ≤ 3) × Numbered (conjOf e) × All (AtAtom (λ a. a .n ≡ 0)) (rightOf r) ⌝ }
+    ensures { λ s. ⌜ Replaced e x r s ⌝ }
+{
+    let n = conjunct::capped(e.len);
+    let mut out: [u64; 120] = [0; 120];
+    let mut m: usize = 0;
+    let mut i: usize = 0;
+    while i < n {
+        let p = piece(e.nodes[i], x, r);
+        let k = p.len;
+        if m + k > 120 {
+            return Substituted {
+                over: true,
+                conj: e,
+            };
+        }
+        put(&mut out, m, p);
+        m += k;
+        i += 1;
+    }
+    let c = Conjunct { len: m, nodes: out };
+    let d = renumber(c);
+    Substituted {
+        over: false,
+        conj: d,
+    }
+}
+
+fn note_load(seen: &mut [u64], m: usize, w: u64, array: u64, len: u64) -> usize
+    requires { ⌜ (m < length (now seen)) × Atoms (take m (now seen)) ⌝ }
+    ensures { λ r. ⌜ (r ≤ m + 1) × LoadBehind array len (take m (now (seen .entry))) w (take r (now (seen .exit))) ⌝ }
+{
+    if !node::is_load(w, array, len) {
+        return m;
+    }
+    let r = look_up(seen, m, w);
+    if r.known {
+        return m;
+    }
+    seen[m] = w;
+    m + 1
+}
+
+// the distinct loads from the array by first appearance, as nodes
+pub fn loads(e: Conjunct, array: u64, len: u64) -> Conjunct
+    ensures { λ r. ⌜ conjOf r ≡ map atom (loads array len (atoms (conjOf e))) ⌝ }
+{
+    let n = conjunct::capped(e.len);
+    let mut seen: [u64; 120] = [0; 120];
+    let mut m: usize = 0;
+    let mut i: usize = 0;
+    while i < n {
+        let w = e.nodes[i];
+        m = note_load(&mut seen, m, w, array, len);
+        i += 1;
+    }
+    Conjunct {
+        len: m,
+        nodes: seen,
+    }
+}

@@ -1,0 +1,7 @@
+pub mod Overlaid
+pub mod Rows
+pub mod Slots
+pub mod Places
+pub mod Placed
+pub mod Inserting
+pub mod Copied

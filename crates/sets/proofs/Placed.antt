@@ -1,0 +1,160 @@
+-- A region in which one slot was put before the i-th of its n: the slots from there on stand one higher, and the count is one more.
+-- Assumes nothing.
+use mathlib.Core.List.{List, [], _∷_, _++_, map}
+use mathlib.Core.Logic.{inl, inr}
+use mathlib.Core.Path.{_≡_, refl, sym, ap, ap₂, _∙_}
+use Prim.Native.Nat.{ℕ, zero, suc, _+_, _-_, _*_, _<_, _≤_}
+use native.Mathlib.Omega.{arith}
+use lib.ListN.{length, getD, take, drop, set, length-append, length-drop, length-set, List·getD-append}
+use lib.Seq.{ext-getD, getD-take, getD-drop, getD-at, getD-append-add, length-take-le, drop-set-lt, getD-set-same, getD-set-other}
+use Rattle.bytes_le.proofs.Overlays.{length-overlay, overlay-read}
+use Rattle.bytes_le.specs.Overlay.{overlay}
+use Rattle.node.proofs.WordOrder.{Tri, less, equal, more, tri}
+use Rattle.node.specs.Word.{nodesOf}
+use Rattle.conjunct.proofs.Words.{map-join}
+use Rattle.sets.proofs.Overlaid.{overlay-before, overlay-beyond, overlay-inside}
+use Rattle.sets.proofs.Rows.{few-is, slot-same, rows-length, rows-at}
+use Rattle.sets.specs.Region.{slotAt, rowsFrom, rowsOf, setOf, Within}
+
+map-take : {A B : Type 0} (f : A → B) (n : ℕ) (xs : List A) → map f (take n xs) ≡ take n (map f xs)
+map-take f zero xs = refl
+map-take f (suc n) [] = refl
+map-take f (suc n) (x ∷ xs) = ap (f x ∷_) (map-take f n xs)
+
+map-drop : {A B : Type 0} (f : A → B) (n : ℕ) (xs : List A) → map f (drop n xs) ≡ drop n (map f xs)
+map-drop f zero xs = refl
+map-drop f (suc n) [] = refl
+map-drop f (suc n) (x ∷ xs) = map-drop f n xs
+
+module _ (s : List ℕ) (b n i : ℕ) (ws : List ℕ) (few′ : n < 64) (in′ : i ≤ n) (fits : b + 7745 ≤ length s) (short : length ws ≤ 120) where
+  -- where the slot goes, how many words move, and the region after each step
+  a : ℕ
+  a = b + 1 + 121 * i
+
+  m : ℕ
+  m = 121 * (n - i)
+
+  u : List ℕ
+  u = overlay s (a + 121) (take m (drop a s))
+
+  v : List ℕ
+  v = overlay u a (length ws ∷ ws)
+
+  t : List ℕ
+  t = set v b (n + 1)
+
+  moved-length : length (take m (drop a s)) ≡ m
+  unfolding a m
+  moved-length = length-take-le m (drop a s) (rw length-drop (omega arith))
+
+  u-length : length u ≡ length s
+  unfolding u
+  u-length = length-overlay (take m (drop a s)) s (a + 121)
+
+  v-length : length v ≡ length s
+  unfolding v
+  v-length = length-overlay (length ws ∷ ws) u a ∙ u-length
+
+  t-length : length t ≡ length s
+  unfolding t
+  t-length = length-set v b (n + 1) ∙ v-length
+
+  -- words before the slot
+  low : (x : ℕ) → x < a → (x ≡ b → ⊥) → getD t x 0 ≡ getD s x 0
+  unfolding t v u
+  low x h d =
+      getD-set-other v b x (n + 1) 0 d ∙ overlay-before (length ws ∷ ws) u a x h ∙ overlay-before (take m (drop a s)) s (a + 121) x (omega arith)
+
+  -- the words that have moved
+  high : (y : ℕ) → y < m → getD t (a + 121 + y) 0 ≡ getD s (a + y) 0
+  unfolding t v u a m
+  high y h =
+      getD-set-other v b (a + 121 + y) (n + 1) 0 (λ e. omega arith)
+      ∙ overlay-beyond (length ws ∷ ws) u a (a + 121 + y) (omega arith)
+      ∙ overlay-inside (take m (drop a s)) s (a + 121) y (omega (arith, moved-length)) (omega (arith, moved-length))
+      ∙ getD-take m (drop a s) y 0 h
+      ∙ getD-drop a s y 0
+
+  -- words beyond
+  beyond : (x : ℕ) → b + 7745 ≤ x → getD t x 0 ≡ getD s x 0
+  unfolding t v u a m
+  beyond x h =
+      getD-set-other v b x (n + 1) 0 (λ e. omega arith) ∙ overlay-beyond (length ws ∷ ws) u a x (omega arith) ∙ overlay-beyond (take m (drop a s)) s (a + 121) x (omega (arith, moved-length))
+
+  -- the slot itself
+  slot : slotAt t a ≡ ws
+  unfolding slotAt t v a overlay
+  slot =
+      let e : suc a ≡ a + 1 = omega arith in
+      let w = set u a (length ws) in
+      let wl = length-set u a (length ws) in
+      let vl = v-length in
+      let ul = u-length in
+      let count : getD t a 0 ≡ length ws =
+      getD-set-other v b a (n + 1) 0 (λ q. omega arith) ∙ overlay-before ws w (suc a) a (omega arith) ∙ getD-set-same u a (length ws) 0 (omega arith) in
+      let words : drop (a + 1) t ≡ drop (a + 1) (overlay w (a + 1) ws) = drop-set-lt (a + 1) v b (n + 1) (omega arith) ∙ ap (λ k. drop (a + 1) (overlay w k ws)) e in
+      ap₂ (λ c l. take c (take 120 l)) count words ∙ overlay-read ws w (a + 1) 120 (omega arith) short
+
+  placed-within : Within b s t
+  unfolding a
+  placed-within x (inl h) = low x (omega arith) (λ e. omega arith)
+  placed-within x (inr h) = beyond x h
+
+  placed-count : getD t b 0 ≡ n + 1
+  unfolding t
+  placed-count = getD-set-same v b (n + 1) 0 (omega (arith, v-length))
+
+  -- each slot
+  R : List (List ℕ)
+  R = rowsFrom s (b + 1) n
+
+  slots : (j : ℕ) → j < n + 1 → slotAt t (b + 1 + 121 * j) ≡ getD (take i R ++ (ws ∷ drop i R)) j []
+  unfolding R a m
+  slots j h = go (tri j i)
+    where
+      len : length (take i R) ≡ i
+      len = length-take-le i R (omega (arith, rows-length n s (b + 1)))
+
+      go : Tri j i → slotAt t (b + 1 + 121 * j) ≡ getD (take i R ++ (ws ∷ drop i R)) j []
+      go (less p) =
+          slot-same s t (b + 1 + 121 * j) (b + 1 + 121 * j) (omega arith) (omega (arith, t-length)) (λ x g. low (b + 1 + 121 * j + x) (omega arith) (λ e. omega arith))
+          ∙ sym (List·getD-append (take i R) (ws ∷ drop i R) [] j (omega (arith, len)) ∙ getD-take i R j [] p ∙ rows-at n s (b + 1) j (omega arith))
+      go (equal p) = ap (λ k. slotAt t (b + 1 + 121 * k)) p ∙ slot ∙ sym (ap (λ k. getD (take i R ++ (ws ∷ drop i R)) k []) p ∙ getD-at (take i R) ws (drop i R) [] i len)
+      go (more p) =
+          let k = j - (i + 1) in
+          let e : b + 1 + 121 * j ≡ a + 121 + 121 * k = omega arith in
+          let f : j ≡ length (take i R) + suc k = omega (arith, len) in
+          ap (slotAt t) e
+          ∙ slot-same s t (a + 121 * k) (a + 121 + 121 * k) (omega arith) (omega (arith, t-length)) (λ x g.
+          let q : a + 121 + 121 * k + x ≡ a + 121 + (121 * k + x) = omega arith in
+          let r : a + (121 * k + x) ≡ a + 121 * k + x = omega arith in
+          ap (λ y. getD t y 0) q ∙ high (121 * k + x) (omega arith) ∙ ap (λ y. getD s y 0) r)
+          ∙ ap (slotAt s) (slotted k)
+          ∙ sym (ap (λ y. getD (take i R ++ (ws ∷ drop i R)) y []) f ∙ getD-append-add (take i R) (ws ∷ drop i R) (suc k) [] ∙ getD-drop i R k [] ∙ rows-at n s (b + 1) (i + k) (omega arith))
+        where
+          slotted : (k : ℕ) → a + 121 * k ≡ b + 1 + 121 * (i + k)
+          slotted k = omega arith
+
+  placed-rows : rowsFrom t (b + 1) (n + 1) ≡ take i R ++ (ws ∷ drop i R)
+  unfolding R
+  placed-rows =
+      ext-getD [] (rowsFrom t (b + 1) (n + 1)) (take i R ++ (ws ∷ drop i R)) (rows-length (n + 1) t (b + 1) ∙ sym total) (λ j h.
+      let l : j < n + 1 = omega (arith, rows-length (n + 1) t (b + 1)) in
+      rows-at (n + 1) t (b + 1) j l ∙ slots j l)
+    where
+      total : length (take i R ++ (ws ∷ drop i R)) ≡ n + 1
+      total =
+          let p = length-append (take i R) (ws ∷ drop i R) in
+          let q : length (take i R) ≡ i = length-take-le i R (omega (arith, rows-length n s (b + 1))) in
+          let r = length-drop i R in
+          omega (arith, rows-length n s (b + 1))
+
+  placed-set : setOf t b ≡ take i (map nodesOf R) ++ (nodesOf ws ∷ drop i (map nodesOf R))
+  unfolding setOf rowsOf
+  placed-set =
+      rw (placed-count, few-is (n + 1) (omega arith), placed-rows, map-join nodesOf (take i R) (ws ∷ drop i R), map-take nodesOf i R, map-drop nodesOf i R)
+
+  pub placed : (after : List ℕ) → after ≡ set (overlay (overlay s (b + 1 + 121 * i + 121) (take (121 * (n - i)) (drop (b + 1 + 121 * i) s))) (b + 1 + 121 * i) (length ws ∷ ws)) b (n + 1)
+      → (setOf after b ≡ take i (map nodesOf (rowsFrom s (b + 1) n)) ++ (nodesOf ws ∷ drop i (map nodesOf (rowsFrom s (b + 1) n)))) × Within b s after
+  unfolding t v u a m R
+  placed after e = (ap (λ l. setOf l b) e ∙ placed-set, λ x h. ap (λ l. getD l x 0) e ∙ placed-within x h)

@@ -1,0 +1,79 @@
+-- The loops over the words of slots: read, written, moved up.
+-- Assumes nothing.
+use mathlib.Core.List.{List, [], _∷_}
+use mathlib.Core.Path.{_≡_, sym, ap, ap₂, _∙_}
+use Prim.Native.Nat.{ℕ, suc, _+_, _-_, _<_, _≤_, compare}
+use native.Mathlib.Numerals.{add-one}
+use native.Mathlib.Omega.{arith}
+use lib.ListN.{length, getD, take, drop, set, length-drop}
+use lib.Seq.{take-suc, take-suc-set, drop-cons, getD-drop, getD-take, length-take-le, take-take, drop-length}
+use Rattle.model.specs.Conjunct.{_then_, orderNumbers, order}
+use Rattle.bytes_le.specs.Overlay.{overlay}
+use Rattle.node.proofs.Lists.{conjunct-order}
+use Rattle.node.specs.Word.{nodesOf}
+use Rattle.sets.proofs.Overlaid.{overlay-before, set-overlay}
+use Rattle.sets.specs.Region.{slotAt}
+
+-- ---- read
+
+pub read-more : (l s : List ℕ) (b j : ℕ) → j < length l → b + j < length s → take j l ≡ take j (drop b s) → take (j + 1) (set l j (getD s (b + j) 0)) ≡ take (j + 1) (drop b s)
+read-more l s b j h k e =
+    let f : j < length (drop b s) = rw length-drop (omega arith) in
+    rw (add-one j, take-suc-set l j (getD s (b + j) 0) h, e, take-suc (drop b s) j 0 f, getD-drop b s j 0)
+
+-- the room of a slot
+room : (s : List ℕ) (a : ℕ) → a + 121 ≤ length s → length (take 120 (drop (a + 1) s)) ≡ 120
+room s a h = length-take-le 120 (drop (a + 1) s) (rw length-drop (omega arith))
+
+-- n words of the room are the slot's, if n is its count as far as it goes
+pub slot-words : (s : List ℕ) (a n : ℕ) → a + 121 ≤ length s → n ≤ 120 → ((l : List ℕ) → length l ≡ 120 → take n l ≡ take (getD s a 0) l) → take n (drop (a + 1) s) ≡ slotAt s a
+unfolding slotAt
+slot-words s a n h k f = sym (take-take n 120 (drop (a + 1) s) k) ∙ f (take 120 (drop (a + 1) s)) (room s a h)
+
+pub slot-count : (s : List ℕ) (a n : ℕ) → a + 121 ≤ length s → n ≤ 120 → ((l : List ℕ) → length l ≡ 120 → take n l ≡ take (getD s a 0) l) → length (slotAt s a) ≡ n
+slot-count s a n h k f = ap length (sym (slot-words s a n h k f)) ∙ length-take-le n (drop (a + 1) s) (rw length-drop (omega arith))
+
+-- m words against a slot's
+pub slot-order : (w s : List ℕ) (m a n : ℕ) → m ≤ length w → a + 121 ≤ length s → n ≤ 120 → ((l : List ℕ) → length l ≡ 120 → take n l ≡ take (getD s a 0) l)
+    → (compare m n then orderNumbers (take m w) (take n (drop (a + 1) s))) ≡ order (nodesOf (take m w)) (nodesOf (slotAt s a))
+slot-order w s m a n g h k f =
+    rw (slot-words s a n h k f)
+    (ap₂ (λ x y. compare x y then orderNumbers (take m w) (slotAt s a)) (sym (length-take-le m w g)) (sym (slot-count s a n h k f)) ∙ sym (conjunct-order (take m w) (slotAt s a)))
+
+-- ---- written
+
+pub written : (s l : List ℕ) (a n : ℕ) → overlay (set s a n) (a + 1) l ≡ overlay s a (n ∷ l)
+unfolding overlay
+written s l a n = rw (add-one a)
+
+-- ---- moved up
+
+-- the words from k on stand one slot higher
+pub Moved : List ℕ → List ℕ → (a n k : ℕ) → Type 0
+Moved s s₀ a n k = s ≡ overlay s₀ (a + 121 + k) (drop k (take n (drop a s₀)))
+
+part : (s : List ℕ) (a n : ℕ) → a + n ≤ length s → length (take n (drop a s)) ≡ n
+part s a n h = length-take-le n (drop a s) (rw length-drop (omega arith))
+
+pub moved-none : (s : List ℕ) (a n : ℕ) → a + n ≤ length s → Moved s s a n n
+unfolding Moved overlay
+moved-none s a n h =
+    let e : drop n (take n (drop a s)) ≡ [] = ap (λ j. drop j (take n (drop a s))) (sym (part s a n h)) ∙ drop-length (take n (drop a s)) in
+    rw e
+
+pub moved-more : (s s₀ : List ℕ) (a n k j : ℕ) → a + n + 121 ≤ length s₀ → k ≤ n → j + 1 ≡ k → Moved s s₀ a n k → Moved (set s (a + 121 + j) (getD s (a + j) 0)) s₀ a n j
+unfolding Moved overlay
+moved-more s s₀ a n k j h g e m =
+    let P = take n (drop a s₀) in
+    let len : length P ≡ n = part s₀ a n (omega arith) in
+    let next : suc j ≡ k = omega arith in
+    let at : a + 121 + k ≡ suc (a + 121 + j) = omega arith in
+    let word : getD s (a + j) 0 ≡ getD P j 0 =
+    ap (λ x. getD x (a + j) 0) m ∙ overlay-before (drop k P) s₀ (a + 121 + k) (a + j) (omega arith) ∙ sym (getD-take n (drop a s₀) j 0 (omega arith) ∙ getD-drop a s₀ j 0) in
+    let one : drop j P ≡ getD P j 0 ∷ drop k P = drop-cons P j 0 (omega arith) ∙ ap (λ i. getD P j 0 ∷ drop i P) next in
+    rw (word, m, one)
+    (set-overlay (drop k P) s₀ (a + 121 + j) (a + 121 + k) (getD P j 0) (omega arith) ∙ ap (λ i. overlay (set s₀ (a + 121 + j) (getD P j 0)) i (drop k P)) at)
+
+pub moved-all : (s s₀ : List ℕ) (a n : ℕ) → Moved s s₀ a n 0 → s ≡ overlay s₀ (a + 121) (take n (drop a s₀))
+unfolding Moved
+moved-all s s₀ a n m = let e : a + 121 + 0 ≡ a + 121 = omega arith in rw e at m

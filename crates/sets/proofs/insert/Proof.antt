@@ -1,0 +1,113 @@
+-- `sets::insert` meets its contract. Assumes nothing.
+use mathlib.Core.List.{_∷_, _++_}
+use mathlib.Core.Path.{_≡_, refl, sym, ap, _∙_}
+use Prim.Native.Nat.{_+_}
+use native.Mathlib.Omega.{arith}
+use lib.ListN.{length, take, drop}
+use borrow.Author.Needs.{needs}
+use Rattle.conjunct.specs.Value.{wordsOf, conjOf}
+use Rattle.sets.proofs.Inserting.{spotted, grown}
+use Rattle.sets.proofs.Rows.{set-length, set-rows}
+use Rattle.sets.specs.Region.{setOf, Spotted}
+use Rattle.sets.specs.declared.Spot.the-variants.{Here, Before}
+use Rattle.sets.proofs.insert.Statement.{statement}
+use Rattle.sets.proofs.insert.Tie as tie
+
+mul-at-most : tie.Need-mul-at-most
+mul-at-most c = search needs
+
+slice-read-at-most : tie.Need-slice-read-at-most
+slice-read-at-most c = search needs
+
+at-most-requires : tie.Need-at-most-requires
+at-most-requires c κs = search needs
+
+capped-requires : tie.Need-capped-requires
+capped-requires c κs = search needs
+
+find-requires : tie.Need-find-requires
+find-requires c κs = search needs
+
+enum-told : tie.Need-enum-told
+enum-told c = search needs
+
+enum-known-spot : tie.Need-enum-known-spot
+enum-known-spot c = search needs
+
+same-length : tie.Need-same-length
+same-length c = search needs
+
+returns : tie.Need-returns
+returns c =
+    let a = c .before .before .before .before .before .before .before .before .before .before .before .before .before .args in
+    let n = c .before .before .before .before .before .before .before .before .before .before .at-most in
+    let m = c .before .before .before .before .before .before .before .before .before .capped in
+    let f = c .before .before .before .before .find in
+    let l = a .t3 .nodes in
+    let h : length l ≡ 120 = search needs in
+    let sp : Spotted (Before (c .before .before .spot .given .0 .0)) (conjOf (a .t3)) (setOf (a .s .now) (a .base)) =
+    spotted (f .result) (Before (c .before .before .spot .given .0 .0)) (c .before .before .spot .given .1) (a .s .now) l (wordsOf (a .t3)) (a .base) (n .result) (m .result) (n .ensures .0) (m .ensures .1 l h) (f .ensures) in
+    ((refl, omega (arith, grown (conjOf (a .t3)) (setOf (a .s .now) (a .base)) (c .before .before .spot .given .0 .0) (sp .0) (sp .1), set-length (a .s .now) (a .base))), λ i g. refl)
+
+place-at-requires : tie.Need-place-at-requires
+place-at-requires c κs =
+    let a = c .before .before .before .before .before .before .before .before .before .before .before .before .before .before .args in
+    let n = c .before .before .before .before .before .before .before .before .before .before .before .at-most in
+    let m = c .before .before .before .before .before .before .before .before .before .before .capped in
+    let f = c .before .before .before .before .before .find in
+    let l = a .t3 .nodes in
+    let h : length l ≡ 120 = search needs in
+    let sp : Spotted (Before (c .before .before .before .spot .given .0 .0)) (conjOf (a .t3)) (setOf (a .s .now) (a .base)) =
+    spotted (f .result) (Before (c .before .before .before .spot .given .0 .0)) (c .before .before .before .spot .given .1) (a .s .now) l (wordsOf (a .t3)) (a .base) (n .result) (m .result) (n .ensures .0) (m .ensures .1 l h) (f .ensures) in
+    (omega arith, omega (arith, sp .0, set-length (a .s .now) (a .base)), omega arith)
+
+same-length-2 : tie.Need-same-length-2
+same-length-2 c = search needs
+
+returns-2 : tie.Need-returns-2
+returns-2 c =
+    let a = c .before .before .before .before .before .before .before .before .before .before .before .args in
+    let n = c .before .before .before .before .before .before .before .before .at-most in
+    let m = c .before .before .before .before .before .before .before .capped in
+    let f = c .before .before .find in
+    let l = a .t3 .nodes in
+    let h : length l ≡ 120 = search needs in
+    let sp : Spotted Here (conjOf (a .t3)) (setOf (a .s .now) (a .base)) =
+    spotted (f .result) Here (c .enum-told .given .1) (a .s .now) l (wordsOf (a .t3)) (a .base) (n .result) (m .result) (n .ensures .0) (m .ensures .1 l h) (f .ensures) in
+    (sym sp, λ i g. refl)
+
+same-length-3 : tie.Need-same-length-3
+same-length-3 c = search needs
+
+returns-3 : tie.Need-returns-3
+returns-3 c =
+    let a = c .before .before .before .before .before .before .before .before .before .before .before .before .before .before .before .before .before .args in
+    let n = c .before .before .before .before .before .before .before .before .before .before .before .before .before .before .at-most in
+    let m = c .before .before .before .before .before .before .before .before .before .before .before .before .before .capped in
+    let f = c .before .before .before .before .before .before .before .before .find in
+    let l = a .t3 .nodes in
+    let h : length l ≡ 120 = search needs in
+    let sp : Spotted (Before (c .before .before .before .before .before .before .spot .given .0 .0)) (conjOf (a .t3)) (setOf (a .s .now) (a .base)) =
+    spotted (f .result) (Before (c .before .before .before .before .before .before .spot .given .0 .0)) (c .before .before .before .before .before .before .spot .given .1) (a .s .now) l (wordsOf (a .t3)) (a .base) (n .result) (m .result) (n .ensures .0) (m .ensures .1 l h) (f .ensures) in
+    let q = c .before .before .place-at in
+    let i = c .before .before .before .before .before .before .spot .given .0 .0 in
+    (q .ensures .0 ∙ ap (λ S. take i S ++ (conjOf (a .t3) ∷ drop i S)) (sym (set-rows (a .s .now) (a .base) (n .result) (n .ensures .0))) ∙ sym (sp .1), q .ensures .1)
+
+pub insert-spec : {M : Type 1} → statement M
+insert-spec =
+    tie.close
+    (tie.spec
+    mul-at-most
+    slice-read-at-most
+    at-most-requires
+    capped-requires
+    find-requires
+    enum-told
+    enum-known-spot
+    same-length
+    returns
+    place-at-requires
+    same-length-2
+    returns-2
+    same-length-3
+    returns-3)

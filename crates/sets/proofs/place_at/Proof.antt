@@ -1,0 +1,77 @@
+-- `sets::place_at` meets its contract. Assumes nothing.
+use mathlib.Core.List.{_∷_}
+use mathlib.Core.Path.{_≡_, ap, _∙_}
+use Prim.Native.Nat.{_+_, _-_, _*_, _≤_}
+use native.Mathlib.Omega.{arith}
+use lib.ListN.{length, take, drop, set, length-set}
+use borrow.Author.Needs.{needs}
+use Rattle.bytes_le.specs.Overlay.{overlay}
+use Rattle.conjunct.specs.Value.{wordsOf}
+use Rattle.sets.proofs.Placed.{placed}
+use Rattle.sets.proofs.Rows.{take-short}
+use Rattle.sets.proofs.place_at.Statement.{statement}
+use Rattle.sets.proofs.place_at.Tie as tie
+
+add-a : tie.Need-add-a
+add-a c = search needs
+
+mul-a : tie.Need-mul-a
+mul-a c = search needs
+
+add-a-2 : tie.Need-add-a-2
+add-a-2 c = search needs
+
+sub-shift : tie.Need-sub-shift
+sub-shift c = search needs
+
+mul-shift : tie.Need-mul-shift
+mul-shift c = search needs
+
+shift-requires : tie.Need-shift-requires
+shift-requires c κs = search needs
+
+write-slot-requires : tie.Need-write-slot-requires
+write-slot-requires c κs = search needs
+
+add-s : tie.Need-add-s
+add-s c = search needs
+
+mul-s : tie.Need-mul-s
+mul-s c = search needs
+
+slice-write-s : tie.Need-slice-write-s
+slice-write-s c = search needs
+
+same-length : tie.Need-same-length
+same-length c =
+    let a = c .before .before .before .before .before .before .before .before .before .args in
+    length-set (c .before .before .write-slot .last .0) (a .base) (a .n + 1) ∙ c .before .before .write-slot .kept .0 ∙ c .before .before .before .before .before .before .shift .kept .0
+
+returns : tie.Need-returns
+returns c =
+    let a = c .before .before .before .before .before .before .before .before .before .args in
+    let p = c .before .before .before .before .before .before .before .before .before .pre in
+    let ws = wordsOf (a .e) in
+    let h : length (a .e .nodes) ≡ 120 = search needs in
+    let short : length ws ≤ 120 = omega (arith, take-short (a .e .len) (a .e .nodes)) in
+    let A = a .base + 1 + 121 * a .i in
+    let e : c .before .before .write-slot .last .0 ≡ overlay (overlay (a .s .now) (A + 121) (take (121 * (a .n - a .i)) (drop A (a .s .now)))) A (length ws ∷ ws) =
+    c .before .before .write-slot .ensures ∙ ap (λ l. overlay l A (length ws ∷ ws)) (c .before .before .before .before .before .before .shift .ensures) in
+    placed (a .s .now) (a .base) (a .n) (a .i) ws (p .0) (p .1) (p .2) short (set (c .before .before .write-slot .last .0) (a .base) (a .n + 1)) (ap (λ l. set l (a .base) (a .n + 1)) e)
+
+pub place-at-spec : {M : Type 1} → statement M
+place-at-spec =
+    tie.close
+    (tie.spec
+    add-a
+    mul-a
+    add-a-2
+    sub-shift
+    mul-shift
+    shift-requires
+    write-slot-requires
+    add-s
+    mul-s
+    slice-write-s
+    same-length
+    returns)

@@ -1,0 +1,58 @@
+-- What a region of lent scratch holds: a set of at most 64 conjuncts. A region has 7745 words: the count, then 64 slots of 121 words,
+-- each a conjunct's node count and room for 120 nodes.
+-- Assumes nothing.
+use mathlib.Core.Bool.{Bool, true, false, cond}
+use mathlib.Core.List.{List, [], _∷_, _++_, map}
+use mathlib.Core.Logic.{_⊎_}
+use mathlib.Core.Path.{_≡_}
+use Prim.Native.Nat.{ℕ, zero, suc, _+_, _≤_, _<_}
+use lib.Dec.{ltb}
+use lib.ListN.{length, getD, take, drop}
+use Rattle.model.specs.Conjunct.{Conj, Cond, insert, union}
+use Rattle.node.specs.Word.{nodesOf}
+use Rattle.sets.specs.declared.Spot.the-variants.{Here, Before}
+use Rattle.sets.specs.declared.Spot.{Spot}
+
+-- at most 64
+unfoldable pub few : ℕ → ℕ
+few c = cond (ltb c 64) c 64
+
+-- the words of the conjunct whose slot begins at a
+unfoldable pub slotAt : List ℕ → ℕ → List ℕ
+slotAt s a = take (getD s a 0) (take 120 (drop (a + 1) s))
+
+-- the words of n conjuncts, slot after slot from a on
+unfoldable pub rowsFrom : List ℕ → ℕ → ℕ → List (List ℕ)
+rowsFrom s a zero = []
+rowsFrom s a (suc n) = slotAt s a ∷ rowsFrom s (a + 121) n
+
+-- the conjuncts of a region that begins at b
+unfoldable pub rowsOf : List ℕ → ℕ → List (List ℕ)
+rowsOf s b = rowsFrom s (b + 1) (few (getD s b 0))
+
+-- the set of a region that begins at b
+unfoldable pub setOf : List ℕ → ℕ → Cond
+setOf s b = map nodesOf (rowsOf s b)
+
+-- nothing outside of the region at b differs
+abbrev pub Within : ℕ → List ℕ → List ℕ → Type 0
+Within b s t = (i : ℕ) → (i < b) ⊎ (b + 7745 ≤ i) → getD t i 0 ≡ getD s i 0
+
+-- two regions have no word in common
+abbrev pub Apart : ℕ → ℕ → Type 0
+Apart a b = (a + 7745 ≤ b) ⊎ (b + 7745 ≤ a)
+
+-- where a conjunct goes in a set: it is there, or it is put before the i-th
+abbrev pub Spotted : Spot → Conj → Cond → Type 0
+Spotted Here e S = insert e S ≡ S
+Spotted (Before i) e S = (i ≤ length S) × (insert e S ≡ take i S ++ (e ∷ drop i S))
+
+-- an insertion: done, or the set would have over 64
+abbrev pub Inserted : Bool → ℕ → Conj → List ℕ → List ℕ → Type 0
+Inserted true b e s t = setOf t b ≡ insert e (setOf s b)
+Inserted false b e s t = (t ≡ s) × (64 < length (insert e (setOf s b)))
+
+-- a union of the region at a into that at b: done, or the set would have over 64
+abbrev pub Joined : Bool → ℕ → ℕ → List ℕ → List ℕ → Type 0
+Joined true a b s t = setOf t b ≡ union (setOf s a) (setOf s b)
+Joined false a b s t = 64 < length (union (setOf s a) (setOf s b))

@@ -1,0 +1,230 @@
+// Sets of conjuncts in regions of one lent slice. specs/Region.antt says what a region holds. Every
+// operation leaves what lies outside of the region that it names. Assumes nothing.
+ghost use mathlib.Core.Path.{_≡_};
+ghost use mathlib.Core.List.{[], _∷_, _++_, map};
+ghost use Prim.Native.Nat.{_+_, _*_, _<_, _≤_};
+ghost use lib.Dec.{isEq};
+ghost use lib.ListN.{length, getD, take, drop};
+ghost use Rattle.model.specs.Conjunct.{order, orderNodes, same};
+ghost use Rattle.bytes_le.specs.Overlay.{overlay};
+ghost use Rattle.node.specs.Word.{nodesOf};
+ghost use Rattle.conjunct.specs.Value.{wordsOf, conjOf, orderingOf};
+ghost use Rattle.sets.specs.Region.{few, slotAt, rowsFrom, setOf, Within, Apart, Spotted, Inserted, Joined};
+use conjunct::Conjunct;
+use conjunct::Order;
+
+// where a conjunct goes: it is there, or before a place
+pub enum Spot {
+    Here,
+    Before(usize),
+}
+
+// at most 64
+fn at_most(c: u64) -> usize
+    ensures { λ r. ⌜ (r ≡ few c) × (r ≤ 64) ⌝ }
+{
+    if c < 64 {
+        return c as usize;
+    }
+    64
+}
+
+// ---- one slot
+
+// the conjunct of the slot at a
+fn read_slot(s: &[u64], a: usize) -> Conjunct
+    requires { ⌜ a + 121 ≤ length (now s) ⌝ }
+    ensures { λ r. ⌜ wordsOf r ≡ slotAt (now (s .entry)) a ⌝ }
+{
+    let n = conjunct::capped(s[a] as usize);
+    let mut nodes: [u64; 120] = [0; 120];
+    let mut j: usize = 0;
+    while j < n {
+        nodes[j] = s[a + 1 + j];
+        j += 1;
+    }
+    Conjunct {
+        len: n,
+        nodes: nodes,
+    }
+}
+
+// a conjunct to the slot at a
+fn write_slot(s: &mut [u64], a: usize, e: Conjunct)
+    requires { ⌜ a + 121 ≤ length (now s) ⌝ }
+    ensures { λ _. ⌜ now (s .exit) ≡ overlay (now (s .entry)) a (length (wordsOf e) ∷ wordsOf e) ⌝ }
+{
+    let n = conjunct::capped(e.len);
+    s[a] = n as u64;
+    let mut j: usize = 0;
+    while j < n {
+        s[a + 1 + j] = e.nodes[j];
+        j += 1;
+    }
+}
+
+// m words against the conjunct of the slot at a
+fn compare_slot(w: &[u64], m: usize, s: &[u64], a: usize) -> Order
+    requires { ⌜ (m ≤ length (now w)) × (a + 121 ≤ length (now s)) ⌝ }
+    ensures { λ r. ⌜ orderingOf r ≡ order (nodesOf (take m (now (w .entry)))) (nodesOf (slotAt (now (s .entry)) a)) ⌝ }
+{
+    let n = conjunct::capped(s[a] as usize);
+    conjunct::order_at(w, 0, m, s, a + 1, n)
+}
+
+// ---- a region
+
+pub fn size(s: &[u64], base: usize) -> usize
+    requires { ⌜ base + 7745 ≤ length (now s) ⌝ }
+    ensures { λ r. ⌜ (r ≡ length (setOf (now (s .entry)) base)) × (r ≤ 64) ⌝ }
+{
+    at_most(s[base])
+}
+
+// the i-th conjunct; none past the end
+pub fn get(s: &[u64], base: usize, i: usize) -> Conjunct
+    requires { ⌜ base + 7745 ≤ length (now s) ⌝ }
+    ensures { λ r. ⌜ conjOf r ≡ getD (setOf (now (s .entry)) base) i [] ⌝ }
+{
+    let n = at_most(s[base]);
+    if i < n {
+        return read_slot(s, base + 1 + 121 * i);
+    }
+    Conjunct {
+        len: 0,
+        nodes: [0; 120],
+    }
+}
+
+// the empty set
+pub fn clear(s: &mut [u64], base: usize)
+    requires { ⌜ base + 7745 ≤ length (now s) ⌝ }
+    ensures { λ _. ⌜ (setOf (now (s .exit)) base ≡ []) × Within base (now (s .entry)) (now (s .exit)) ⌝ }
+{
+    s[base] = 0;
+}
+
+// n words from a on moved up by one slot
+fn shift(s: &mut [u64], a: usize, n: usize)
+    requires { ⌜ a + n + 121 ≤ length (now s) ⌝ }
+    ensures { λ _. ⌜ now (s .exit) ≡ overlay (now (s .entry)) (a + 121) (take n (drop a (now (s .entry)))) ⌝ }
+{
+    let mut k = n;
+    while k > 0 {
+        k -= 1;
+        s[a + 121 + k] = s[a + k];
+    }
+}
+
+// where m words go among the first n slots
+fn find(s: &[u64], base: usize, n: usize, w: &[u64], m: usize) -> Spot
+    requires { ⌜ (n ≤ 64) × (base + 7745 ≤ length (now s)) × (m ≤ length (now w)) ⌝ }
+    ensures { λ r. ⌜ Spotted r (nodesOf (take m (now (w .entry)))) (map nodesOf (rowsFrom (now (s .entry)) (base + 1) n)) ⌝ }
+{
+    let mut i: usize = 0;
+    while i < n {
+        let o = compare_slot(w, m, s, base + 1 + 121 * i);
+        match o {
+            Order::Less => return Spot::Before(i),
+            Order::Same => return Spot::Here,
+            Order::More => {}
+        }
+        i += 1;
+    }
+    Spot::Before(n)
+}
+
+// a conjunct put before the i-th of the n of a region
+fn place_at(s: &mut [u64], base: usize, n: usize, i: usize, e: Conjunct)
+    requires { ⌜ (n < 64) × (i ≤ n) × (base + 7745 ≤ length (now s)) ⌝ }
+    ensures { λ _. ⌜ (setOf (now (s .exit)) base ≡ take i (map nodesOf (rowsFrom (now (s .entry)) (base + 1) n)) ++ (conjOf e ∷ drop i (map nodesOf (rowsFrom (now (s .entry)) (base + 1) n)))) × Within base (now (s .entry)) (now (s .exit)) ⌝ }
+{
+    let a = base + 1 + 121 * i;
+    shift(s, a, 121 * (n - i));
+    write_slot(s, a, e);
+    s[base] = (n + 1) as u64;
+}
+
+// one conjunct more; false where the set would have over 64
+pub fn insert(s: &mut [u64], base: usize, e: Conjunct) -> bool
+    requires { ⌜ base + 7745 ≤ length (now s) ⌝ }
+    ensures { λ r. ⌜ Inserted r base (conjOf e) (now (s .entry)) (now (s .exit)) × Within base (now (s .entry)) (now (s .exit)) ⌝ }
+{
+    let n = at_most(s[base]);
+    let m = conjunct::capped(e.len);
+    let spot = find(s, base, n, &e.nodes, m);
+    match spot {
+        Spot::Here => true,
+        Spot::Before(i) => {
+            if n >= 64 {
+                return false;
+            }
+            place_at(s, base, n, i, e);
+            true
+        }
+    }
+}
+
+// the set of another region
+pub fn copy(s: &mut [u64], to: usize, from: usize)
+    requires { ⌜ (to + 7745 ≤ length (now s)) × (from + 7745 ≤ length (now s)) × Apart to from ⌝ }
+    ensures { λ _. ⌜ (setOf (now (s .exit)) to ≡ setOf (now (s .entry)) from) × Within to (now (s .entry)) (now (s .exit)) ⌝ }
+{
+    let n = 1 + 121 * at_most(s[from]);
+    let mut i: usize = 0;
+    while i < n {
+        s[to + i] = s[from + i];
+        i += 1;
+    }
+}
+
+// with all conjuncts of another region; false where the set would have over 64
+pub fn union(s: &mut [u64], to: usize, from: usize) -> bool
+    requires { ⌜ (to + 7745 ≤ length (now s)) × (from + 7745 ≤ length (now s)) × Apart to from ⌝ }
+    ensures { λ r. ⌜ Joined r from to (now (s .entry)) (now (s .exit)) × Within to (now (s .entry)) (now (s .exit)) ⌝ }
+{
+    let mut k = size(s, from);
+    while k > 0 {
+        k -= 1;
+        let e = get(s, from, k);
+        let done = insert(s, to, e);
+        if !done {
+            return false;
+        }
+    }
+    true
+}
+
+// are the conjuncts of two slots the same?
+fn same_slot(s: &[u64], a: usize, b: usize) -> bool
+    requires { ⌜ (a + 121 ≤ length (now s)) × (b + 121 ≤ length (now s)) ⌝ }
+    ensures { λ r. ⌜ r ≡ isEq (orderNodes (nodesOf (slotAt (now (s .entry)) a)) (nodesOf (slotAt (now (s .entry)) b))) ⌝ }
+{
+    let n = conjunct::capped(s[a] as usize);
+    let o = compare_slot(&s[a + 1..], n, s, b);
+    match o {
+        Order::Less => false,
+        Order::Same => true,
+        Order::More => false,
+    }
+}
+
+// are two sets the same?
+pub fn equal(s: &[u64], a: usize, b: usize) -> bool
+    requires { ⌜ (a + 7745 ≤ length (now s)) × (b + 7745 ≤ length (now s)) ⌝ }
+    ensures { λ r. ⌜ r ≡ same (setOf (now (s .entry)) a) (setOf (now (s .entry)) b) ⌝ }
+{
+    let n = at_most(s[a]);
+    let m = at_most(s[b]);
+    if n != m {
+        return false;
+    }
+    let mut i: usize = 0;
+    while i < n {
+        if !same_slot(s, a + 1 + 121 * i, b + 1 + 121 * i) {
+            return false;
+        }
+        i += 1;
+    }
+    true
+}
