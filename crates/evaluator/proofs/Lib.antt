@@ -1,0 +1,16 @@
+pub mod Firsts
+pub mod Stacks
+pub mod Working
+pub mod Exploring
+pub mod Holding
+pub mod Nodes
+pub mod Forms
+pub mod Inputs
+pub mod Operands
+pub mod Filling
+pub mod Stretches
+pub mod Turns
+pub mod Counting
+pub mod Answers
+pub mod Parts
+pub mod Calls

@@ -1,0 +1,5 @@
+pub mod Part
+pub mod Readings
+pub mod Slots
+pub mod Explored
+pub mod Plan
