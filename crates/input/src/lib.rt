@@ -79,7 +79,7 @@ pub fn read(types: &[u8], input: &[u8]) -> InputRead
 }
 
 // The readings of a field, as a part of an input that is read.
-pub fn readings<'a>(types: &'a [u8], input: &'a [u8], field: usize) -> &'a [u8]
+pub fn readings<'a>(types: &[u8], input: &'a [u8], field: usize) -> &'a [u8]
     requires { ⌜ IsRead (now types) (now input) × (field < length (now types)) ⌝ }
     ensures { λ r. ⌜ now r ≡ fieldPart (now (input .entry)) field ⌝ }
 {

@@ -1,0 +1,86 @@
+-- The conjuncts of a condition that is read, one after the other: each is one that an evaluator takes.
+-- Assumes nothing.
+use mathlib.Core.Path.{_≡_, sym, subst, _∙_}
+use mathlib.Core.Bool.{Bool, true, false, _&&_}
+use mathlib.Core.List.{List, [], _∷_, map}
+use Prim.Native.Nat.{ℕ, _+_, _*_, _<_, _≤_}
+use native.Mathlib.Numerals.{add-one}
+use native.Mathlib.Omega.{arith}
+use lib.Dec.{leb}
+use lib.ListN.{length, getD, drop, drop-of-length-le}
+use lib.Seq.{drop-cons}
+use borrow.Author.Tests.{leb-true}
+use Rattle.model.specs.Lists.{every}
+use Rattle.model.specs.Bytes.{part, Pair, pairAt, pairsAt, chained}
+use Rattle.model.specs.Program.{typeRight}
+use Rattle.model.specs.Conjunct.{Conj}
+use Rattle.model.specs.Condition.{conjunctsAt, conjunctAt, lengthRight, nodesRight, whole, numbered, rising}
+use Rattle.model.proofs.Tests.{and-left, and-right}
+use Rattle.model.proofs.Parts.{length-part}
+use Rattle.condition.specs.Answers.{partNodes, pairPart, pairRight, IsRead, typesOf, conjunctsOf}
+use Rattle.condition.specs.declared.Counts.{Counts}
+use Rattle.condition.proofs.Table.{formBy, form-types, form-pair, counted-read, conjunct-inside, conjuncts-count}
+use Rattle.evaluator.specs.Part.{conjunctOf, IsConjunct}
+use Rattle.evaluator.proofs.Parts.{part-is-conjunct}
+
+-- ---- what the reader has tested
+
+form-narrow : (s : List ℕ) (c f : ℕ) → formBy s c f ≡ true → f ≤ 32
+unfolding formBy
+form-narrow s c f form =
+    let pairs = pairsAt s (8 + f) c in
+    let sized = leb 8 (length s) && leb c 64 && leb f 32 in
+    let chain = chained (conjunctsAt f c) pairs (length s) in
+    let typed = every typeRight (part s 8 f) in
+    let right = every (pairRight (part s 8 f) s) pairs in
+    leb-true f 32
+    (and-right (leb 8 (length s) && leb c 64) (leb f 32)
+    (and-left sized chain (and-left (sized && chain) typed (and-left (sized && chain && typed) right (and-left (sized && chain && typed && right) (rising (map (conjunctAt s) pairs)) form)))))
+
+-- a pair that is right names a conjunct
+right-is-conjunct : (types s : List ℕ) (p : Pair) → length types ≤ 32 → p .offset + p .len ≤ length s → pairRight types s p ≡ true → IsConjunct (part s (p .offset) (p .len))
+unfolding pairRight
+right-is-conjunct types s p few inside right =
+    let long = lengthRight p in
+    let formed = nodesRight types s p in
+    let one = whole (conjunctAt s p) in
+    let three = and-left (long && formed && one) (numbered (conjunctAt s p)) right in
+    let two = and-left (long && formed) one three in
+    part-is-conjunct types s p few inside (and-left long formed two) (and-right long formed two) (and-right (long && formed) one three)
+
+module _ (s : List ℕ) (k : Counts) (read : IsRead s k) where
+  pub types-right : every typeRight (typesOf s) ≡ true
+  types-right =
+      let q = counted-read s k read in
+      subst (λ (f : ℕ). every typeRight (part s 8 f) ≡ true) (q .fields) (form-types s (k .conjuncts) (k .fields) (q .form))
+
+  pub conjuncts-many : length (conjunctsOf s) ≡ k .conjuncts
+  conjuncts-many = conjuncts-count s ∙ sym (counted-read s k read .conjuncts)
+
+  pub conjunct-formed : (i : ℕ) → i < k .conjuncts → IsConjunct (pairPart s (8 + k .fields + 8 * i))
+  conjunct-formed i h =
+      let q = counted-read s k read in
+      let few = form-narrow s (k .conjuncts) (k .fields) (q .form) in
+      let size = length-part s 8 (k .fields) (omega (arith, q .table)) in
+      right-is-conjunct (part s 8 (k .fields)) s (pairAt s (8 + k .fields + 8 * i)) (omega arith) (conjunct-inside s k read i h) (form-pair s (k .conjuncts) (k .fields) (q .form) i h)
+
+  -- ---- a pass over the conjuncts
+
+  module _ (test : Conj → Bool) (i : ℕ) where
+    -- the one with number i is that of a part p
+    module _ (h : i < k .conjuncts) (p : List ℕ) (is : partNodes p ≡ getD (conjunctsOf s) i []) where
+      next : drop i (conjunctsOf s) ≡ conjunctOf p ∷ drop (i + 1) (conjunctsOf s)
+      unfolding conjunctOf
+      next = rw (is, add-one i) (drop-cons (conjunctsOf s) i [] (omega (arith, conjuncts-many)))
+
+      pub passed : test (conjunctOf p) ≡ true → every test (drop i (conjunctsOf s)) ≡ every test (drop (i + 1) (conjunctsOf s))
+      unfolding every
+      passed e = rw (next, e)
+
+      pub failed : test (conjunctOf p) ≡ false → every test (drop i (conjunctsOf s)) ≡ false
+      unfolding every
+      failed e = rw (next, e)
+
+    pub all-passed : k .conjuncts ≤ i → every test (drop i (conjunctsOf s)) ≡ true
+    unfolding every
+    all-passed h = let e = drop-of-length-le (conjunctsOf s) {i = i} (omega (arith, conjuncts-many)) in rw e

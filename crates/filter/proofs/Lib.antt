@@ -1,0 +1,3 @@
+pub mod Readings
+pub mod Conjuncts
+pub mod Verdicts

@@ -1,0 +1,110 @@
+-- The readings of an input that is read, put one by one to the places that an evaluator looks at.
+-- Assumes nothing.
+use mathlib.Core.Path.{_≡_, refl, sym, ap, _∙_}
+use mathlib.Core.Bool.{Bool, true}
+use mathlib.Core.List.{List, []}
+use Prim.Native.Nat.{ℕ, _+_, _*_, _/_, _<_, _≤_}
+use native.Mathlib.Nat.{div-mul-le-self, mul-comm, mul-le-mul-right}
+use native.Mathlib.Omega.{arith}
+use lib.IntN.{ℤ, pos}
+use lib.ListN.{length, getD, set}
+use lib.Seq.{getD-set-same, getD-set-other}
+use borrow.Author.Count.{below-more}
+use borrow.Author.Tests.{lt-ltb, le-ltb, ltb-true}
+use Rattle.model.specs.Lists.{every}
+use Rattle.model.specs.Bytes.{entries}
+use Rattle.model.specs.Program.{typeRight}
+use Rattle.model.specs.Input.{Input, width, readingAt}
+use Rattle.model.proofs.Every.{every-at}
+use Rattle.model.proofs.Parts.{length-entries, entries-getD}
+use Rattle.input.specs.Answers.{IsRead, fieldPart, fieldReadings}
+use Rattle.input.proofs.Fields.{part-readings}
+use Rattle.evaluator.specs.Readings.{signedAt, Lent, Decoded}
+use Rattle.evaluator.specs.Plan.{Taken}
+use Rattle.filter.specs.Decoding.{inputIn, Filled}
+
+-- ---- a run of places
+
+module _ (z : ℕ → ℤ) (from : ℕ) (at : ℕ → ℤ) where
+  pub filled-none : Filled z from 0 at at
+  filled-none = record { put = λ k l. absurd (omega arith); kept = λ j l. refl }
+
+  pub filled-next : (n : ℕ) (at₁ at₂ : ℕ → ℤ) → Filled z from n at at₁ → Taken (from + n) (z n) at₁ at₂ → Filled z from (n + 1) at at₂
+  filled-next n at₁ at₂ f t = record {
+    put = below-more (λ k. at₂ (from + k) ≡ z k) n (λ k l. t .1 (from + k) (λ p. omega arith) ∙ f .put k l) (t .0);
+    kept = λ j l. t .1 j (λ p. omega arith) ∙ f .kept j l;
+  }
+
+-- the next of n readings of a width lies in the part
+pub next-inside : (k n w l : ℕ) → k < n → n * w ≤ l → (k + 1) * w ≤ l
+next-inside k n w l h m = let q : (k + 1) * w ≤ n * w = mul-le-mul-right w (omega arith) in omega arith
+
+-- ---- one field
+
+pub type-code : (types : List ℕ) (f : ℕ) → every typeRight types ≡ true → f < length types → getD types f 0 < 8
+type-code types f h l = ltb-true (getD types f 0) 8 (every-at typeRight 0 types h f l)
+
+pub field-none : (types s : List ℕ) (f : ℕ) → length types ≤ f → inputIn types s f ≡ []
+unfolding inputIn
+field-none types s f h = rw (le-ltb f (length types) h)
+
+pub field-listed : (types s : List ℕ) (f : ℕ) → f < length types → inputIn types s f ≡ fieldReadings types s f
+unfolding inputIn
+field-listed types s f h = rw (lt-ltb f (length types) h)
+
+-- by what was read of it: the part p, with n readings
+module _ (types s : List ℕ) (f : ℕ) (read : IsRead types s) (listed : f < length types) (n : ℕ) (many : n ≡ length (fieldReadings types s f)) (p : List ℕ) (is : p ≡ fieldPart s f) where
+  abbrev ty : ℕ
+  ty = getD types f 0
+
+  held : fieldReadings types s f ≡ entries (readingAt ty) (width ty) p 0 (length p / width ty)
+  held = rw is (part-readings types s f read listed)
+
+  whole-readings : n ≡ length p / width ty
+  whole-readings = many ∙ ap length held ∙ length-entries (readingAt ty) (width ty) p (length p / width ty) 0
+
+  pub readings-inside : n * width ty ≤ length p
+  readings-inside = rw whole-readings (div-mul-le-self (length p) (width ty))
+
+  reading-is : (k : ℕ) → k < n → readingAt ty p (k * width ty) ≡ getD (inputIn types s f) k (pos 0)
+  reading-is k l =
+      let e : k * width ty ≡ 0 + width ty * k = omega (arith, mul-comm k (width ty)) in
+      ap (readingAt ty p) e
+      ∙ sym (entries-getD (readingAt ty) (width ty) p (length p / width ty) 0 k (pos 0) (omega (arith, whole-readings)))
+      ∙ sym (ap (λ (zs : List ℤ). getD zs k (pos 0)) (field-listed types s f listed ∙ held))
+
+  pub field-filled : (from : ℕ) (at at′ : ℕ → ℤ) → Filled (λ k. readingAt ty p (k * width ty)) from n at at′ → Filled (λ k. getD (inputIn types s f) k (pos 0)) from n at at′
+  field-filled from at at′ h = record { put = λ k l. h .put k l ∙ reading-is k l; kept = h .kept }
+
+-- ---- all fields
+
+-- the first n fields are decoded
+pub record DecodedTo (I : Input) (n : ℕ) (counts mags : List ℕ) (negs : List Bool) : Type 0 where
+  pub number : (f : ℕ) → f < n → getD counts f 0 ≡ length (I f)
+  pub few : (f : ℕ) → f < n → length (I f) ≤ 128
+  pub each : (f : ℕ) → f < n → (k : ℕ) → k < length (I f) → signedAt mags negs (128 * f + k) ≡ getD (I f) k (pos 0)
+
+module _ (I : Input) where
+  pub decoded-none : (counts mags : List ℕ) (negs : List Bool) → DecodedTo I 0 counts mags negs
+  decoded-none counts mags negs = record { number = λ f l. absurd (omega arith); few = λ f l. absurd (omega arith); each = λ f l. absurd (omega arith) }
+
+  module _ (n r : ℕ) (counts mags mags′ : List ℕ) (negs negs′ : List Bool) (inside : n < length counts) (many : r ≡ length (I n)) (few : r ≤ 128)
+      (put : Filled (λ k. getD (I n) k (pos 0)) (128 * n) r (signedAt mags negs) (signedAt mags′ negs′)) where
+    pub decoded-next : DecodedTo I n counts mags negs → DecodedTo I (n + 1) (set counts n r) mags′ negs′
+    decoded-next d = record {
+      number = below-more (λ f. getD (set counts n r) f 0 ≡ length (I f)) n
+          (λ f l. getD-set-other counts n f r 0 (λ p. omega arith) ∙ d .number f l) (getD-set-same counts n r 0 inside ∙ many);
+      few = below-more (λ f. length (I f) ≤ 128) n (d .few) (omega arith);
+      each = below-more (λ f. (k : ℕ) → k < length (I f) → signedAt mags′ negs′ (128 * f + k) ≡ getD (I f) k (pos 0)) n
+          (λ f l k m. put .kept (128 * f + k) (omega (arith, d .few f l)) ∙ d .each f l k m) (λ k m. put .put k (omega arith));
+    }
+
+  pub decoded-all : (counts mags : List ℕ) (negs : List Bool) → DecodedTo I 32 counts mags negs → Decoded I counts mags negs
+  decoded-all counts mags negs d = record { number = d .number; each = λ f k l m. d .each f l k m }
+
+  pub decoded-lent : (counts mags : List ℕ) (negs : List Bool) → DecodedTo I 32 counts mags negs → length counts ≡ 32 → length mags ≡ 4096 → length negs ≡ 4096 → Lent counts mags negs
+  decoded-lent counts mags negs d c m n = record {
+    few = record { fields = c; each = λ f l. rw (d .number f l) (d .few f l) };
+    magnitudes = m;
+    signs = n;
+  }

@@ -1,0 +1,75 @@
+-- The filter step by step: where it refuses, and what it answers of a condition and an input that are read.
+-- Assumes nothing.
+use mathlib.Core.Path.{_≡_, refl, sym, ap, ap₂, _∙_}
+use mathlib.Core.Bool.{Bool, true, false, _&&_, cond}
+use mathlib.Core.List.{List, []}
+use Prim.Native.Nat.{ℕ, _*_}
+use lib.Dec.{ltb}
+use lib.ListN.{length, getD}
+use Rattle.model.specs.Lists.{every}
+use Rattle.model.specs.Refusals.{Out, ok, refused, _>>=_, mapped, wrongInput}
+use Rattle.model.specs.Bytes.{pairAt, pairsAt, chained}
+use Rattle.model.specs.Conjunct.{Cond}
+use Rattle.model.specs.Condition.{Condition, readCondition}
+use Rattle.model.specs.Input.{Input, readingsOf, lengthsRight, readInput}
+use Rattle.model.specs.Filter.{holds, fewCombinations, filter}
+use Rattle.model.proofs.Results.{ok-eq, refused-ok, check-ok, mapped-ok}
+use Rattle.input.specs.Answers.{IsRead as InputIsRead}
+use Rattle.condition.specs.Answers.{sizes, sizesOf, IsRead, typesOf, conjunctsOf}
+use Rattle.condition.specs.declared.Counts.{Counts}
+use Rattle.condition.proofs.Table.{condition-read}
+use Rattle.filter.specs.Verdict.{judged}
+use Rattle.filter.specs.Decoding.{inputIn}
+
+-- ---- the verdict on conjuncts
+
+module _ (I : Input) (S : Cond) where
+  pub judged-many : every (fewCombinations I) S ≡ false → judged I S ≡ refused 14
+  unfolding judged
+  judged-many h = rw h
+
+  pub judged-few : every (fewCombinations I) S ≡ true → (b : Bool) → every (holds I) S ≡ b → judged I S ≡ ok b
+  unfolding judged
+  judged-few h b k = rw (h, k)
+
+-- ---- the condition and the input
+
+-- a refusal goes through
+through : {A B C : Type 0} (f : A → B) (n : ℕ) (o : Out A) (g : A → Out C) → refused n ≡ mapped f o → refused n ≡ (o >>= g)
+through f n (ok a) g e = absurd (refused-ok n (f a) e)
+through f n (refused m) g e = cc
+
+-- an input that is read
+input-is : (types s : List ℕ) (I : Input) → readInput types s ≡ ok I → I ≡ inputIn types s
+unfolding readInput inputIn
+input-is types s I e =
+    let ps = pairsAt s 0 (length types) in
+    let J : Input = λ f. cond (ltb f (length types)) (readingsOf (getD types f 0) s (pairAt s (8 * f))) [] in
+    sym (ok-eq J I (check-ok (chained (8 * length types) ps (length s) && lengthsRight types ps) wrongInput (ok J) I e .1))
+
+module _ (s t : List ℕ) where
+  abbrev onInput : List ℕ → Cond → Out Bool
+  onInput types S = readInput types t >>= λ I. judged I S
+
+  filter-steps : filter s t ≡ (readCondition s >>= λ C. onInput (C .types) (C .conjuncts))
+  unfolding filter judged
+  filter-steps = refl
+
+  pub condition-refused : (n : ℕ) → refused n ≡ mapped sizes (readCondition s) → refused n ≡ filter s t
+  condition-refused n e = through sizes n (readCondition s) (λ C. onInput (C .types) (C .conjuncts)) e ∙ sym filter-steps
+
+  module _ (k : Counts) (read : IsRead s k) where
+    filter-read : filter s t ≡ onInput (typesOf s) (conjunctsOf s)
+    filter-read =
+        let r = mapped-ok sizes (readCondition s) (sizesOf k) read in
+        let C : Condition = r .0 in
+        let q = condition-read s C (r .1) in
+        filter-steps ∙ ap (λ (o : Out Condition). o >>= λ D. onInput (D .types) (D .conjuncts)) (r .1) ∙ ap₂ onInput (q .0) (q .1)
+
+    pub input-refused : (n : ℕ) → refused n ≡ mapped (λ I. tt {0}) (readInput (typesOf s) t) → refused n ≡ filter s t
+    input-refused n e = through (λ I. tt {0}) n (readInput (typesOf s) t) (λ I. judged I (conjunctsOf s)) e ∙ sym filter-read
+
+    pub both-read : InputIsRead (typesOf s) t → filter s t ≡ judged (inputIn (typesOf s) t) (conjunctsOf s)
+    both-read h =
+        let r = mapped-ok (λ I. tt {0}) (readInput (typesOf s) t) (tt {0}) h in
+        filter-read ∙ ap (λ (o : Out Input). o >>= λ I. judged I (conjunctsOf s)) (r .1) ∙ ap (λ (I : Input). judged I (conjunctsOf s)) (input-is (typesOf s) t (r .0) (r .1))

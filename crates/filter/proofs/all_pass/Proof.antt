@@ -1,0 +1,75 @@
+-- `filter::all_pass` meets its contract. The loop's invariant: what is left to be tested answers for all.
+-- Assumes nothing.
+use mathlib.Core.Path.{subst, _≡_, refl, sym, _∙_}
+use Prim.Native.Nat.{_-_}
+use lib.ListN.{drop}
+use borrow.Author.Tests.{not-true, not-false}
+use borrow.Author.Needs.{needs}
+use Rattle.model.specs.Lists.{every}
+use Rattle.model.specs.Input.{Input}
+use Rattle.condition.specs.Answers.{conjunctsOf}
+use Rattle.evaluator.specs.Part.{IsConjunct}
+use Rattle.evaluator.specs.Readings.{Decoded}
+use Rattle.filter.specs.Verdict.{testOf}
+use Rattle.filter.proofs.Conjuncts.{conjunct-formed, passed, failed, all-passed}
+use Rattle.filter.proofs.all_pass.Statement.{statement}
+use Rattle.filter.proofs.all_pass.Tie as tie
+
+abbrev Inv-loop : tie.InvT-loop
+Inv-loop test condition sizes counts mags negs n i₀ i =
+    (n ≡ sizes .conjuncts) × ((I : Input) → Decoded I counts mags negs → every (testOf test I) (conjunctsOf condition) ≡ every (testOf test I) (drop i (conjunctsOf condition)))
+
+abbrev μ-loop : tie.MeasureT-loop
+μ-loop test condition sizes counts mags negs n i₀ i = n - i
+
+loop-holds : tie.Need-loop-holds Inv-loop μ-loop
+loop-holds c = (refl, λ I h. refl)
+
+conjunct-requires : tie.Need-conjunct-requires Inv-loop μ-loop
+conjunct-requires c κs = search needs
+
+passes-requires : tie.Need-passes-requires Inv-loop μ-loop
+passes-requires c κs =
+    let g = c .before .before .before .before .before .before .before in
+    (subst IsConjunct (sym (c .conjunct .ensures .0)) (conjunct-formed (g .args .condition .now) (g .args .sizes) (g .pre .0) (c .before .before .loop .i) (c .before .loop-test .taken)), g .pre .1)
+
+returns : tie.Need-returns Inv-loop μ-loop
+returns c = λ I h.
+    let g = c .before .before .before .before .before .before .before .before .before in
+    let lp = c .before .before .before .before .loop in
+    sym (lp .inv .1 I h ∙ failed (g .args .condition .now) (g .args .sizes) (g .pre .0) (testOf (g .args .test) I) (lp .i) (c .before .before .before .loop-test .taken) (c .before .before .conjunct .result .now) (c .before .before .conjunct .ensures .1) (sym (c .before .passes .ensures I h) ∙ not-true _ (c .if1 .taken)))
+
+add-i : tie.Need-add-i Inv-loop μ-loop
+add-i c = search needs
+
+loop-less : tie.Need-loop-less Inv-loop μ-loop
+loop-less c = search needs
+
+loop-again : tie.Need-loop-again Inv-loop μ-loop
+loop-again c =
+    let g = c .before .before .before .before .before .before .before .before .before in
+    let lp = c .before .before .before .before .loop in (
+      refl,
+      λ I h. lp .inv .1 I h ∙ passed (g .args .condition .now) (g .args .sizes) (g .pre .0) (testOf (g .args .test) I) (lp .i) (c .before .before .before .loop-test .taken) (c .before .before .conjunct .result .now) (c .before .before .conjunct .ensures .1) (sym (c .before .passes .ensures I h) ∙ not-false _ (c .if1 .left)),
+    )
+
+returns-2 : tie.Need-returns-2 Inv-loop μ-loop
+returns-2 c = λ I h.
+    let g = c .before .before .before .before .before .before in
+    let lp = c .before .loop in
+    sym (lp .inv .1 I h ∙ all-passed (g .args .condition .now) (g .args .sizes) (g .pre .0) (testOf (g .args .test) I) (lp .i) (c .loop-test .left))
+
+pub all-pass-spec : {M : Type 1} → statement M
+all-pass-spec =
+    tie.close
+    (tie.spec
+    Inv-loop
+    μ-loop
+    loop-holds
+    conjunct-requires
+    passes-requires
+    returns
+    add-i
+    loop-less
+    loop-again
+    returns-2)

@@ -1,0 +1,16 @@
+-- `filter::has_few` meets its contract.
+-- Assumes nothing.
+use borrow.Author.Needs.{needs}
+use Rattle.evaluator.specs.Part.{conjunctOf}
+use Rattle.evaluator.proofs.Calls.{product-few}
+use Rattle.filter.proofs.has_few.Statement.{statement}
+use Rattle.filter.proofs.has_few.Tie as tie
+
+product-requires : tie.Need-product-requires
+product-requires c κs = search needs
+
+returns : tie.Need-returns
+returns c = λ I h. product-few (conjunctOf (c .before .before .before .args .part .now)) (c .before .before .before .args .counts .now) (c .product .result) (c .product .ensures) I h
+
+pub has-few-spec : {M : Type 1} → statement M
+has-few-spec = tie.close (tie.spec product-requires returns)

@@ -1,0 +1,78 @@
+-- `filter::put_field` meets its contract.
+-- Assumes nothing.
+use mathlib.Core.Path.{sym, refl, ap, _∙_}
+use Prim.Native.Nat.{_*_}
+use native.Mathlib.Omega.{arith}
+use lib.IntN.{pos}
+use lib.ListN.{length, getD}
+use borrow.Author.Needs.{needs}
+use Rattle.evaluator.specs.Readings.{signedAt}
+use Rattle.filter.specs.Decoding.{inputIn}
+use Rattle.filter.proofs.Readings.{filled-none, type-code, field-none, field-listed, readings-inside, field-filled}
+use Rattle.filter.proofs.put_field.Statement.{statement}
+use Rattle.filter.proofs.put_field.Tie as tie
+
+returns : tie.Need-returns
+returns c =
+    let a = c .before .before .before .before .before .args in
+    let I = inputIn (a .types .now) (a .input .now) (a .f) in
+    let e = field-none (a .types .now) (a .input .now) (a .f) (c .if1 .taken) in
+    (rw e refl, omega arith, filled-none (λ k. getD I k (pos 0)) (128 * a .f) (signedAt (a .mags .now) (a .negs .now)))
+
+readings-requires : tie.Need-readings-requires
+readings-requires c κs = search needs
+
+count-requires : tie.Need-count-requires
+count-requires c κs = search needs
+
+shared-slice-read-put-readings : tie.Need-shared-slice-read-put-readings
+shared-slice-read-put-readings c = search needs
+
+mul-put-readings : tie.Need-mul-put-readings
+mul-put-readings c = search needs
+
+put-readings-requires : tie.Need-put-readings-requires
+put-readings-requires c κs =
+    let g = c .before .before .before .before .before .before .before .before .before .before in
+    let a = g .args in
+    let n = c .before .before .before .count in
+    let p = c .before .before .before .before .readings in
+    let l = c .before .before .before .before .before .if1 .left in (
+      type-code (a .types .now) (a .f) (g .pre .1) l,
+      readings-inside (a .types .now) (a .input .now) (a .f) (g .pre .0) l (n .result) (n .ensures .0) (p .result .now) (p .ensures),
+      omega (arith, n .ensures .1, g .pre .2, g .pre .3),
+      omega (arith, n .ensures .1, g .pre .2, g .pre .4),
+    )
+
+same-length : tie.Need-same-length
+same-length c = search needs
+
+same-length-2 : tie.Need-same-length-2
+same-length-2 c = search needs
+
+returns-2 : tie.Need-returns-2
+returns-2 c =
+    let g = c .before .before .before .before .before .before .before .before .before .before .before .before .before .before .before in
+    let a = g .args in
+    let n = c .before .before .before .before .before .before .before .before .count in
+    let p = c .before .before .before .before .before .before .before .before .before .readings in
+    let l = c .before .before .before .before .before .before .before .before .before .before .if1 .left in
+    let q = c .before .before .before .before .put-readings in (
+      n .ensures .0 ∙ sym (ap length (field-listed (a .types .now) (a .input .now) (a .f) l)),
+      n .ensures .1,
+      field-filled (a .types .now) (a .input .now) (a .f) (g .pre .0) l (n .result) (n .ensures .0) (p .result .now) (p .ensures) (128 * a .f) (signedAt (a .mags .now) (a .negs .now)) (signedAt (q .last .1 .1 .1 .1 .0) (q .last .1 .1 .1 .1 .1 .0)) (q .ensures),
+    )
+
+pub put-field-spec : {M : Type 1} → statement M
+put-field-spec =
+    tie.close
+    (tie.spec
+    returns
+    readings-requires
+    count-requires
+    shared-slice-read-put-readings
+    mul-put-readings
+    put-readings-requires
+    same-length
+    same-length-2
+    returns-2)

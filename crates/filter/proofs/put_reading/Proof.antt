@@ -1,0 +1,44 @@
+-- `filter::put_reading` meets its contract.
+-- Assumes nothing.
+use mathlib.Core.Path.{_∙_}
+use native.Mathlib.Omega.{arith}
+use borrow.Author.Needs.{needs}
+use Rattle.evaluator.proofs.Inputs.{signed-same, signed-other}
+use Rattle.filter.proofs.put_reading.Statement.{statement}
+use Rattle.filter.proofs.put_reading.Tie as tie
+
+reading-requires : tie.Need-reading-requires
+reading-requires c κs = search needs
+
+mul-mags : tie.Need-mul-mags
+mul-mags c = search needs
+
+slice-write-mags : tie.Need-slice-write-mags
+slice-write-mags c = search needs
+
+slice-write-negs : tie.Need-slice-write-negs
+slice-write-negs c = search needs
+
+same-length : tie.Need-same-length
+same-length c = search needs
+
+same-length-2 : tie.Need-same-length-2
+same-length-2 c = search needs
+
+returns : tie.Need-returns
+returns c =
+    let a = c .before .before .before .before .args in
+    let z = c .reading .result in
+    (signed-same (a .mags .now) (a .negs .now) (a .at) (z .mag) (z .neg) (omega arith) (omega arith) ∙ c .reading .ensures, signed-other (a .mags .now) (a .negs .now) (a .at) (z .mag) (z .neg))
+
+pub put-reading-spec : {M : Type 1} → statement M
+put-reading-spec =
+    tie.close
+    (tie.spec
+    reading-requires
+    mul-mags
+    slice-write-mags
+    slice-write-negs
+    same-length
+    same-length-2
+    returns)

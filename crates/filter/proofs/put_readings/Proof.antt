@@ -1,0 +1,80 @@
+-- `filter::put_readings` meets its contract. The loop's invariant: the first k readings stand in their places.
+-- Assumes nothing.
+use mathlib.Core.Path.{subst, _≡_, refl}
+use Prim.Native.Nat.{_*_, _-_, _≤_}
+use native.Mathlib.Omega.{arith}
+use lib.ListN.{length}
+use borrow.Author.Needs.{needs}
+use Rattle.model.specs.Input.{width, readingAt}
+use Rattle.evaluator.specs.Readings.{signedAt}
+use Rattle.filter.specs.Decoding.{Filled}
+use Rattle.filter.proofs.Readings.{filled-none, filled-next, next-inside}
+use Rattle.filter.proofs.put_readings.Statement.{statement}
+use Rattle.filter.proofs.put_readings.Tie as tie
+
+abbrev Inv-loop : tie.InvT-loop
+Inv-loop ty part n from mags₀ negs₀ k₀ mags negs k =
+    (k ≤ n) × (length mags ≡ length mags₀) × (length negs ≡ length negs₀) × Filled (λ j. readingAt ty part (j * width ty)) from k (signedAt mags₀ negs₀) (signedAt mags negs)
+
+abbrev μ-loop : tie.MeasureT-loop
+μ-loop ty part n from mags₀ negs₀ k₀ mags negs k = n - k
+
+loop-holds : tie.Need-loop-holds Inv-loop μ-loop
+loop-holds c =
+    let a = c .before .before .before .args in
+    (omega arith, refl, refl, filled-none (λ j. readingAt (a .ty) (a .part .now) (j * width (a .ty))) (a .from) (signedAt (a .mags .now) (a .negs .now)))
+
+add-put-reading : tie.Need-add-put-reading Inv-loop μ-loop
+add-put-reading c = search needs
+
+put-reading-requires : tie.Need-put-reading-requires Inv-loop μ-loop
+put-reading-requires c κs =
+    let g = c .before .before .before .before .before .before .before in
+    let lp = c .before .before .before .loop in
+    (g .pre .0, next-inside (lp .k) (g .args .n) (width (g .args .ty)) (length (g .args .part .now)) (omega arith) (g .pre .1), omega (arith, lp .inv .1), omega (arith, lp .inv .2))
+
+add-k : tie.Need-add-k Inv-loop μ-loop
+add-k c = search needs
+
+loop-less : tie.Need-loop-less Inv-loop μ-loop
+loop-less c = search needs
+
+loop-again : tie.Need-loop-again Inv-loop μ-loop
+loop-again c =
+    let a = c .before .before .before .before .before .before .before .before .before .before .before .before .args in
+    let lp = c .before .before .before .before .before .before .before .before .loop in
+    let p = c .before .before .before .before .put-reading in (
+      omega arith,
+      omega (arith, p .kept .1 .1 .1 .1 .0, lp .inv .1),
+      omega (arith, p .kept .1 .1 .1 .1 .1 .0, lp .inv .2),
+      filled-next (λ j. readingAt (a .ty) (a .part .now) (j * width (a .ty))) (a .from) (signedAt (a .mags .now) (a .negs .now)) (lp .k) (signedAt (lp .mags) (lp .negs)) (signedAt (p .last .1 .1 .1 .1 .0) (p .last .1 .1 .1 .1 .1 .0)) (lp .inv .3) (p .ensures),
+    )
+
+same-length : tie.Need-same-length Inv-loop μ-loop
+same-length c = search needs
+
+same-length-2 : tie.Need-same-length-2 Inv-loop μ-loop
+same-length-2 c = search needs
+
+returns : tie.Need-returns Inv-loop μ-loop
+returns c =
+    let a = c .before .before .before .before .before .args in
+    let lp = c .before .loop in
+    let e : lp .k ≡ a .n = omega arith in
+    subst (λ m. Filled (λ j. readingAt (a .ty) (a .part .now) (j * width (a .ty))) (a .from) m (signedAt (a .mags .now) (a .negs .now)) (signedAt (lp .mags) (lp .negs))) e (lp .inv .3)
+
+pub put-readings-spec : {M : Type 1} → statement M
+put-readings-spec =
+    tie.close
+    (tie.spec
+    Inv-loop
+    μ-loop
+    loop-holds
+    add-put-reading
+    put-reading-requires
+    add-k
+    loop-less
+    loop-again
+    same-length
+    same-length-2
+    returns)

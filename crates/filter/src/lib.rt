@@ -1,0 +1,198 @@
+// The filter (document 01: gate): whether the readings of an input pass a condition. The condition is
+// read, then the input; the readings are decoded once; the combinations of all conjuncts are counted
+// before any conjunct is evaluated. Assumes nothing.
+ghost use mathlib.Core.Path.{_≡_};
+ghost use mathlib.Core.Bool.{true};
+ghost use Prim.Native.Nat.{_+_, _*_, _≤_, _<_};
+ghost use lib.IntN.{pos};
+ghost use lib.ListN.{length, getD};
+ghost use Rattle.model.specs.Lists.{every};
+ghost use Rattle.model.specs.Program.{typeRight};
+ghost use Rattle.model.specs.Input.{Input, width, readingAt};
+ghost use Rattle.model.specs.Filter.{holds, fewCombinations, filter};
+ghost use Rattle.input.specs.Answers.{IsRead as InputIsRead};
+ghost use Rattle.condition.specs.Answers.{IsRead, typesOf, conjunctsOf};
+ghost use Rattle.evaluator.specs.Part.{conjunctOf, IsConjunct};
+ghost use Rattle.evaluator.specs.Readings.{signedAt, Few, Lent, Counted, Decoded};
+ghost use Rattle.evaluator.specs.Plan.{Taken};
+ghost use Rattle.filter.specs.Verdict.{verdictOf, testOf, judged};
+ghost use Rattle.filter.specs.Decoding.{inputIn, Filled};
+use condition::ConditionRead;
+use condition::Counts;
+use input::InputRead;
+
+// The input passes, is held, or the number of the refusal.
+pub enum Verdict {
+    Pass,
+    Held,
+    Refused(u8),
+}
+
+// What is asked of a conjunct: that it has few enough combinations; that none of them overflows.
+enum Test {
+    Count,
+    Evaluate,
+}
+
+// ---- the readings
+
+// The reading with number k of a field's part, put to a place.
+fn put_reading(ty: u8, part: &[u8], k: usize, at: usize, mags: &mut [u64], negs: &mut [bool])
+    requires { ⌜ (ty < 8) × ((k + 1) * width ty ≤ length (now part)) × (at < length (now mags)) × (at < length (now negs)) ⌝ }
+    ensures { λ _. ⌜ Taken at (readingAt ty (now (part .entry)) (k * width ty)) (signedAt (now (mags .entry)) (now (negs .entry))) (signedAt (now (mags .exit)) (now (negs .exit))) ⌝ }
+{
+    let z = input::reading(ty, part, k);
+    mags[at] = z.mag;
+    negs[at] = z.neg;
+}
+
+// The first n readings of a field's part, put to the places from one on.
+fn put_readings(ty: u8, part: &[u8], n: usize, from: usize, mags: &mut [u64], negs: &mut [bool])
+    requires { ⌜ (ty < 8) × (n * width ty ≤ length (now part)) × (from + n ≤ length (now mags)) × (from + n ≤ length (now negs)) ⌝ }
+    ensures { λ _. ⌜ Filled (λ k. readingAt ty (now (part .entry)) (k * width ty)) from n (signedAt (now (mags .entry)) (now (negs .entry))) (signedAt (now (mags .exit)) (now (negs .exit))) ⌝ }
+{
+    let mut k: usize = 0;
+    while k < n {
+        put_reading(ty, part, k, from + k, mags, negs);
+        k += 1;
+    }
+}
+
+// The readings of a field, put to the places from 128 * f on, and how many they are; none of a field
+// that is not listed.
+fn put_field(types: &[u8], input: &[u8], f: usize, mags: &mut [u64], negs: &mut [bool]) -> usize
+    requires { ⌜ InputIsRead (now types) (now input) × (every typeRight (now types) ≡ true) × (f < 32) × (length (now mags) ≡ 4096) × (length (now negs) ≡ 4096) ⌝ }
+    ensures { λ r. ⌜ (r ≡ length (inputIn (now (types .entry)) (now (input .entry)) f)) × (r ≤ 128)
+        × Filled (λ k. getD (inputIn (now (types .entry)) (now (input .entry)) f) k (pos 0)) (128 * f) r (signedAt (now (mags .entry)) (now (negs .entry))) (signedAt (now (mags .exit)) (now (negs .exit))) ⌝ }
+{
+    if types.len() <= f {
+        return 0;
+    }
+    let part = input::readings(types, input, f);
+    let n = input::count(types, input, f);
+    put_readings(types[f], part, n, 128 * f, mags, negs);
+    n
+}
+
+// The readings of all fields.
+fn decode(types: &[u8], input: &[u8], counts: &mut [usize], mags: &mut [u64], negs: &mut [bool])
+    requires { ⌜ InputIsRead (now types) (now input) × (every typeRight (now types) ≡ true) × (length (now counts) ≡ 32) × (length (now mags) ≡ 4096) × (length (now negs) ≡ 4096) ⌝ }
+    ensures { λ _. ⌜ Lent (now (counts .exit)) (now (mags .exit)) (now (negs .exit)) × Decoded (inputIn (now (types .entry)) (now (input .entry))) (now (counts .exit)) (now (mags .exit)) (now (negs .exit)) ⌝ }
+{
+    let mut f: usize = 0;
+    while f < 32 {
+        counts[f] = put_field(types, input, f, mags, negs);
+        f += 1;
+    }
+}
+
+// ---- the conjuncts
+
+// Whether a conjunct has few enough combinations.
+fn has_few(part: &[u8], counts: &[usize]) -> bool
+    requires { ⌜ IsConjunct (now part) × Few (now counts) ⌝ }
+    ensures { λ r. ⌜ ((I : Input) → Counted I (now (counts .entry)) → r ≡ fewCombinations I (conjunctOf (now (part .entry)))) ⌝ }
+{
+    evaluator::product(part, counts) <= 1048576
+}
+
+// Whether no combination overflows at a step of a conjunct; where an atom has no reading there is no
+// combination.
+fn nothing_overflows(part: &[u8], counts: &[usize], mags: &[u64], negs: &[bool]) -> bool
+    requires { ⌜ IsConjunct (now part) × Lent (now counts) (now mags) (now negs) ⌝ }
+    ensures { λ r. ⌜ ((I : Input) → Decoded I (now (counts .entry)) (now (mags .entry)) (now (negs .entry)) → r ≡ holds I (conjunctOf (now (part .entry)))) ⌝ }
+{
+    if evaluator::product(part, counts) == 0 {
+        return true;
+    }
+    evaluator::holds(part, counts, mags, negs)
+}
+
+// Whether a conjunct passes a test.
+fn passes(test: Test, part: &[u8], counts: &[usize], mags: &[u64], negs: &[bool]) -> bool
+    requires { ⌜ IsConjunct (now part) × Lent (now counts) (now mags) (now negs) ⌝ }
+    ensures { λ r. ⌜ ((I : Input) → Decoded I (now (counts .entry)) (now (mags .entry)) (now (negs .entry)) → r ≡ testOf test I (conjunctOf (now (part .entry)))) ⌝ }
+{
+    match test {
+        Test::Count => has_few(part, counts),
+        Test::Evaluate => nothing_overflows(part, counts, mags, negs),
+    }
+}
+
+// Whether all conjuncts pass a test.
+fn all_pass(
+    test: Test,
+    condition: &[u8],
+    sizes: Counts,
+    counts: &[usize],
+    mags: &[u64],
+    negs: &[bool],
+) -> bool
+    requires { ⌜ IsRead (now condition) sizes × Lent (now counts) (now mags) (now negs) ⌝ }
+    ensures { λ r. ⌜ ((I : Input) → Decoded I (now (counts .entry)) (now (mags .entry)) (now (negs .entry)) → r ≡ every (testOf test I) (conjunctsOf (now (condition .entry)))) ⌝ }
+{
+    let n = sizes.conjuncts;
+    let mut i: usize = 0;
+    while i < n {
+        let part = condition::conjunct(condition, sizes, i);
+        if !passes(test, part, counts, mags, negs) {
+            return false;
+        }
+        i += 1;
+    }
+    true
+}
+
+// ---- the verdict
+
+// Of a condition that is read, with the readings of an input: all products are tested before any
+// evaluation.
+fn judge(condition: &[u8], sizes: Counts, counts: &[usize], mags: &[u64], negs: &[bool]) -> Verdict
+    requires { ⌜ IsRead (now condition) sizes × Lent (now counts) (now mags) (now negs) ⌝ }
+    ensures { λ r. ⌜ ((I : Input) → Decoded I (now (counts .entry)) (now (mags .entry)) (now (negs .entry)) → verdictOf r ≡ judged I (conjunctsOf (now (condition .entry)))) ⌝ }
+{
+    if !all_pass(Test::Count, condition, sizes, counts, mags, negs) {
+        return Verdict::Refused(14);
+    }
+    if !all_pass(Test::Evaluate, condition, sizes, counts, mags, negs) {
+        return Verdict::Held;
+    }
+    Verdict::Pass
+}
+
+// Of a condition and an input that are read.
+fn judge_input(condition: &[u8], sizes: Counts, input: &[u8]) -> Verdict
+    requires { ⌜ IsRead (now condition) sizes × InputIsRead (typesOf (now condition)) (now input) ⌝ }
+    ensures { λ r. ⌜ verdictOf r ≡ judged (inputIn (typesOf (now (condition .entry))) (now (input .entry))) (conjunctsOf (now (condition .entry))) ⌝ }
+{
+    let mut counts: [usize; 32] = [0; 32];
+    let mut mags: [u64; 4096] = [0; 4096];
+    let mut negs: [bool; 4096] = [false; 4096];
+    let types = condition::types(condition, sizes);
+    decode(types, input, &mut counts, &mut mags, &mut negs);
+    judge(condition, sizes, &counts, &mags, &negs)
+}
+
+// Of a condition that is read.
+fn check_input(condition: &[u8], sizes: Counts, input: &[u8]) -> Verdict
+    requires { ⌜ IsRead (now condition) sizes ⌝ }
+    ensures { λ r. ⌜ verdictOf r ≡ filter (now (condition .entry)) (now (input .entry)) ⌝ }
+{
+    let types = condition::types(condition, sizes);
+    let r = input::read(types, input);
+    match r {
+        InputRead::Refused(n) => Verdict::Refused(n),
+        InputRead::Yes => judge_input(condition, sizes, input),
+    }
+}
+
+// The verdict on two byte strings.
+pub fn check(condition: &[u8], input: &[u8]) -> Verdict
+    ensures { λ r. ⌜ verdictOf r ≡ filter (now (condition .entry)) (now (input .entry)) ⌝ }
+{
+    let r = condition::read(condition);
+    match r {
+        ConditionRead::Refused(n) => Verdict::Refused(n),
+        ConditionRead::Counts(sizes) => check_input(condition, sizes, input),
+    }
+}
