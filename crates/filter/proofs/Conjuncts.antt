@@ -25,17 +25,23 @@ use Rattle.evaluator.proofs.Parts.{part-is-conjunct}
 
 -- ---- what the reader has tested
 
-form-narrow : (s : List ℕ) (c f : ℕ) → formBy s c f ≡ true → f ≤ 32
+-- its first tests: the file holds its counts, and they are not too large
+form-sized : (s : List ℕ) (c f : ℕ) → formBy s c f ≡ true → (leb 8 (length s) && leb c 64 && leb f 32) ≡ true
 unfolding formBy
-form-narrow s c f form =
+form-sized s c f form =
     let pairs = pairsAt s (8 + f) c in
     let sized = leb 8 (length s) && leb c 64 && leb f 32 in
     let chain = chained (conjunctsAt f c) pairs (length s) in
     let typed = every typeRight (part s 8 f) in
     let right = every (pairRight (part s 8 f) s) pairs in
-    leb-true f 32
-    (and-right (leb 8 (length s) && leb c 64) (leb f 32)
-    (and-left sized chain (and-left (sized && chain) typed (and-left (sized && chain && typed) right (and-left (sized && chain && typed && right) (rising (map (conjunctAt s) pairs)) form)))))
+    and-left sized chain
+    (and-left (sized && chain) typed (and-left (sized && chain && typed) right (and-left (sized && chain && typed && right) (rising (map (conjunctAt s) pairs)) form)))
+
+pub form-few : (s : List ℕ) (c f : ℕ) → formBy s c f ≡ true → c ≤ 64
+form-few s c f form = leb-true c 64 (and-right (leb 8 (length s)) (leb c 64) (and-left (leb 8 (length s) && leb c 64) (leb f 32) (form-sized s c f form)))
+
+pub form-narrow : (s : List ℕ) (c f : ℕ) → formBy s c f ≡ true → f ≤ 32
+form-narrow s c f form = leb-true f 32 (and-right (leb 8 (length s) && leb c 64) (leb f 32) (form-sized s c f form))
 
 -- a pair that is right names a conjunct
 right-is-conjunct : (types s : List ℕ) (p : Pair) → length types ≤ 32 → p .offset + p .len ≤ length s → pairRight types s p ≡ true → IsConjunct (part s (p .offset) (p .len))

@@ -1,3 +1,4 @@
 pub mod Readings
 pub mod Conjuncts
 pub mod Verdicts
+pub mod Longer

@@ -48,10 +48,10 @@ input-is types s I e =
     sym (ok-eq J I (check-ok (chained (8 * length types) ps (length s) && lengthsRight types ps) wrongInput (ok J) I e .1))
 
 module _ (s t : List ℕ) where
-  abbrev onInput : List ℕ → Cond → Out Bool
+  abbrev pub onInput : List ℕ → Cond → Out Bool
   onInput types S = readInput types t >>= λ I. judged I S
 
-  filter-steps : filter s t ≡ (readCondition s >>= λ C. onInput (C .types) (C .conjuncts))
+  pub filter-steps : filter s t ≡ (readCondition s >>= λ C. onInput (C .types) (C .conjuncts))
   unfolding filter judged
   filter-steps = refl
 

@@ -13,35 +13,6 @@ fn say(text: &[u8]) {
     io::write_all(STDOUT_FILENO, text);
 }
 
-// The file that an argument names, open for reading; below 0 where it cannot be opened, which is said.
-fn opened(i: usize, complaint: &[u8]) -> i32 {
-    let mut path = io::buffer();
-    let n = os::arg(i, &mut path);
-    if os::errno() != 0 {
-        os::fail(complaint);
-        return -1;
-    }
-    let fd = os::open_read(&path[..n]);
-    if fd < 0 {
-        os::fail(complaint);
-    }
-    fd
-}
-
-// Whether a read that filled less than its buffer ended for another reason than the file's end, as it
-// does for a folder, which is said: then the next read fails.
-fn failed(fd: i32, is_full: bool, complaint: &[u8]) -> bool {
-    if is_full {
-        return false;
-    }
-    let mut next = [0u8; 1];
-    if libc::read(fd, &mut next) < 0 {
-        os::fail(complaint);
-        return true;
-    }
-    false
-}
-
 fn print(v: Verdict) {
     match v {
         Verdict::Pass => say(b"pass\n"),
@@ -58,7 +29,7 @@ fn print(v: Verdict) {
 fn judge(condition: &[u8], fd: i32) {
     let mut sheet = [0u8; 33025];
     let n = io::read_full(fd, &mut sheet);
-    if failed(fd, n == 33025, b"cannot read SHEET") {
+    if files::failed(fd, n == 33025, b"cannot read SHEET") {
         return;
     }
     let v = filter::check(condition, &sheet[..n]);
@@ -68,7 +39,7 @@ fn judge(condition: &[u8], fd: i32) {
 fn run(condition_fd: i32, sheet_fd: i32) {
     let mut condition = [0u8; 61993];
     let n = io::read_full(condition_fd, &mut condition);
-    if failed(condition_fd, n == 61993, b"cannot read CONDITION") {
+    if files::failed(condition_fd, n == 61993, b"cannot read CONDITION") {
         return;
     }
     judge(&condition[..n], sheet_fd);
@@ -79,11 +50,11 @@ fn main() {
         io::write_all(STDERR_FILENO, b"usage: gate CONDITION SHEET\n");
         return;
     }
-    let condition_fd = opened(1, b"cannot open CONDITION");
+    let condition_fd = files::open(1, b"cannot open CONDITION");
     if condition_fd < 0 {
         return;
     }
-    let sheet_fd = opened(2, b"cannot open SHEET");
+    let sheet_fd = files::open(2, b"cannot open SHEET");
     if sheet_fd < 0 {
         return;
     }

@@ -56,3 +56,6 @@ pub mod SafeMeets
 pub mod RefusalNumbers
 pub mod Demand3
 pub mod WorkedExamples
+pub mod Depth
+pub mod Guarding
+pub mod Rising

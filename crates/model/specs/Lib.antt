@@ -12,3 +12,4 @@ pub mod Filter
 pub mod Run
 pub mod Exact
 pub mod Demands
+pub mod Guarded

@@ -1,0 +1,5 @@
+pub mod Starting
+pub mod Uniting
+pub mod OneSite
+pub mod Passing
+pub mod Files

@@ -1,0 +1,116 @@
+-- The rule at the program's start, conjunct by conjunct from the last to the first: it never refuses a set that a region holds.
+-- Assumes nothing.
+use mathlib.Core.Bool.{Bool, true, false}
+use mathlib.Core.List.{List, [], _∷_, map}
+use mathlib.Core.Logic.{inr}
+use mathlib.Core.Path.{_≡_, refl, sym, ap, ap₂, _∙_}
+use Prim.Native.Nat.{ℕ, zero, suc, _+_, _≤_}
+use native.Mathlib.Omega.{arith}
+use lib.ListN.{length, getD, take, drop, length-map, length-drop}
+use lib.Seq.{drop-cons, drop-length}
+use borrow.Author.Tests.{le-ltb}
+use Rattle.model.specs.Conjunct.{Conj, Cond, insert, union, long, atom, atoms, renamed, onAtom, renumber}
+use Rattle.model.specs.Lists.{All}
+use Rattle.model.specs.Refusals.{ok}
+use Rattle.model.specs.Walk.{zeroed, gather, start}
+use Rattle.model.proofs.Canonical.{insert-length}
+use Rattle.model.proofs.Gather.{gather-every}
+use Rattle.model.proofs.Limits.{fine-limits}
+use Rattle.model.proofs.TidySets.{Fine}
+use Rattle.node.specs.Word.{nodeOf, nodesOf}
+use Rattle.sets.specs.Region.{few, slotAt, rowsFrom, rowsOf, setOf, Within, Inserted}
+use Rattle.sets.proofs.Rows.{few-most, set-length, take-short, frame}
+
+-- ---- sets within the limits
+
+-- no conjunct over 120 nodes
+abbrev pub Short : Conj → Type 0
+Short e = length e ≤ 120
+
+pub short-long : (S : Cond) → All Short S → long S ≡ false
+unfolding long
+short-long [] h = refl
+short-long (e ∷ S) h = rw (le-ltb 120 (length e) (h .0)) (short-long S (h .1))
+
+take-most : (n : ℕ) (l : List ℕ) → length (take n l) ≤ n
+take-most zero l = omega arith
+take-most (suc n) [] = omega arith
+take-most (suc n) (x ∷ l) = omega (arith, take-most n l)
+
+rows-short : (n : ℕ) (s : List ℕ) (a : ℕ) → All Short (map nodesOf (rowsFrom s a n))
+unfolding rowsFrom slotAt
+rows-short zero s a = tt
+rows-short (suc n) s a =
+    let room = take 120 (drop (a + 1) s) in
+    (omega (arith, length-map (take (getD s a 0) room) nodeOf, take-short (getD s a 0) room, take-most 120 (drop (a + 1) s)), rows-short n s (a + 121))
+
+-- what a region holds
+pub region-short : (s : List ℕ) (b : ℕ) → All Short (setOf s b)
+unfolding setOf rowsOf
+region-short s b = rows-short (few (getD s b 0)) s (b + 1)
+
+pub region-few : (s : List ℕ) (b : ℕ) → length (setOf s b) ≤ 64
+region-few s b = omega (arith, set-length s b, few-most (getD s b 0))
+
+-- ---- the rule
+
+-- one conjunct at the program's start
+abbrev pub atStart : Conj → List Conj
+atStart e = map zeroed e ∷ []
+
+-- those of a set
+abbrev pub started : Cond → Cond
+started S = gather atStart S
+
+pub started-none : (S : Cond) (k : ℕ) → k ≡ length S → started (drop k S) ≡ []
+unfolding gather
+started-none S k e = ap (λ T. started T) (ap (λ j. drop j S) e ∙ drop-length S)
+
+pub started-next : (S : Cond) (k j : ℕ) → j + 1 ≡ k → k ≤ length S → started (drop j S) ≡ insert (renumber (map zeroed (getD S j []))) (started (drop k S))
+unfolding gather union
+started-next S k j e h =
+    let f : suc j ≡ k = omega arith in
+    ap (λ T. started T) (drop-cons S j [] (omega arith) ∙ ap (λ i. getD S j [] ∷ drop i S) f)
+
+pub started-length : (S : Cond) → length (started S) ≤ length S
+unfolding gather union
+started-length [] = omega arith
+started-length (e ∷ S) = omega (arith, insert-length (renumber (map zeroed e)) (started S), started-length S)
+
+one-short : (e : Conj) → Short e → All Short (map renumber (atStart e))
+unfolding renumber
+one-short e h = (omega (arith, length-map (map zeroed e) (onAtom (λ a. atom (renamed (atoms (map zeroed e)) a))), length-map e zeroed), tt)
+
+pub start-fits : (s : List ℕ) (b : ℕ) → start (setOf s b) ≡ ok (started (setOf s b))
+unfolding start
+start-fits s b =
+    let S = setOf s b in
+    let fine : Fine (started S) = record {
+      short = short-long (started S) (gather-every Short atStart Short one-short S (region-short s b));
+      few = omega (arith, started-length S, region-few s b);
+    } in
+    fine-limits (started S) fine
+
+-- ---- in a region, with the room after it
+
+module _ (s₀ : List ℕ) (b : ℕ) (fits : b + 15490 ≤ length s₀) where
+  -- the set stays while the room changes
+  pub kept : (s : List ℕ) → length s ≡ length s₀ → Within (b + 7745) s₀ s → setOf s b ≡ setOf s₀ b
+  kept s len within = frame s₀ s (b + 7745) b len (omega arith) (inr (omega arith)) within
+
+  -- one conjunct more
+  pub started-more : (s t : List ℕ) (k j : ℕ) (d : Conj) (r : Bool) → length s ≡ length s₀ → Within (b + 7745) s₀ s → j + 1 ≡ k → k ≤ length (setOf s₀ b)
+      → d ≡ renumber (map zeroed (getD (setOf s b) j [])) → setOf s (b + 7745) ≡ started (drop k (setOf s₀ b)) → Inserted r (b + 7745) d s t
+      → setOf t (b + 7745) ≡ started (drop j (setOf s₀ b))
+  started-more s t k j d r len within e h p so = go r
+    where
+      next : insert d (setOf s (b + 7745)) ≡ started (drop j (setOf s₀ b))
+      next = ap₂ insert (p ∙ ap (λ R. renumber (map zeroed (getD R j []))) (kept s len within)) so ∙ sym (started-next (setOf s₀ b) k j e h)
+
+      go : (q : Bool) → Inserted q (b + 7745) d s t → setOf t (b + 7745) ≡ started (drop j (setOf s₀ b))
+      go true i = i ∙ next
+      go false i =
+          absurd (omega (arith, i .1, insert-length d (setOf s (b + 7745)), ap length so, started-length (drop k (setOf s₀ b)), length-drop k (setOf s₀ b), region-few s₀ b))
+
+  pub start-done : (s t : List ℕ) (k : ℕ) → k ≡ 0 → setOf s (b + 7745) ≡ started (drop k (setOf s₀ b)) → setOf t b ≡ setOf s (b + 7745) → start (setOf s₀ b) ≡ ok (setOf t b)
+  start-done s t k z so e = start-fits s₀ b ∙ ap (λ T. ok T) (sym (e ∙ so ∙ ap (λ j. started (drop j (setOf s₀ b))) z))

@@ -1,0 +1,83 @@
+-- One site's set joined to the union so far, in regions.
+-- Assumes nothing.
+use mathlib.Core.Bool.{Bool, true, false}
+use mathlib.Core.List.{List, [], _∷_}
+use mathlib.Core.Path.{_≡_, sym, ap, _∙_}
+use Prim.Native.Nat.{ℕ, _+_, _≤_, _<_}
+use native.Mathlib.Omega.{arith}
+use lib.ListN.{length, getD}
+use borrow.Author.Tests.{lt-ltb}
+use Rattle.model.specs.Conjunct.{Conj, Cond, insert, union, long, limits}
+use Rattle.model.specs.Refusals.{ok, refused, _>>=_}
+use Rattle.model.specs.Walk.{start}
+use Rattle.model.proofs.Canonical.{union-every}
+use Rattle.model.proofs.Limits.{fine-limits}
+use Rattle.model.proofs.Results.{gives-ok}
+use Rattle.model.proofs.Tests.{true→T}
+use Rattle.model.proofs.Tidied.{start-tidy, union-tidy}
+use Rattle.model.proofs.TidySets.{Tidy}
+use Rattle.sets.specs.Region.{few, setOf, Inserted, Joined}
+use Rattle.sets.proofs.Rows.{few-most, set-same}
+use Rattle.rules.specs.Answers.{Below}
+use Rattle.analysis.specs.Joining.{joinedTo}
+use Rattle.analysis.proofs.Starting.{Short, short-long, region-short, region-few}
+
+-- the first conjunct of an empty region
+pub inserted-first : (r : Bool) (s t : List ℕ) (b : ℕ) (d : Conj) → setOf s b ≡ [] → Inserted r b d s t → setOf t b ≡ d ∷ []
+unfolding insert
+inserted-first true s t b d e h = h ∙ ap (insert d) e
+inserted-first false s t b d e h = absurd (omega (arith, h .1, ap (λ S. length (insert d S)) e))
+
+-- a region below what has changed
+pub region-below : (s t : List ℕ) (b n : ℕ) → length t ≡ length s → b + 7745 ≤ n → b + 7745 ≤ length s → Below n s t → setOf t b ≡ setOf s b
+region-below s t b n e h k f = set-same s t b b k (omega arith) (λ x g. f (b + x) (omega (arith, few-most (getD s b 0))))
+
+-- ---- unions of what regions hold
+
+module _ (s : List ℕ) (a b : ℕ) where
+  abbrev both : Cond
+  both = union (setOf s a) (setOf s b)
+
+  both-short : long both ≡ false
+  both-short = short-long both (union-every Short (setOf s a) (setOf s b) (region-short s a) (region-short s b))
+
+  union-fits : length both ≤ 64 → limits both ≡ ok both
+  union-fits h = fine-limits both (record { short = both-short; few = h })
+
+  union-over : 64 < length both → limits both ≡ refused 10
+  unfolding limits
+  union-over h = rw (both-short, lt-ltb 64 (length both) h)
+
+-- ---- the union so far at b, the site's set after it
+
+module _ (s t : List ℕ) (b : ℕ) (len : length t ≡ length s) (fits : b + 7745 ≤ length s) (below : Below (b + 7745) s t)
+    (at-start : start (setOf s (b + 7745)) ≡ ok (setOf t (b + 7745))) where
+  started : joinedTo (setOf s b) (setOf s (b + 7745)) ≡ limits (both t b (b + 7745))
+  started =
+      ap (λ o. o >>= λ Z. limits (union (setOf s b) Z)) at-start
+      ∙ ap (λ R. limits (union R (setOf t (b + 7745)))) (sym (region-below s t b (b + 7745) len (omega arith) fits below))
+
+  pub joined-over : (u : List ℕ) (r : Bool) → r ≡ false → Joined r b (b + 7745) t u → joinedTo (setOf s b) (setOf s (b + 7745)) ≡ refused 10
+  joined-over u true e h = absurd (true→T (sym e))
+  joined-over u false e h = started ∙ union-over t b (b + 7745) h
+
+  module _ (u v : List ℕ) (r : Bool) (e : r ≡ true) (h : Joined r b (b + 7745) t u) (copied : setOf v b ≡ setOf u (b + 7745)) where
+    union-is : setOf v b ≡ both t b (b + 7745)
+    union-is = go r e h
+      where
+        go : (q : Bool) → q ≡ true → Joined q b (b + 7745) t u → setOf v b ≡ both t b (b + 7745)
+        go true p k = copied ∙ k
+        go false p k = absurd (true→T p)
+
+    pub joined-done : joinedTo (setOf s b) (setOf s (b + 7745)) ≡ ok (setOf v b)
+    joined-done =
+        started ∙ union-fits t b (b + 7745) (omega (arith, ap length union-is, region-few v b)) ∙ ap (λ S. ok S) (sym union-is)
+
+    pub joined-tidy : Tidy (setOf s b) → Tidy (setOf v b)
+    joined-tidy h =
+        let R = setOf s b in
+        let S = setOf s (b + 7745) in
+        let Z = setOf t (b + 7745) in
+        let z : Tidy Z = gives-ok Tidy (start S) Z at-start (start-tidy S) in
+        let over : limits (union R Z) ≡ ok (setOf v b) = ap (λ o. o >>= λ X. limits (union R X)) (sym at-start) ∙ joined-done in
+        gives-ok Tidy (limits (union R Z)) (setOf v b) over (union-tidy R Z h z)

@@ -1,0 +1,73 @@
+-- `analysis::join_next` meets its contract. Assumes nothing.
+use mathlib.Core.Logic.{inl, inr}
+use mathlib.Core.Path.{_∙_}
+use Prim.Native.Nat.{_+_, _≤_}
+use native.Mathlib.Omega.{arith}
+use lib.ListN.{length}
+use borrow.Author.Needs.{needs}
+use borrow.Author.Tests.{not-true, not-false}
+use Rattle.climb.proofs.Walked.{refused-done}
+use Rattle.analysis.proofs.Uniting.{joined-over, joined-done, joined-tidy}
+use Rattle.analysis.proofs.join_next.Statement.{statement}
+use Rattle.analysis.proofs.join_next.Tie as tie
+
+add-next : tie.Need-add-next
+add-next c = search needs
+
+start-set-requires : tie.Need-start-set-requires
+start-set-requires c κs = search needs
+
+union-requires : tie.Need-union-requires
+union-requires c κs =
+    let p = c .before .before .before .before .before .before .pre in
+    let k = c .before .before .before .start-set .kept .0 in
+    (omega (arith, p .0, k), omega (arith, p .0, k), inr (omega arith))
+
+same-length : tie.Need-same-length
+same-length c = search needs
+
+returns : tie.Need-returns
+returns c =
+    let a = c .before .before .before .before .before .before .before .before .before .before .args in
+    let f = c .before .before .before .before .before .before .before .start-set in
+    let u = c .before .before .before .union in (
+      joined-over (a .s .now) (f .last .0) (a .b) (f .kept .0) (omega (arith, c .before .before .before .before .before .before .before .before .before .before .pre .0)) (f .ensures .1) (f .ensures .0) (u .last .0) (u .result) (not-true _ (c .if1 .taken)) (u .ensures .0),
+      λ e. absurd (refused-done _ e),
+      λ i h. u .ensures .1 i (inl (omega arith)) ∙ f .ensures .1 i (omega arith),
+    )
+
+copy-requires : tie.Need-copy-requires
+copy-requires c κs =
+    let p = c .before .before .before .before .before .before .before .before .before .before .before .pre in
+    let k = c .before .before .before .before .before .before .before .before .start-set .kept .0 in
+    let l = c .before .before .before .before .union .kept .0 in
+    (omega (arith, p .0, k, l), omega (arith, p .0, k, l), inl (omega arith))
+
+same-length-2 : tie.Need-same-length-2
+same-length-2 c = search needs
+
+returns-2 : tie.Need-returns-2
+returns-2 c =
+    let a = c .before .before .before .before .before .before .before .before .before .before .before .before .before .before .args in
+    let p = c .before .before .before .before .before .before .before .before .before .before .before .before .before .before .pre in
+    let f = c .before .before .before .before .before .before .before .before .before .before .before .start-set in
+    let u = c .before .before .before .before .before .before .before .union in
+    let v = c .before .before .copy in
+    let fits : a .b + 7745 ≤ length (a .s .now) = omega (arith, p .0) in (
+      joined-done (a .s .now) (f .last .0) (a .b) (f .kept .0) fits (f .ensures .1) (f .ensures .0) (u .last .0) (v .last .0) (u .result) (not-false _ (c .before .before .before .before .if1 .left)) (u .ensures .0) (v .ensures .0),
+      λ e. joined-tidy (a .s .now) (f .last .0) (a .b) (f .kept .0) fits (f .ensures .1) (f .ensures .0) (u .last .0) (v .last .0) (u .result) (not-false _ (c .before .before .before .before .if1 .left)) (u .ensures .0) (v .ensures .0) (p .1),
+      λ i h. v .ensures .1 i (inl h) ∙ u .ensures .1 i (inl (omega arith)) ∙ f .ensures .1 i (omega arith),
+    )
+
+pub join-next-spec : {M : Type 1} → statement M
+join-next-spec =
+    tie.close
+    (tie.spec
+    add-next
+    start-set-requires
+    union-requires
+    same-length
+    returns
+    copy-requires
+    same-length-2
+    returns-2)

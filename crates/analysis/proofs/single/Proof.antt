@@ -1,0 +1,33 @@
+-- `analysis::single` meets its contract. Assumes nothing.
+use mathlib.Core.List.{[], _∷_}
+use borrow.Author.Needs.{needs}
+use Rattle.node.specs.Word.{nodeOf}
+use Rattle.sets.proofs.Rows.{within-trans}
+use Rattle.analysis.proofs.Uniting.{inserted-first}
+use Rattle.analysis.proofs.single.Statement.{statement}
+use Rattle.analysis.proofs.single.Tie as tie
+
+array-write-nodes : tie.Need-array-write-nodes
+array-write-nodes c = search needs
+
+clear-requires : tie.Need-clear-requires
+clear-requires c κs = search needs
+
+insert-requires : tie.Need-insert-requires
+insert-requires c κs = search needs
+
+same-length : tie.Need-same-length
+same-length c = search needs
+
+returns : tie.Need-returns
+returns c =
+    let a = c .before .before .before .before .before .before .before .before .before .args in
+    let s₁ = c .before .before .before .before .before .before .clear .last .0 in
+    let t = c .before .before .insert in (
+      inserted-first (t .result) s₁ (t .last .0) (a .b) (nodeOf (a .w) ∷ []) (c .before .before .before .before .before .before .clear .ensures .0) (t .ensures .0),
+      within-trans (a .b) (a .s .now) s₁ (t .last .0) (c .before .before .before .before .before .before .clear .ensures .1) (t .ensures .1),
+    )
+
+pub single-spec : {M : Type 1} → statement M
+single-spec =
+    tie.close (tie.spec array-write-nodes clear-requires insert-requires same-length returns)

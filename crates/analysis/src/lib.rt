@@ -1,0 +1,190 @@
+// The analysis: from a program's bytes to the condition file that it needs, or a numbered refusal.
+// Assumes nothing.
+ghost use mathlib.Core.Path.{_≡_};
+ghost use mathlib.Core.List.{List, [], _∷_};
+ghost use Prim.Native.Nat.{_+_, _≤_, _<_};
+ghost use lib.ListN.{length};
+ghost use Rattle.model.specs.Code.{Code};
+ghost use Rattle.model.specs.Conjunct.{Cond};
+ghost use Rattle.model.specs.Refusals.{Out, ok};
+ghost use Rattle.model.specs.Walk.{start, derived};
+ghost use Rattle.model.specs.Condition.{encode, analysis};
+ghost use Rattle.model.specs.Lists.{All};
+ghost use Rattle.model.proofs.Depth.{Nested};
+ghost use Rattle.model.proofs.Formed.{Formed};
+ghost use Rattle.model.proofs.TidySets.{Tidy};
+ghost use Rattle.program.specs.Reading.{IsRead, tablesOf};
+ghost use Rattle.node.specs.Word.{nodeOf};
+ghost use Rattle.sets.specs.Region.{setOf, Within};
+ghost use Rattle.rules.specs.Answers.{answered, Below};
+ghost use Rattle.rules.specs.declared.Answer.the-variants.{Done};
+ghost use Rattle.walk.specs.Piece.{Lies, Piece};
+ghost use Rattle.climb.specs.Ways.{Leads};
+ghost use Rattle.analysis.specs.Deriving.{derivation, Filed, Derives};
+ghost use Rattle.analysis.specs.Joining.{joinedTo, SitesFrom, Sited, Passed};
+use program::Layout;
+use program::ProgramRead;
+use rules::Answer;
+
+// ---- one site
+
+// The set of one conjunct, whose only node is the word w.
+fn single(s: &mut [u64], b: usize, w: u64)
+    requires { ⌜ b + 7745 ≤ length (now s) ⌝ }
+    ensures { λ _. ⌜ (setOf (now (s .exit)) b ≡ (nodeOf w ∷ []) ∷ []) × Within b (now (s .entry)) (now (s .exit)) ⌝ }
+{
+    let mut nodes: [u64; 120] = [0; 120];
+    nodes[0] = w;
+    let e = conjunct::Conjunct {
+        len: 1,
+        nodes: nodes,
+    };
+    sets::clear(s, b);
+    sets::insert(s, b, e);
+}
+
+// The rule at the program's start on the set of the region at b. The region after it, at b + 7745,
+// is room to work in.
+fn start_set(s: &mut [u64], b: usize)
+    requires { ⌜ b + 15490 ≤ length (now s) ⌝ }
+    ensures { λ _. ⌜ (start (setOf (now (s .entry)) b) ≡ ok (setOf (now (s .exit)) b)) × Below b (now (s .entry)) (now (s .exit)) ⌝ }
+{
+    let room = b + 7745;
+    sets::clear(s, room);
+    let mut k = sets::size(s, b);
+    while k > 0 {
+        k -= 1;
+        let e = sets::get(s, b, k);
+        let zeroed = conjunct::at_start(e);
+        let numbered = numbering::renumber(zeroed);
+        sets::insert(s, room, numbered);
+    }
+    sets::copy(s, b, room);
+}
+
+// The set of the region after b, at the program's start, joined to the union so far at b.
+fn join_next(s: &mut [u64], b: usize) -> Answer
+    requires { ⌜ (b + 23235 ≤ length (now s)) × Tidy (setOf (now s) b) ⌝ }
+    ensures { λ a. ⌜ (joinedTo (setOf (now (s .entry)) b) (setOf (now (s .entry)) (b + 7745)) ≡ answered a (setOf (now (s .exit)) b)) × (a ≡ Done → Tidy (setOf (now (s .exit)) b)) × Below b (now (s .entry)) (now (s .exit)) ⌝ }
+{
+    let next = b + 7745;
+    start_set(s, next);
+    let fits = sets::union(s, next, b);
+    if !fits {
+        return Answer::Refused(10);
+    }
+    sets::copy(s, b, next);
+    Answer::Done
+}
+
+// One site, on the variable x of type ty: its set at the program's start, joined to the union so far.
+// Region 0 holds that union, and from the next region on there is room to work in.
+fn site(
+    program: &[u8],
+    layout: Layout,
+    table: &[u64],
+    s: &mut [u64],
+    i: usize,
+    x: u8,
+    ty: u8,
+) -> Answer
+    requires { ⌜ IsRead (now program) layout × (layout .statements ≤ length (now table)) × (85195 ≤ length (now s)) × Tidy (setOf (now s) 0) × Leads (now program) (now table) (layout .statements) i ⌝ }
+    ensures { λ a. ⌜ Sited (now (program .entry)) (now (table .entry)) (layout .statements) i x ty (setOf (now (s .entry)) 0) a (setOf (now (s .exit)) 0) × (a ≡ Done → Tidy (setOf (now (s .exit)) 0)) ⌝ }
+{
+    let w = node::variable(x as u64, ty as u64);
+    single(s, 7745, w);
+    let a = climb::climb(program, layout, table, s, 7745, i);
+    match a {
+        Answer::Refused(n) => Answer::Refused(n),
+        Answer::Done => join_next(s, 0),
+    }
+}
+
+// ---- the sites by rising label
+
+// The statement with the label i, if it is a site.
+fn pass(program: &[u8], layout: Layout, table: &[u64], s: &mut [u64], i: usize) -> Answer
+    requires { ⌜ IsRead (now program) layout × (layout .statements ≤ length (now table)) × (85195 ≤ length (now s)) × Tidy (setOf (now s) 0) × (i < layout .statements) × ((L : List (Out Cond)) × SitesFrom (now program) (now table) (layout .statements) i L) ⌝ }
+    ensures { λ a. ⌜ Passed (now (program .entry)) (now (table .entry)) (layout .statements) i (setOf (now (s .entry)) 0) a (setOf (now (s .exit)) 0) × (a ≡ Done → Tidy (setOf (now (s .exit)) 0)) ⌝ }
+{
+    let q = program::statement(program, layout, i);
+    let kind = q.kind;
+    if kind != 10 {
+        return Answer::Done;
+    }
+    let x = q.a;
+    let ty = program::variable_type(program, layout, x as usize);
+    site(program, layout, table, s, i, x, ty)
+}
+
+// The set that the analysis derives from the program, in region 0.
+fn sites(program: &[u8], layout: Layout, table: &[u64], s: &mut [u64]) -> Answer
+    requires { ⌜ IsRead (now program) layout × (layout .statements ≤ length (now table)) × (85195 ≤ length (now s)) × Piece (now program) (now table) 4 0 (layout .statements) ⌝ }
+    ensures { λ a. ⌜ ((c : Code) → Lies (now (program .entry)) (now (table .entry)) c 0 (layout .statements) → Nested 4 c → derived c ≡ answered a (setOf (now (s .exit)) 0)) ⌝ }
+{
+    sets::clear(s, 0);
+    let n = layout.statements;
+    let mut i: usize = 0;
+    while i < n {
+        let a = pass(program, layout, table, s, i);
+        match a {
+            Answer::Refused(k) => return Answer::Refused(k),
+            Answer::Done => {}
+        }
+        i += 1;
+    }
+    Answer::Done
+}
+
+// ---- the whole
+
+// The words of scratch that a call of `derive` needs: the union so far, and ten regions for the walk.
+pub const SCRATCH: usize = 85195;
+
+// The length of the condition file that stands at the start of the output, or the number of the
+// refusal.
+pub enum Derived {
+    Written(usize),
+    Refused(u8),
+}
+
+// The file of the set in region 0, at the start of the output.
+fn write_file(program: &[u8], layout: Layout, s: &[u64], condition: &mut [u8]) -> Derived
+    requires { ⌜ IsRead (now program) layout × (7745 ≤ length (now s)) × (61992 ≤ length (now condition)) × All (Formed (tablesOf (now program) .fields)) (setOf (now s) 0) ⌝ }
+    ensures { λ r. ⌜ Filed (encode (tablesOf (now (program .entry)) .fields) (setOf (now (s .entry)) 0)) r (now (condition .entry)) (now (condition .exit)) ⌝ }
+{
+    let n = writer::write(program, layout, s, 0, condition);
+    Derived::Written(n)
+}
+
+// Of a program that is read.
+fn derive_read(program: &[u8], layout: Layout, condition: &mut [u8], scratch: &mut [u64]) -> Derived
+    requires { ⌜ IsRead (now program) layout × (61992 ≤ length (now condition)) × (85195 ≤ length (now scratch)) ⌝ }
+    ensures { λ r. ⌜ Derives (analysis (now (program .entry))) r (now (condition .entry)) (now (condition .exit)) ⌝ }
+{
+    let mut table: [u64; 1024] = [0; 1024];
+    program::ends(program, layout, &mut table);
+    let a = sites(program, layout, &table, scratch);
+    match a {
+        Answer::Refused(n) => Derived::Refused(n),
+        Answer::Done => write_file(program, layout, scratch, condition),
+    }
+}
+
+// The condition file of a program's bytes. A refusal leaves the output as it was; what is left in
+// scratch is free.
+pub fn derive(program: &[u8], condition: &mut [u8], scratch: &mut [u64]) -> Derived
+    ensures { λ r. ⌜ Derives (derivation (length (now (condition .entry))) (length (now (scratch .entry))) (now (program .entry))) r (now (condition .entry)) (now (condition .exit)) ⌝ }
+{
+    if condition.len() < 61992 {
+        return Derived::Refused(1);
+    }
+    if scratch.len() < SCRATCH {
+        return Derived::Refused(1);
+    }
+    let r = program::read(program);
+    match r {
+        ProgramRead::Refused(n) => Derived::Refused(n),
+        ProgramRead::Read(layout) => derive_read(program, layout, condition, scratch),
+    }
+}

@@ -1,0 +1,65 @@
+-- `capi::gate_derive` meets its contract. Assumes nothing.
+use mathlib.Core.Path.{sym, ap, _∙_}
+use lib.ListN.{length}
+use Rattle.analysis.specs.Deriving.{derivation}
+use Rattle.capi.proofs.Leaving.{derivedWord, derived-left}
+use borrow.Author.Needs.{needs}
+use Rattle.capi.proofs.gate_derive.Statement.{statement}
+use Rattle.capi.proofs.gate_derive.Tie as tie
+use Rattle.capi.proofs.gate_derive.Reads as reads
+use Rattle.capi.proofs.gate_derive.Lts as lts
+use Rattle.analysis.proofs.derive.Reads as derive-reads
+use Rattle.capi.proofs.refusal.Reads as refusal-reads
+
+derive-requires : tie.Need-derive-requires
+derive-requires c κs = search needs
+
+enum-known-derived : tie.Need-enum-known-derived
+enum-known-derived c = search needs
+
+refusal-requires : tie.Need-refusal-requires
+refusal-requires c κs = search needs
+
+enum-known-derived-2 : tie.Need-enum-known-derived-2
+enum-known-derived-2 c = search needs
+
+same-length : tie.Need-same-length
+same-length c = search needs
+
+same-length-2 : tie.Need-same-length-2
+same-length-2 c = search needs
+
+returns : tie.Need-returns
+returns c =
+    let a = c .before .before .before .before .before .before .before .before .before .before .before .before .before .before .args in
+    let call = c .before .before .before .before .before .before .before .before .derive in
+    derived-left (derivation (length (a .condition .now)) (length (a .scratch .now)) (a .recipe .now)) (call .result) (a .condition .now) (call .last .1 .0) (c .refusal .result) (call .ensures)
+    (c .refusal .ensures ∙ sym (ap derivedWord (c .before .before .derived .given .1)))
+
+same-length-3 : tie.Need-same-length-3
+same-length-3 c = search needs
+
+same-length-4 : tie.Need-same-length-4
+same-length-4 c = search needs
+
+returns-2 : tie.Need-returns-2
+returns-2 c =
+    let a = c .before .before .before .before .before .before .before .before .before .before .before .before .before .args in
+    let call = c .before .before .before .before .before .before .before .derive in
+    derived-left (derivation (length (a .condition .now)) (length (a .scratch .now)) (a .recipe .now)) (call .result) (a .condition .now) (call .last .1 .0) (c .before .derived2 .given .0 .0) (call .ensures)
+    (sym (ap derivedWord (c .before .derived2 .given .1)))
+
+pub gate-derive-spec : {M : Type 1} → statement M
+gate-derive-spec =
+    tie.close
+    (tie.spec
+    derive-requires
+    enum-known-derived
+    refusal-requires
+    enum-known-derived-2
+    same-length
+    same-length-2
+    returns
+    same-length-3
+    same-length-4
+    returns-2)

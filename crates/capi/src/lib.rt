@@ -1,0 +1,120 @@
+// The operations for callers in C and Rust, who link the archive that `rt staticlib capi` writes;
+// include/gate.h declares them. A slice passes as a pointer and a length. An answer is one word: the
+// refusal's number times 2^32, or what the operation gives. specs/Words.antt says what each word
+// stands for. Assumes nothing.
+ghost use mathlib.Core.Path.{_≡_};
+ghost use Prim.Native.Nat.{_*_};
+ghost use lib.ListN.{length};
+ghost use Rattle.model.specs.Refusals.{mapped};
+ghost use Rattle.model.specs.Filter.{filter};
+ghost use Rattle.analysis.specs.Deriving.{derivation};
+ghost use Rattle.guard.specs.Answers.{guarding};
+ghost use Rattle.capi.specs.Words.{wordOf, verdict, running, ranOf, Derives, Ends, Leaves, Guards};
+use analysis::Derived;
+use filter::Verdict;
+use guard::Guarded;
+use interpreter::Ran;
+
+fn refusal(n: u8) -> u64
+    ensures { λ r. ⌜ r ≡ n * 4294967296 ⌝ }
+{
+    (n as u64) * 4294967296
+}
+
+// The words of scratch that serve every call.
+#[no_mangle]
+pub extern "C" fn gate_scratch() -> u64
+    ensures { λ r. ⌜ r ≡ 85195 ⌝ }
+{
+    85195
+}
+
+// The condition of a recipe: the file's length.
+#[no_mangle]
+pub extern "C" fn gate_derive(recipe: &[u8], condition: &mut [u8], scratch: &mut [u64]) -> u64
+    ensures { λ r. ⌜ Derives (derivation (length (now (condition .entry))) (length (now (scratch .entry))) (now (recipe .entry))) r (now (condition .entry)) (now (condition .exit)) ⌝ }
+{
+    let derived = analysis::derive(recipe, condition, scratch);
+    match derived {
+        Derived::Refused(n) => refusal(n),
+        Derived::Written(n) => n as u64,
+    }
+}
+
+// The verdict on a sheet: 0 pass, 1 held.
+#[no_mangle]
+pub extern "C" fn gate_check(condition: &[u8], sheet: &[u8]) -> u64
+    ensures { λ r. ⌜ r ≡ wordOf (mapped verdict (filter (now (condition .entry)) (now (sheet .entry)))) ⌝ }
+{
+    let v = filter::check(condition, sheet);
+    match v {
+        Verdict::Refused(n) => refusal(n),
+        Verdict::Pass => 0,
+        Verdict::Held => 1,
+    }
+}
+
+// A run: its end.
+#[no_mangle]
+pub extern "C" fn gate_run(
+    recipe: &[u8],
+    sheet: &[u8],
+    limit: u32,
+    choices: &[u8],
+    log: &mut [u8],
+    scratch: &mut [u64],
+    steps: &mut u64,
+    records: &mut u64,
+) -> u64
+    ensures { λ r. ⌜ Ends (running (length (now (scratch .entry))) (now (recipe .entry)) (now (sheet .entry)) limit (now (choices .entry)) (now (log .entry))) r ⌝ }
+    ensures { λ _. ⌜ Leaves (running (length (now (scratch .entry))) (now (recipe .entry)) (now (sheet .entry)) limit (now (choices .entry)) (now (log .entry))) (now (log .entry)) (now (log .exit)) (now (steps .entry)) (now (steps .exit)) (now (records .entry)) (now (records .exit)) ⌝ }
+{
+    if scratch.len() < analysis::SCRATCH {
+        return refusal(1);
+    }
+    let ran = interpreter::run(recipe, sheet, limit, choices, log, scratch);
+    match ran {
+        Ran::Refused(n) => refusal(n),
+        Ran::Ended {
+            end: e,
+            steps: s,
+            records: k,
+        } => {
+            *steps = s;
+            *records = k;
+            e as u64
+        }
+    }
+}
+
+// A run behind the gate: its end, or 5 where the sheet is held.
+#[no_mangle]
+pub extern "C" fn gate_guarded(
+    recipe: &[u8],
+    sheet: &[u8],
+    limit: u32,
+    choices: &[u8],
+    log: &mut [u8],
+    condition: &mut [u8],
+    scratch: &mut [u64],
+    steps: &mut u64,
+    records: &mut u64,
+) -> u64
+    ensures { λ r. ⌜ Guards (guarding (length (now (condition .entry))) (length (now (scratch .entry))) (now (recipe .entry)) (now (sheet .entry)) limit (now (choices .entry)) (now (log .entry))) r (now (condition .entry)) (now (condition .exit)) ⌝ }
+    ensures { λ _. ⌜ Leaves (ranOf (guarding (length (now (condition .entry))) (length (now (scratch .entry))) (now (recipe .entry)) (now (sheet .entry)) limit (now (choices .entry)) (now (log .entry)))) (now (log .entry)) (now (log .exit)) (now (steps .entry)) (now (steps .exit)) (now (records .entry)) (now (records .exit)) ⌝ }
+{
+    let answer = guard::run(recipe, sheet, limit, choices, log, condition, scratch);
+    match answer {
+        Guarded::Refused(n) => refusal(n),
+        Guarded::Held => 5,
+        Guarded::Ended {
+            end: e,
+            steps: s,
+            records: k,
+        } => {
+            *steps = s;
+            *records = k;
+            e as u64
+        }
+    }
+}

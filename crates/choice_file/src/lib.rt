@@ -1,0 +1,39 @@
+// The file of a run's limit and choices: a limit of 4 bytes, in which 0 stands for 10,000, and then
+// 2 bytes a choice. Missing bytes of the limit count as 0. Assumes nothing.
+ghost use mathlib.Core.Path.{_≡_};
+ghost use Prim.Native.Nat.{_<_};
+ghost use lib.ListN.{drop};
+ghost use Rattle.model.specs.Bytes.{byteAt};
+ghost use Rattle.choice_file.specs.Limit.{limitOf};
+
+// The byte at a place, 0 past the end.
+fn byte_at(file: &[u8], i: usize) -> u64
+    ensures { λ r. ⌜ (r ≡ byteAt (now (file .entry)) i) × (r < 256) ⌝ }
+{
+    if file.len() <= i {
+        return 0;
+    }
+    file[i] as u64
+}
+
+// The limit of the run.
+pub fn limit(file: &[u8]) -> u32
+    ensures { λ r. ⌜ r ≡ limitOf (now (file .entry)) ⌝ }
+{
+    let high = byte_at(file, 2) + 256 * byte_at(file, 3);
+    let n = byte_at(file, 0) + 256 * (byte_at(file, 1) + 256 * high);
+    if n == 0 {
+        return 10000;
+    }
+    n as u32
+}
+
+// The bytes of the choices.
+pub fn choices(file: &[u8]) -> &[u8]
+    ensures { λ r. ⌜ now r ≡ drop 4 (now (file .entry)) ⌝ }
+{
+    if file.len() < 4 {
+        return &file[..0];
+    }
+    &file[4..]
+}

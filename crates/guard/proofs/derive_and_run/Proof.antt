@@ -1,0 +1,114 @@
+-- `guard::derive_and_run` meets its contract. Assumes nothing.
+use mathlib.Core.Path.{_≡_, refl, sym, ap, subst, _∙_}
+use Prim.Native.Nat.{_≤_}
+use native.Mathlib.Omega.{arith}
+use lib.ListN.{length, take}
+use borrow.Author.Needs.{needs}
+use Rattle.guard.specs.Answers.{IsDerived, Answers}
+use Rattle.analysis.specs.Deriving.{derivation, Derives}
+use Rattle.guard.proofs.Apart.{derived-refused, derived-lent, derived-guarding}
+use Rattle.guard.proofs.derive_and_run.Statement.{statement}
+use Rattle.guard.proofs.derive_and_run.Tie as tie
+use Rattle.guard.proofs.derive_and_run.Reads as reads
+use Rattle.guard.proofs.derive_and_run.Lts as lts
+use Rattle.analysis.proofs.derive.Reads as derive-reads
+use Rattle.guard.proofs.filter_and_run.Reads as filter-and-run-reads
+
+-- src/lib.rt:118:9
+derive-requires : tie.Need-derive-requires
+derive-requires c κs = search needs
+
+-- src/lib.rt:120:26
+enum-known-derived : tie.Need-enum-known-derived
+enum-known-derived c = search needs
+
+-- src/lib.rt:121:26
+enum-known-derived-2 : tie.Need-enum-known-derived-2
+enum-known-derived-2 c = search needs
+
+-- src/lib.rt:122:13
+filter-and-run-requires : tie.Need-filter-and-run-requires
+filter-and-run-requires c κs =
+    let a = c .before .before .before .before .before .before .before .before .before .before .before .before .before .before .before .before .before .before .before .before .before .args in
+    let pre = c .before .before .before .before .before .before .before .before .before .before .before .before .before .before .before .before .before .before .before .before .before .pre in
+    let n = c .before .before .before .before .before .derived2 .given .0 .0 in
+    let told = c .before .before .before .before .before .derived2 .given .1 in
+    let file = c .before .before .before .before .before .before .before .before .before .before .before .derive .last .1 .0 in
+    let program = a .program .now in
+    let d = subst (λ r. Derives (derivation (length (a .file .now)) (length (a .scratch .now)) program) r (a .file .now) file) told (c .before .before .before .before .before .before .before .before .before .before .before .derive .ensures) in
+    let words = derived-lent program (a .input .now) (a .limit) (a .choices .now) (a .log .now) (length (a .file .now)) (length (a .condition .now)) (length (a .scratch .now)) (pre .0) (pre .1) (take n file) (d .answer) in
+    let is : IsDerived program n file = record { output = length (a .file .now); words = length (a .scratch .now); before = a .file .now; derives = d } in
+    let long : n ≤ length file = omega (arith, d .output .0, pre .0, c .before .before .before .before .before .before .before .before .before .before .before .derive .kept .1 .0) in
+    (long, pre .1, d .output .0, omega (arith, words, c .before .before .before .before .before .before .before .before .before .before .before .derive .kept .1 .1 .0), is)
+
+-- src/lib.rt:105:1
+same-length : tie.Need-same-length
+same-length c = search needs
+
+-- src/lib.rt:105:1
+same-length-2 : tie.Need-same-length-2
+same-length-2 c = search needs
+
+-- src/lib.rt:105:1
+returns : tie.Need-returns
+returns c =
+    let a = c .before .before .before .before .before .before .before .before .before .before .before .before .before .before .before .before .before .args in
+    let pre = c .before .before .before .before .before .before .before .before .before .before .before .before .before .before .before .before .before .pre in
+    let n = c .before .derived .given .0 .0 in
+    let told = c .before .derived .given .1 in
+    let file = c .before .before .before .before .before .before .before .derive .last .1 .0 in
+    let program = a .program .now in
+    let d = subst (λ r. Derives (derivation (length (a .file .now)) (length (a .scratch .now)) program) r (a .file .now) file) told (c .before .before .before .before .before .before .before .derive .ensures) in
+    (derived-refused program (a .input .now) (a .limit) (a .choices .now) (a .log .now) (length (a .file .now)) (length (a .condition .now)) (length (a .scratch .now)) (pre .0) (pre .1) n (d .answer), refl, refl)
+
+-- src/lib.rt:105:1
+same-length-3 : tie.Need-same-length-3
+same-length-3 c = search needs
+
+-- src/lib.rt:105:1
+same-length-4 : tie.Need-same-length-4
+same-length-4 c = search needs
+
+-- src/lib.rt:105:1
+same-length-5 : tie.Need-same-length-5
+same-length-5 c = search needs
+
+-- src/lib.rt:105:1
+same-length-6 : tie.Need-same-length-6
+same-length-6 c = search needs
+
+-- src/lib.rt:105:1
+returns-2 : tie.Need-returns-2
+returns-2 c =
+    let a = c .before .before .before .before .before .before .before .before .before .before .before .before .before .before .before .before .before .before .before .before .before .before .before .before .before .before .before .before .args in
+    let pre = c .before .before .before .before .before .before .before .before .before .before .before .before .before .before .before .before .before .before .before .before .before .before .before .before .before .before .before .before .pre in
+    let program = a .program .now in
+    let input = a .input .now in
+    let n = c .before .before .before .before .before .before .before .before .before .before .before .before .derived2 .given .0 .0 in
+    let told = c .before .before .before .before .before .before .before .before .before .before .before .before .derived2 .given .1 in
+    let file = c .before .before .before .before .before .before .before .before .before .before .before .before .before .before .before .before .before .before .derive .last .1 .0 in
+    let f = length (a .file .now) in
+    let o = length (a .condition .now) in
+    let w = length (a .scratch .now) in
+    let d = subst (λ r. Derives (derivation f w program) r (a .file .now) file) told (c .before .before .before .before .before .before .before .before .before .before .before .before .before .before .before .before .before .before .derive .ensures) in
+    let words = derived-lent program input (a .limit) (a .choices .now) (a .log .now) f o w (pre .0) (pre .1) (take n file) (d .answer) in
+    let call = c .before .before .before .before .before .before .filter-and-run in
+    subst (λ g. Answers program input (a .limit) (a .choices .now) (call .result) g (a .condition .now) (a .log .now) (call .last .1 .1 .1 .1 .1 .1 .1 .0) (call .last .1 .1 .1 .1 .0))
+    (derived-guarding program input (a .limit) (a .choices .now) (a .log .now) f o w (pre .0) (pre .1) words) (call .ensures)
+
+pub derive-and-run-spec : {M : Type 1} → statement M
+derive-and-run-spec =
+    tie.close
+    (tie.spec
+    derive-requires
+    enum-known-derived
+    enum-known-derived-2
+    filter-and-run-requires
+    same-length
+    same-length-2
+    returns
+    same-length-3
+    same-length-4
+    same-length-5
+    same-length-6
+    returns-2)

@@ -1,0 +1,162 @@
+// The run behind the filter: a program is run on an input only if the input passes under the
+// program's condition. Assumes nothing.
+ghost use mathlib.Core.Path.{_≡_};
+ghost use Prim.Native.Nat.{_≤_};
+ghost use lib.ListN.{length, take};
+ghost use Rattle.bytes_le.specs.Overlay.{overlay};
+ghost use Rattle.model.specs.Filter.{filter};
+ghost use Rattle.filter.specs.Verdict.{verdictOf};
+ghost use Rattle.filter.specs.declared.Verdict.the-variants.{Pass};
+ghost use Rattle.model.specs.Guarded.{guarded};
+ghost use Rattle.guard.specs.Answers.{IsDerived, guarding, Answers};
+use analysis::Derived;
+use filter::Verdict;
+use interpreter::Ran;
+
+// The input is held, or it passed and was run; or a refusal.
+pub enum Guarded {
+    Ended { end: u8, steps: u64, records: u64 },
+    Held,
+    Refused(u8),
+}
+
+// The first n bytes of a file over the start of an output.
+fn put(file: &[u8], n: usize, out: &mut [u8])
+    requires { ⌜ (n ≤ length (now file)) × (n ≤ length (now out)) ⌝ }
+    ensures { λ _. ⌜ now (out .exit) ≡ overlay (now (out .entry)) 0 (take n (now (file .entry))) ⌝ }
+{
+    let mut i: usize = 0;
+    while i < n {
+        out[i] = file[i];
+        i += 1;
+    }
+}
+
+// An input that passed: the run, and then the condition file to its output.
+fn run_passed(
+    program: &[u8],
+    input: &[u8],
+    limit: u32,
+    choices: &[u8],
+    log: &mut [u8],
+    file: &[u8],
+    n: usize,
+    condition: &mut [u8],
+    scratch: &mut [u64],
+) -> Guarded
+    requires { ⌜ (n ≤ length (now file)) × (61992 ≤ length (now condition)) × (n ≤ 61992) × (85195 ≤ length (now scratch)) × IsDerived (now program) n (now file) × (verdictOf Pass ≡ filter (take n (now file)) (now input)) ⌝ }
+    ensures { λ r. ⌜ Answers (now (program .entry)) (now (input .entry)) limit (now (choices .entry)) r (guarded (now (program .entry)) (now (input .entry)) limit (now (choices .entry)) (now (log .entry))) (now (condition .entry)) (now (log .entry)) (now (condition .exit)) (now (log .exit)) ⌝ }
+{
+    let ran = interpreter::run(program, input, limit, choices, log, scratch);
+    match ran {
+        Ran::Refused(k) => Guarded::Refused(k),
+        Ran::Ended {
+            end,
+            steps,
+            records,
+        } => {
+            put(file, n, condition);
+            Guarded::Ended {
+                end: end,
+                steps: steps,
+                records: records,
+            }
+        }
+    }
+}
+
+// With the program's condition in the first n bytes of a file: the filter, and the run of an input
+// that passes.
+fn filter_and_run(
+    program: &[u8],
+    input: &[u8],
+    limit: u32,
+    choices: &[u8],
+    log: &mut [u8],
+    file: &[u8],
+    n: usize,
+    condition: &mut [u8],
+    scratch: &mut [u64],
+) -> Guarded
+    requires { ⌜ (n ≤ length (now file)) × (61992 ≤ length (now condition)) × (n ≤ 61992) × (85195 ≤ length (now scratch)) × IsDerived (now program) n (now file) ⌝ }
+    ensures { λ r. ⌜ Answers (now (program .entry)) (now (input .entry)) limit (now (choices .entry)) r (guarded (now (program .entry)) (now (input .entry)) limit (now (choices .entry)) (now (log .entry))) (now (condition .entry)) (now (log .entry)) (now (condition .exit)) (now (log .exit)) ⌝ }
+{
+    let verdict = filter::check(&file[0..n], input);
+    match verdict {
+        Verdict::Refused(k) => Guarded::Refused(k),
+        Verdict::Held => Guarded::Held,
+        Verdict::Pass => run_passed(
+            program,
+            input,
+            limit,
+            choices,
+            log,
+            file,
+            n,
+            condition,
+            scratch,
+        ),
+    }
+}
+
+// The three operations one after the other; the analysis writes to a file of its own, so that the
+// condition's output stays as it was unless the program is run.
+fn derive_and_run(
+    program: &[u8],
+    input: &[u8],
+    limit: u32,
+    choices: &[u8],
+    log: &mut [u8],
+    file: &mut [u8],
+    condition: &mut [u8],
+    scratch: &mut [u64],
+) -> Guarded
+    requires { ⌜ (61992 ≤ length (now file)) × (61992 ≤ length (now condition)) ⌝ }
+    ensures { λ r. ⌜ Answers (now (program .entry)) (now (input .entry)) limit (now (choices .entry)) r (guarding (length (now (condition .entry))) (length (now (scratch .entry))) (now (program .entry)) (now (input .entry)) limit (now (choices .entry)) (now (log .entry))) (now (condition .entry)) (now (log .entry)) (now (condition .exit)) (now (log .exit)) ⌝ }
+{
+    let derived = analysis::derive(program, file, scratch);
+    match derived {
+        Derived::Refused(k) => Guarded::Refused(k),
+        Derived::Written(n) => {
+            filter_and_run(
+                program,
+                input,
+                limit,
+                choices,
+                log,
+                file,
+                n,
+                condition,
+                scratch,
+            )
+        }
+    }
+}
+
+// The program is run on the input only if the input passes under the program's condition.
+pub fn run(
+    program: &[u8],
+    input: &[u8],
+    limit: u32,
+    choices: &[u8],
+    log: &mut [u8],
+    condition: &mut [u8],
+    scratch: &mut [u64],
+) -> Guarded
+    ensures { λ r. ⌜ Answers (now (program .entry)) (now (input .entry)) limit (now (choices .entry)) r (guarding (length (now (condition .entry))) (length (now (scratch .entry))) (now (program .entry)) (now (input .entry)) limit (now (choices .entry)) (now (log .entry))) (now (condition .entry)) (now (log .entry)) (now (condition .exit)) (now (log .exit)) ⌝ }
+{
+    if condition.len() < 61992 {
+        return Guarded::Refused(1);
+    }
+    let mut file: [u8; 61992] = [0; 61992];
+    derive_and_run(
+        program,
+        input,
+        limit,
+        choices,
+        log,
+        &mut file,
+        condition,
+        scratch,
+    )
+}

@@ -1,0 +1,12 @@
+pub mod Positions
+pub mod Statements
+pub mod Settling
+pub mod Logs
+pub mod Choices
+pub mod Steps
+pub mod Starts
+pub mod Readings
+pub mod Takings
+pub mod Turnings
+pub mod Endings
+pub mod Rooms

@@ -1,0 +1,21 @@
+// The listing program: reads a recipe on standard input and prints the listing of the condition that
+// the analysis writes for it, or the refusal. A recipe longer than the longest accepted one fills the
+// buffer, which has one byte more, and so is what the analysis refuses as too long.
+use analysis::Derived;
+use libc::STDIN_FILENO;
+
+fn listed(recipe: &[u8]) {
+    let mut condition = [0u8; 61992];
+    let mut scratch = [0u64; analysis::SCRATCH];
+    let r = analysis::derive(recipe, &mut condition, &mut scratch);
+    match r {
+        Derived::Refused(n) => listing::refused(n),
+        Derived::Written(n) => listing::print(&condition, n),
+    }
+}
+
+fn main() {
+    let mut recipe = [0u8; 8385];
+    let n = io::read_full(STDIN_FILENO, &mut recipe);
+    listed(&recipe[..n]);
+}

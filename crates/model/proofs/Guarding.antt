@@ -1,0 +1,58 @@
+-- Demand 3 of the run behind the filter.
+-- Assumes nothing.
+use mathlib.Core.Path.{_≡_, refl, sym, ap, subst, _∙_}
+use mathlib.Core.Bool.{Bool, true, false}
+use mathlib.Core.List.{List}
+use Prim.Native.Nat.{ℕ}
+use lib.ListN.{length}
+use Rattle.model.specs.Refusals.{Out, ok, refused, _>>=_}
+use Rattle.model.specs.Condition.{analysis}
+use Rattle.model.specs.Filter.{filter}
+use Rattle.model.specs.Run.{Ran, run}
+use Rattle.model.specs.Exact.{Note, exactRun}
+use Rattle.model.specs.Demands.{recordsOf, Pairwise, Matches}
+use Rattle.model.specs.Guarded.{Guarded, held, passed, admitted, guarded}
+use Rattle.model.proofs.Demand3.{demand3}
+use Rattle.model.proofs.Results.{ok-eq, bind-ok}
+
+-- the exact run is not refused, and the first n records of the log match its notes
+abbrev pub Exact : List ℕ → List ℕ → ℕ → List ℕ → ℕ → ℕ → List ℕ → Type 0
+Exact program input limit choices room n log = (ws : List Note) × (exactRun program input limit choices room ≡ ok ws) × Pairwise Matches (recordsOf n log) ws
+
+-- the answer is that the input passed
+abbrev IsPassed : Guarded → Type 0
+IsPassed held = ⊥
+IsPassed (passed C R) = Unit {0}
+
+abbrev conditionOf : Guarded → List ℕ → List ℕ
+conditionOf held d = d
+conditionOf (passed C R) d = C
+
+abbrev ranOf : Guarded → Ran → Ran
+ranOf held d = d
+ranOf (passed C R) d = R
+
+admitted-passed : (C : List ℕ) (o : Out Ran) (b : Bool) (D : List ℕ) (R : Ran) → admitted C o b ≡ ok (passed D R) → (b ≡ true) × (o ≡ ok R) × (C ≡ D)
+admitted-passed C o true D R e =
+    let k = bind-ok o (λ Q. ok (passed C Q)) (passed D R) e in
+    let p = ok-eq (passed C (k .0)) (passed D R) (k .2) in
+    (refl, k .1 ∙ ap (λ g. ok (ranOf g R)) p, ap (λ g. conditionOf g D) p)
+admitted-passed C o false D R e = absurd (subst IsPassed (sym (ok-eq held (passed D R) e)) tt)
+
+module _ (program input : List ℕ) (limit : ℕ) (choices log : List ℕ) where
+  -- what ran behind the filter was analysed, passed and run
+  pub passed-inv : (C : List ℕ) (R : Ran) → guarded program input limit choices log ≡ ok (passed C R)
+      → (analysis program ≡ ok C) × (filter C input ≡ ok true) × (run program input limit choices log ≡ ok R)
+  unfolding guarded
+  passed-inv C R e =
+      let a = bind-ok (analysis program) (λ D. filter D input >>= admitted D (run program input limit choices log)) (passed C R) e in
+      let f = bind-ok (filter (a .0) input) (admitted (a .0) (run program input limit choices log)) (passed C R) (a .2) in
+      let k = admitted-passed (a .0) (run program input limit choices log) (f .0) C R (f .2) in
+      (a .1 ∙ ap ok (k .2), ap (λ D. filter D input) (sym (k .2)) ∙ f .1 ∙ ap ok (k .0), k .1)
+
+  -- demand 3 of it
+  pub guarded-exact : (C : List ℕ) (R : Ran) → guarded program input limit choices log ≡ ok (passed C R)
+      → Exact program input limit choices (length log) (R .records) (R .log)
+  guarded-exact C R e =
+      let k = passed-inv C R e in
+      demand3 program C input limit choices log R (k .0) (k .1) (k .2)

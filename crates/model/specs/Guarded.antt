@@ -1,0 +1,24 @@
+-- The run behind the filter: analysis, filter and run, one after the other on the same bytes.
+-- Assumes nothing.
+use mathlib.Core.Bool.{Bool, true, false}
+use mathlib.Core.List.{List}
+use Prim.Native.Nat.{ℕ}
+use Rattle.model.specs.Refusals.{Out, ok, _>>=_}
+use Rattle.model.specs.Condition.{analysis}
+use Rattle.model.specs.Filter.{filter}
+use Rattle.model.specs.Run.{Ran, run}
+
+-- the input is held, or it passed and the program was run: the condition file, and what the run gives
+pub data Guarded : Type 0 where
+  held : Guarded
+  passed : (condition : List ℕ) → Ran → Guarded
+
+-- with the filter's answer: an input that is held is not run
+abbrev pub admitted : List ℕ → Out Ran → Bool → Out Guarded
+admitted C o true = o >>= λ R. ok (passed C R)
+admitted C o false = ok held
+
+-- the first refusal counts
+unfoldable pub guarded : List ℕ → List ℕ → ℕ → List ℕ → List ℕ → Out Guarded
+guarded program input limit choices log =
+    analysis program >>= λ C. filter C input >>= admitted C (run program input limit choices log)

@@ -1,0 +1,252 @@
+// The rule of one statement on a set of conjuncts. Assumes nothing.
+ghost use mathlib.Core.Path.{_≡_};
+ghost use mathlib.Core.Logic.{_≢_};
+ghost use mathlib.Core.List.{List, [], _∷_, map};
+ghost use Prim.Native.Nat.{ℕ, _+_, _≤_, _<_, _^_};
+ghost use lib.ListN.{length, getD};
+ghost use Rattle.model.specs.Conjunct.{Atom, atom, var, atoms, renumber};
+ghost use Rattle.model.specs.Lists.{All};
+ghost use Rattle.model.specs.Walk.{nodes, loads, swapAll, subsets, before, back};
+ghost use Rattle.model.proofs.TidySets.{Numbered};
+ghost use Rattle.machine.specs.Decoding.{instrOf};
+ghost use Rattle.decoding.specs.Known.{Known};
+ghost use Rattle.node.specs.Word.{nodeOf};
+ghost use Rattle.conjunct.specs.Value.{conjOf};
+ghost use Rattle.numbering.specs.Behind.{rightOf};
+ghost use Rattle.sets.specs.Region.{setOf, Within, Inserted};
+ghost use Rattle.rules.specs.Adding.{sideOf, Short, Added, Room};
+ghost use Rattle.rules.specs.Answers.{answered, Below};
+use conjunct::Conjunct;
+use machine::Decoded;
+use numbering::Right;
+
+// The set is in its region, or a refusal: 9, 10 or 11.
+pub enum Answer {
+    Done,
+    Refused(u8),
+}
+
+// ---- assignments: kinds 0 to 8
+
+fn one_node(v: u64) -> Right
+    ensures { λ r. ⌜ (r .len ≤ 3) × (rightOf r ≡ nodeOf v ∷ []) ⌝ }
+{
+    Right {
+        len: 1,
+        nodes: [v, 0, 0],
+    }
+}
+
+fn two_nodes(u: u64, v: u64) -> Right
+    ensures { λ r. ⌜ (r .len ≤ 3) × (rightOf r ≡ nodeOf u ∷ nodeOf v ∷ []) ⌝ }
+{
+    Right {
+        len: 2,
+        nodes: [u, v, 0],
+    }
+}
+
+fn three_nodes(u: u64, v: u64, w: u64) -> Right
+    ensures { λ r. ⌜ (r .len ≤ 3) × (rightOf r ≡ nodeOf u ∷ nodeOf v ∷ nodeOf w ∷ []) ⌝ }
+{
+    Right {
+        len: 3,
+        nodes: [u, v, w],
+    }
+}
+
+// the right side's nodes; a read or a load is a fresh atom
+fn right_side(label: u64, d: Decoded) -> Right
+    requires { ⌜ (label < 2 ^ 16) × (d .kind ≤ 8) × Known d ⌝ }
+    ensures { λ r. ⌜ (r .len ≤ 3) × (rightOf r ≡ nodes label (d .ty) (sideOf d)) ⌝ }
+{
+    let kind = d.kind;
+    let ty = d.ty as u64;
+    let b = d.b as u64;
+    if kind == 0 {
+        return one_node(node::constant(ty, d.imm));
+    }
+    if kind == 1 {
+        return one_node(node::variable(b, ty));
+    }
+    if kind <= 5 {
+        let c = d.c as u64;
+        return three_nodes(
+            node::variable(b, ty),
+            node::variable(c, ty),
+            node::operation(kind as u64, ty),
+        );
+    }
+    if kind == 6 {
+        return two_nodes(node::variable(b, d.from as u64), node::conversion(ty));
+    }
+    if kind == 7 {
+        return one_node(node::reading(b, ty));
+    }
+    one_node(node::load(label, b, d.len, ty))
+}
+
+// The right side for the variable in one conjunct. The set has room: each conjunct comes to one.
+fn assign_one(s: &mut [u64], room: usize, e: Conjunct, label: u64, d: Decoded) -> Answer
+    requires { ⌜ (room + 7745 ≤ length (now s)) × (length (setOf (now s) room) < 64) × (label < 2 ^ 16) × (d .kind ≤ 8) × Known d × Numbered (conjOf e) ⌝ }
+    ensures { λ r. ⌜ Added r (λ G. d .kind ≡ 9 → Short G) (map renumber (before label (instrOf d) (conjOf e))) room (now (s .entry)) (now (s .exit)) × Within room (now (s .entry)) (now (s .exit)) ⌝ }
+{
+    let right = right_side(label, d);
+    let t = numbering::substitute(e, d.a as u64, right);
+    if t.over {
+        return Answer::Refused(9);
+    }
+    let c = t.conj;
+    sets::insert(s, room, c);
+    Answer::Done
+}
+
+// ---- sites and stores: kinds 9 and 10
+
+// one conjunct more, renumbered; false where the set would have over 64
+fn add(s: &mut [u64], room: usize, e: Conjunct) -> bool
+    requires { ⌜ room + 7745 ≤ length (now s) ⌝ }
+    ensures { λ r. ⌜ Inserted r room (renumber (conjOf e)) (now (s .entry)) (now (s .exit)) × Within room (now (s .entry)) (now (s .exit)) ⌝ }
+{
+    let c = numbering::renumber(e);
+    sets::insert(s, room, c)
+}
+
+// 2 to the power n
+fn power(n: usize) -> u64
+    requires { ⌜ n ≤ 6 ⌝ }
+    ensures { λ r. ⌜ r ≡ 2 ^ n ⌝ }
+{
+    match n {
+        0 => 1,
+        1 => 2,
+        2 => 4,
+        3 => 8,
+        4 => 16,
+        5 => 32,
+        _ => 64,
+    }
+}
+
+// The j-th of the conjuncts for the subsets of n loads: from the first load on, it is left in the
+// lower half of them and replaced by the variable v in the upper half.
+fn chosen(e: Conjunct, atoms: Conjunct, n: usize, j: u64, v: u64) -> Conjunct
+    requires { ⌜ (n ≤ 6) × (n ≡ length (conjOf atoms)) × (j < 2 ^ n) ⌝ }
+    ensures { λ r. ⌜ ((ks : List Atom) (x ty : ℕ) → conjOf atoms ≡ map atom ks → nodeOf v ≡ var x ty → conjOf r ≡ getD (subsets ks x ty (conjOf e)) j []) ⌝ }
+{
+    let mut r = e;
+    let mut rest = j;
+    let mut half = power(n);
+    let mut i: usize = 0;
+    while i < n {
+        half = half / 2;
+        if rest >= half {
+            r = conjunct::replace_one(r, atoms.nodes[i], v);
+            rest -= half;
+        }
+        i += 1;
+    }
+    r
+}
+
+// A store to an array of several cells: a conjunct for each subset of the loads. For seven loads
+// or more these are over 64.
+fn store_subsets(s: &mut [u64], room: usize, e: Conjunct, array: u64, len: u64, v: u64) -> Answer
+    requires { ⌜ Room (now s) room ⌝ }
+    ensures { λ r. ⌜ ((x ty : ℕ) → nodeOf v ≡ var x ty → Added r Short (map renumber (subsets (loads array len (atoms (conjOf e))) x ty (conjOf e))) room (now (s .entry)) (now (s .exit))) × Within room (now (s .entry)) (now (s .exit)) ⌝ }
+{
+    let atoms = numbering::loads(e, array, len);
+    let n = conjunct::capped(atoms.len);
+    if n >= 7 {
+        return Answer::Refused(10);
+    }
+    let mut j = power(n);
+    while j > 0 {
+        j -= 1;
+        let c = chosen(e, atoms, n, j, v);
+        if !add(s, room, c) {
+            return Answer::Refused(10);
+        }
+    }
+    Answer::Done
+}
+
+// A store to an array of one cell: every load is the stored variable.
+fn store_cell(s: &mut [u64], room: usize, e: Conjunct, array: u64, len: u64, v: u64) -> Answer
+    requires { ⌜ Room (now s) room ⌝ }
+    ensures { λ r. ⌜ ((x ty : ℕ) → nodeOf v ≡ var x ty → Added r Short (renumber (swapAll array len x ty (conjOf e)) ∷ []) room (now (s .entry)) (now (s .exit))) × Within room (now (s .entry)) (now (s .exit)) ⌝ }
+{
+    let c = conjunct::replace_all(e, array, len, v);
+    if !add(s, room, c) {
+        return Answer::Refused(10);
+    }
+    Answer::Done
+}
+
+fn store_one(s: &mut [u64], room: usize, e: Conjunct, d: Decoded) -> Answer
+    requires { ⌜ Room (now s) room × (d .kind ≡ 9) × Known d ⌝ }
+    ensures { λ r. ⌜ ((label : ℕ) → Added r Short (map renumber (before label (instrOf d) (conjOf e))) room (now (s .entry)) (now (s .exit))) × Within room (now (s .entry)) (now (s .exit)) ⌝ }
+{
+    let array = d.a as u64;
+    let len = d.len;
+    let v = node::variable(d.c as u64, d.ty as u64);
+    if len == 1 {
+        return store_cell(s, room, e, array, len, v);
+    }
+    store_subsets(s, room, e, array, len, v)
+}
+
+// ---- the set
+
+// What one conjunct comes to before the statement d, added to the set of the room.
+fn add_before(s: &mut [u64], room: usize, e: Conjunct, label: u64, d: Decoded) -> Answer
+    requires { ⌜ Room (now s) room × (d .kind ≢ 9 → length (setOf (now s) room) < 64) × (label < 2 ^ 16) × (d .kind ≤ 10) × Known d × Numbered (conjOf e) ⌝ }
+    ensures { λ r. ⌜ Added r (λ G. d .kind ≡ 9 → Short G) (map renumber (before label (instrOf d) (conjOf e))) room (now (s .entry)) (now (s .exit)) × Within room (now (s .entry)) (now (s .exit)) ⌝ }
+{
+    let kind = d.kind;
+    if kind <= 8 {
+        return assign_one(s, room, e, label, d);
+    }
+    if kind == 9 {
+        return store_one(s, room, e, d);
+    }
+    add(s, room, e);
+    Answer::Done
+}
+
+// What the conjuncts of the region at b come to before the statement d, gathered in the empty room
+// from the last to the first.
+fn gather(s: &mut [u64], b: usize, room: usize, label: u64, d: Decoded) -> Answer
+    requires { ⌜ (b + 7745 ≤ room) × (room + 7745 ≤ length (now s)) × (setOf (now s) room ≡ []) × (label < 2 ^ 16) × (d .kind ≤ 10) × Known d × All Numbered (setOf (now s) b) ⌝ }
+    ensures { λ r. ⌜ (back label (instrOf d) (setOf (now (s .entry)) b) ≡ answered r (setOf (now (s .exit)) room)) × Within room (now (s .entry)) (now (s .exit)) ⌝ }
+{
+    let mut k = sets::size(s, b);
+    while k > 0 {
+        k -= 1;
+        let e = sets::get(s, b, k);
+        let answer = add_before(s, room, e, label, d);
+        match answer {
+            Answer::Done => {}
+            Answer::Refused(n) => return Answer::Refused(n),
+        }
+    }
+    Answer::Done
+}
+
+// The rule of the statement d with a label on the set of the region at b. The region after it, at
+// b + 7745, is room to work in.
+pub fn rule(s: &mut [u64], b: usize, label: u64, d: Decoded) -> Answer
+    requires { ⌜ (b + 15490 ≤ length (now s)) × (label < 2 ^ 16) × (d .kind ≤ 10) × Known d × All Numbered (setOf (now s) b) ⌝ }
+    ensures { λ r. ⌜ (back label (instrOf d) (setOf (now (s .entry)) b) ≡ answered r (setOf (now (s .exit)) b)) × Below b (now (s .entry)) (now (s .exit)) ⌝ }
+{
+    let room = b + 7745;
+    sets::clear(s, room);
+    let answer = gather(s, b, room, label, d);
+    match answer {
+        Answer::Done => {
+            sets::copy(s, b, room);
+            Answer::Done
+        }
+        Answer::Refused(n) => Answer::Refused(n),
+    }
+}

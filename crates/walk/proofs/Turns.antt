@@ -1,0 +1,139 @@
+-- One statement or block of a piece of program, walked from its end: the laws of each kind of turn.
+-- Assumes nothing.
+use mathlib.Core.Path.{_≡_, refl, sym, ap, subst, _∙_}
+use Prim.Native.Nat.{ℕ, suc, _-_, _≤_, _<_}
+use native.Mathlib.Omega.{arith}
+use Rattle.model.specs.Code.{Instr, Code, done, step, branch, loop, Stmt, plain, end}
+use Rattle.model.specs.Conjunct.{Cond}
+use Rattle.model.specs.Refusals.{ok, refused, _>>=_}
+use Rattle.model.specs.Run.{append}
+use Rattle.model.specs.Walk.{walk}
+use Rattle.model.proofs.Depth.{Nested, nested-append}
+use Rattle.model.proofs.Laid.{IfAt, WhileAt, Laid, laid-le, Last, last-plain, last-if, last-while, laid-last}
+use Rattle.model.proofs.Results.{gives-ok}
+use Rattle.model.proofs.Skip.{walk-skip}
+use Rattle.model.proofs.Tidied.{walk-tidy}
+use Rattle.model.proofs.TidySets.{Tidy}
+use Rattle.model.proofs.Walks.{walk-append}
+use Rattle.mentions.specs.Mentioned.{Speaks, Quiet}
+use Rattle.mentions.specs.declared.Mentions.{Mentions}
+use Rattle.mentions.proofs.Skipped.{quiet-touches}
+use Rattle.walk.specs.Turn.{firstOf, Sole}
+use Rattle.walk.proofs.Entered.{single-some}
+use Rattle.walk.proofs.Unique.{laid-unique}
+
+module _ (stmt : ℕ → Stmt) (mate : ℕ → ℕ) where
+  -- ---- the last statement or block
+
+  -- what stands before the last statement or block of a piece, and that one, from l on
+  pub record Parted (c : Code) (p l r : ℕ) : Type 0 where
+    pub front : Code
+    pub last : Code
+    pub whole : c ≡ append front last
+    pub front-lies : Laid stmt mate front p l
+    pub last-lies : Laid stmt mate last l r
+    pub sole : Sole last
+
+  first-plain : (s : Stmt) (x : Instr) (i : ℕ) → s ≡ plain x → firstOf s mate i ≡ i
+  first-plain s x i e = rw e
+
+  first-end : (s : Stmt) (i : ℕ) → s ≡ end → firstOf s mate i ≡ mate i
+  first-end s i e = rw e
+
+  parted : (c : Code) (p l r : ℕ) → Laid stmt mate c p r → p < r → l ≡ firstOf (stmt (r - 1)) mate (r - 1) → Parted c p l r
+  parted c p l r h b e = go (laid-last stmt mate c p r h b)
+    where
+      go : Last stmt mate c p r → Parted c p l r
+      go (last-plain d i x s w g k) =
+          let n : r - 1 ≡ i = omega arith in
+          let a : l ≡ i = e ∙ ap (λ j. firstOf (stmt j) mate j) n ∙ first-plain (stmt i) x i g in
+          record {
+            front = d;
+            last = step i x done;
+            whole = w;
+            front-lies = subst (Laid stmt mate d p) (sym a) k;
+            last-lies = (a, subst (λ j. stmt j ≡ plain x) (sym a) g, subst (λ j. suc j ≡ r) (sym a) (sym s));
+            sole = refl;
+          }
+      go (last-if d i v y n m f s w at k₁ k₂ k₃) =
+          let j : r - 1 ≡ f = omega arith in
+          let a : l ≡ i = e ∙ ap (λ z. firstOf (stmt z) mate z) j ∙ first-end (stmt f) f (at .is-end) ∙ at .to-if in
+          record {
+            front = d;
+            last = branch i v y n done;
+            whole = w;
+            front-lies = subst (Laid stmt mate d p) (sym a) k₁;
+            last-lies = (a, (m, f, subst (λ z. IfAt stmt mate z v m f) (sym a) at, subst (λ z. Laid stmt mate y (suc z) m) (sym a) k₂, k₃, sym s));
+            sole = refl;
+          }
+      go (last-while d i v body f s w at k₁ k₂) =
+          let j : r - 1 ≡ f = omega arith in
+          let a : l ≡ i = e ∙ ap (λ z. firstOf (stmt z) mate z) j ∙ first-end (stmt f) f (at .is-end) ∙ at .to-while in
+          record {
+            front = d;
+            last = loop i v body done;
+            whole = w;
+            front-lies = subst (Laid stmt mate d p) (sym a) k₁;
+            last-lies = (a, (f, subst (λ z. WhileAt stmt mate z v f) (sym a) at, subst (λ z. Laid stmt mate body (suc z) f) (sym a) k₂, sym s));
+            sole = refl;
+          }
+
+  -- ---- the walk so far
+
+  -- the walk of the piece on the labels from p up to q on S₀ is that of what is left, up to r, on S
+  pub record Stands (depth p q r : ℕ) (S₀ S : Cond) : Type 0 where
+    pub left : Code
+    pub lies : Laid stmt mate left p r
+    pub nested : Nested depth left
+    pub same : (c : Code) → Laid stmt mate c p q → walk c S₀ ≡ walk left S
+    pub tidy : Tidy S
+
+  pub stands-first : (depth p q : ℕ) (S : Cond) (c : Code) → Laid stmt mate c p q → Nested depth c → Tidy S → Stands depth p q q S S
+  stands-first depth p q S c h n t = record {
+    left = c;
+    lies = h;
+    nested = n;
+    same = λ d k. ap (λ x. walk x S) (laid-unique stmt mate d c p q k h);
+    tidy = t;
+  }
+
+  pub stands-done : (depth p q r : ℕ) (S₀ S : Cond) → Stands depth p q r S₀ S → r ≤ p → (c : Code) → Laid stmt mate c p q → walk c S₀ ≡ ok S
+  unfolding walk
+  stands-done depth p q r S₀ S h b c k =
+      let e : p ≡ r = omega (arith, laid-le stmt mate (h .left) p r (h .lies)) in
+      h .same c k ∙ ap (λ x. walk x S) (laid-unique stmt mate (h .left) done p r (h .lies) e)
+
+  module _ (depth p q l r : ℕ) (S₀ S : Cond) (h : Stands depth p q r S₀ S) (b : p < r) (first : l ≡ firstOf (stmt (r - 1)) mate (r - 1)) where
+    parts : Parted (h .left) p l r
+    parts = parted (h .left) p l r (h .lies) b first
+
+    nested-parts : Nested depth (parts .front) × Nested depth (parts .last)
+    nested-parts = nested-append depth (parts .front) (parts .last) (subst (Nested depth) (parts .whole) (h .nested))
+
+    -- the last statement or block, which is due
+    pub stands-due : (w : Code) × Laid stmt mate w l r × Nested depth w × Sole w
+    stands-due = (parts .last, parts .last-lies, nested-parts .1, parts .sole)
+
+    pub stands-bounds : (p ≤ l) × (l < r)
+    stands-bounds = (laid-le stmt mate (parts .front) p l (parts .front-lies), single-some stmt mate (parts .last) l r (parts .last-lies) (parts .sole))
+
+    left-walk : walk (h .left) S ≡ (walk (parts .last) S >>= walk (parts .front))
+    left-walk = ap (λ x. walk x S) (parts .whole) ∙ walk-append (parts .front) (parts .last) S
+
+    pub stands-turned : (S′ : Cond) → ((w : Code) → Laid stmt mate w l r → walk w S ≡ ok S′) → Stands depth p q l S₀ S′
+    stands-turned S′ k =
+        let e = k (parts .last) (parts .last-lies) in
+        record {
+          left = parts .front;
+          lies = parts .front-lies;
+          nested = nested-parts .0;
+          same = λ c g. h .same c g ∙ left-walk ∙ ap (_>>= walk (parts .front)) e;
+          tidy = gives-ok Tidy (walk (parts .last) S) S′ e (walk-tidy (parts .last) S (h .tidy));
+        }
+
+    pub stands-refused : (n : ℕ) → ((w : Code) → Laid stmt mate w l r → walk w S ≡ refused n) → (c : Code) → Laid stmt mate c p q → walk c S₀ ≡ refused n
+    stands-refused n k c g = h .same c g ∙ left-walk ∙ ap (_>>= walk (parts .front)) (k (parts .last) (parts .last-lies))
+
+    -- it changes nothing that the set speaks of
+    pub stands-passed : (m : Mentions) → Speaks m S → Quiet m stmt l r → Stands depth p q l S₀ S
+    stands-passed m s k = stands-turned S (λ w g. walk-skip w S (quiet-touches m S s stmt mate w l r g k) (h .tidy))

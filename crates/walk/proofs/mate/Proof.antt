@@ -1,0 +1,22 @@
+-- `walk::mate` meets its contract. Assumes nothing.
+use mathlib.Core.Path.{sym}
+use native.Mathlib.Omega.{arith}
+use lib.ListN.{List·getD-eq-default}
+use borrow.Author.Needs.{needs}
+use Rattle.walk.proofs.mate.Statement.{statement}
+use Rattle.walk.proofs.mate.Tie as tie
+
+mul-result : tie.Need-mul-result
+mul-result c = search needs
+
+shared-slice-read-result : tie.Need-shared-slice-read-result
+shared-slice-read-result c = search needs
+
+returns : tie.Need-returns
+returns c = search needs
+
+returns-2 : tie.Need-returns-2
+returns-2 c = sym (List·getD-eq-default (c .before .args .table .now) 0 {n = c .before .args .i} (omega arith))
+
+pub mate-spec : {M : Type 1} → statement M
+mate-spec = tie.close (tie.spec mul-result shared-slice-read-result returns returns-2)

@@ -1,0 +1,93 @@
+-- `writer::put_conjuncts` meets its contract. Assumes nothing.
+use mathlib.Core.List.{List, flatMap, []}
+use mathlib.Core.Path.{_≡_, ap, _∙_}
+use Prim.Native.Nat.{ℕ, _+_, _-_, _*_, _<_, _≤_}
+use native.Mathlib.Numerals.{add-one}
+use native.Mathlib.Omega.{arith}
+use lib.ListN.{length, take, getD}
+use lib.Seq.{take-all}
+use borrow.Author.Needs.{needs}
+use Rattle.model.proofs.FileBytes.{size}
+use Rattle.model.proofs.Formed.{FileNode}
+use Rattle.model.specs.Condition.{conjunctBytes}
+use Rattle.model.specs.Lists.{All}
+use Rattle.bytes_le.specs.Overlay.{overlay}
+use Rattle.conjunct.specs.Value.{conjOf}
+use Rattle.sets.specs.Region.{setOf}
+use Rattle.writer.proofs.Written.{stored-none, size-more, conjuncts-more}
+use Rattle.writer.proofs.put_conjuncts.Statement.{statement}
+use Rattle.writer.proofs.put_conjuncts.Tie as tie
+
+abbrev Inv-loop : tie.InvT-loop
+Inv-loop out₀ a s b count place₀ i₀ out place i = (i ≤ count) × (count ≤ 64) × (count ≡ length (setOf s b)) × (length out ≡ length out₀) × (a + 61440 ≤ length out₀) × (place ≤ a + 960 * i) × (place ≡ a + 8 * size (take i (setOf s b))) × ((types : List ℕ) → All (All (FileNode types)) (setOf s b) → out ≡ overlay out₀ a (flatMap conjunctBytes (take i (setOf s b))))
+
+abbrev μ-loop : tie.MeasureT-loop
+μ-loop out₀ a s b count place₀ i₀ out place i = count - i
+
+size-requires : tie.Need-size-requires Inv-loop μ-loop
+size-requires c κs = search needs
+
+loop-holds : tie.Need-loop-holds Inv-loop μ-loop
+unfolding flatMap
+loop-holds c =
+    let a = c .before .before .before .args in
+    (search needs, search needs, search needs, search needs, search needs, search needs, search needs, λ types f. stored-none (a .out .now) (a .a))
+
+get-requires : tie.Need-get-requires Inv-loop μ-loop
+get-requires c κs = search needs
+
+put-conjunct-requires : tie.Need-put-conjunct-requires Inv-loop μ-loop
+put-conjunct-requires c κs = search needs
+
+add-i : tie.Need-add-i Inv-loop μ-loop
+add-i c = search needs
+
+loop-less : tie.Need-loop-less Inv-loop μ-loop
+loop-less c = search needs
+
+loop-again : tie.Need-loop-again Inv-loop μ-loop
+loop-again c =
+    let a = c .before .before .before .before .before .before .before .before .before .before .args in
+    let lp = c .before .before .before .before .before .before .loop in
+    let got = c .before .before .before .get in
+    let put = c .before .before .put-conjunct in
+    let S = setOf (a .s .now) (a .b) in
+    let inside : lp .i < length S = omega arith in
+    let nodes = ap length (got .ensures) in
+    let more : size (take (lp .i + 1) S) ≡ size (take (lp .i) S) + length (getD S (lp .i) []) = rw (add-one (lp .i)) (size-more S (lp .i) inside) in (
+      omega arith,
+      lp .inv .1,
+      lp .inv .2,
+      put .kept .0 ∙ lp .inv .3,
+      lp .inv .4,
+      omega arith,
+      omega arith,
+      λ types f. conjuncts-more types S f (a .out .now) (lp .out) (put .last .0) (a .a) (lp .i) (lp .place) inside (conjOf (got .result)) (got .ensures) (lp .inv .6) (lp .inv .7 types f) (put .ensures .2 types),
+    )
+
+same-length : tie.Need-same-length Inv-loop μ-loop
+same-length c = c .before .loop .inv .3
+
+returns : tie.Need-returns Inv-loop μ-loop
+returns c =
+    let a = c .before .before .before .before .before .args in
+    let lp = c .before .loop in
+    let S = setOf (a .s .now) (a .b) in
+    let all = take-all (lp .i) S (omega arith) in
+    (lp .inv .6 ∙ ap (λ R. a .a + 8 * size R) all, omega arith, λ types f. lp .inv .7 types f ∙ ap (λ R. overlay (a .out .now) (a .a) (flatMap conjunctBytes R)) all)
+
+pub put-conjuncts-spec : {M : Type 1} → statement M
+put-conjuncts-spec =
+    tie.close
+    (tie.spec
+    Inv-loop
+    μ-loop
+    size-requires
+    loop-holds
+    get-requires
+    put-conjunct-requires
+    add-i
+    loop-less
+    loop-again
+    same-length
+    returns)

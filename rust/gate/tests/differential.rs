@@ -1,0 +1,195 @@
+//! The proved library beside an independent implementation on generated cases: answers, every output
+//! byte, and the untouched rest.
+//!
+//! CASES gives the number of cases, SEED the first one's seed; both are printed. A case is its seed.
+
+use gate::*;
+use gate_oracle::generate::{self, Rng};
+use std::sync::atomic::{AtomicU64, Ordering};
+
+const MARK: u8 = 0xA5;
+
+fn setting(name: &str, usual: u64) -> u64 {
+    std::env::var(name).map_or(usual, |text| text.parse().unwrap())
+}
+
+/// The types of a recipe's fields, or else some types.
+fn field_types(recipe: &[u8]) -> Vec<u8> {
+    gate_oracle::recipe::Recipe::read(recipe).map_or_else(|_| vec![2], |recipe| recipe.fields)
+}
+
+/// The types that a condition lists, or else some types.
+fn listed_types(condition: &[u8]) -> Vec<u8> {
+    gate_oracle::condition::Condition::read(condition).map_or_else(|_| vec![2], |condition| condition.types)
+}
+
+fn untouched(bytes: &[u8]) -> bool {
+    bytes.iter().all(|&byte| byte == MARK)
+}
+
+/// A run's numbers as the other implementation gives them.
+fn numbers(ran: Ran) -> (u8, u64, u64) {
+    (ran.end as u8, ran.steps, ran.records)
+}
+
+struct Bench {
+    condition: Vec<u8>,
+    scratch: Vec<u64>,
+}
+
+impl Bench {
+    fn new() -> Bench {
+        Bench { condition: vec![MARK; CONDITION + 16], scratch: scratch() }
+    }
+
+    /// The condition of a recipe: the same file or the same refusal, and nothing else touched.
+    fn derive(&mut self, rng: &mut Rng, recipe: &[u8]) -> Result<Vec<u8>, u8> {
+        let expected = gate_oracle::derive(recipe);
+        let length = CONDITION + rng.below(17);
+        let answer = derive(recipe, &mut self.condition[..length], &mut self.scratch);
+        match (&expected, answer) {
+            (Ok(file), Ok(written)) => {
+                assert_eq!(&self.condition[..written], &file[..]);
+                assert!(untouched(&self.condition[written..]));
+                self.condition[..written].fill(MARK);
+            }
+            (Err(number), Err(refusal)) => {
+                assert_eq!(*number, refusal.0);
+                assert!(untouched(&self.condition));
+            }
+            (expected, answer) => panic!("derive: {expected:?}, {answer:?}"),
+        }
+        expected
+    }
+
+    /// Too little room is refused with 1, whatever the recipe, by the wrapper and by the library, and nothing is touched.
+    fn short(&mut self, rng: &mut Rng, recipe: &[u8]) {
+        let (room, words) = (CONDITION - 1 - rng.below(3), scratch_words() - 1 - rng.below(3));
+        let Bench { condition, scratch } = self;
+        assert_eq!(derive(recipe, &mut condition[..room], scratch), Err(Refusal(1)));
+        assert_eq!(derive(recipe, condition, &mut scratch[..words]), Err(Refusal(1)));
+        let (to, work) = (condition.as_mut_ptr(), scratch.as_mut_ptr());
+        let mut log = [MARK; 24];
+        assert_eq!(run(recipe, &[], 1, &[], &mut log, &mut scratch[..words]), Err(Refusal(1)));
+        // SAFETY: each length is at most that of the slice pointed to.
+        unsafe {
+            assert_eq!(library::gate_derive(recipe.as_ptr(), recipe.len(), to, room, work, scratch.len()), 1 << 32);
+            assert_eq!(library::gate_derive(recipe.as_ptr(), recipe.len(), to, condition.len(), work, words), 1 << 32);
+        }
+        assert!(untouched(condition));
+        assert!(untouched(&log));
+    }
+
+    fn check(&self, condition: &[u8], sheet: &[u8]) -> Result<bool, u8> {
+        let expected = gate_oracle::check(condition, sheet);
+        let answer = check(condition, sheet).map(|verdict| verdict == Verdict::Pass).map_err(|refusal| refusal.0);
+        assert_eq!(expected, answer);
+        expected
+    }
+
+    fn run(&mut self, recipe: &[u8], sheet: &[u8], limit: u32, choices: &[u8], length: usize) {
+        let (mut log, mut other) = (vec![MARK; length], vec![MARK; length]);
+        let expected = gate_oracle::run(recipe, sheet, limit, choices, &mut other);
+        let answer = run(recipe, sheet, limit, choices, &mut log, &mut self.scratch);
+        assert_eq!(
+            expected.map(|ran| (ran.end, ran.steps as u64, ran.records as u64)),
+            answer.map(numbers).map_err(|refusal| refusal.0)
+        );
+        assert_eq!(log, other);
+    }
+
+    /// The run behind the gate, from the answers of the three apart.
+    fn guarded(
+        &mut self,
+        recipe: &[u8],
+        sheet: &[u8],
+        limit: u32,
+        choices: &[u8],
+        length: usize,
+        derived: &Result<Vec<u8>, u8>,
+        verdict: Option<Result<bool, u8>>,
+    ) {
+        let mut log = vec![MARK; length];
+        let answer = guarded(recipe, sheet, limit, choices, &mut log, &mut self.condition, &mut self.scratch);
+        let expected = match (derived, verdict) {
+            (Err(number), _) => Err(*number),
+            (Ok(_), Some(Err(number))) => Err(number),
+            (Ok(_), Some(Ok(passes))) => Ok(passes),
+            (derived, verdict) => panic!("{derived:?}, {verdict:?}"),
+        };
+        match (expected, answer) {
+            (Err(number), Err(refusal)) if number == refusal.0 => assert!(untouched(&log)),
+            (Ok(false), Ok(Guarded::Held)) => assert!(untouched(&log)),
+            (Ok(true), Ok(Guarded::Ran(ran))) => {
+                let mut other = vec![MARK; length];
+                let expected = gate_oracle::run(recipe, sheet, limit, choices, &mut other).unwrap();
+                assert_eq!(numbers(ran), (expected.end, expected.steps as u64, expected.records as u64));
+                assert_eq!(log, other);
+                assert!(log.chunks_exact(RECORD).take(ran.records as usize).all(|record| record[2] == 0));
+                let file = derived.as_ref().unwrap();
+                assert_eq!(&self.condition[..file.len()], &file[..]);
+                self.condition[..file.len()].fill(MARK);
+            }
+            (expected, answer) => panic!("guarded: {expected:?}, {answer:?}"),
+        }
+        assert!(untouched(&self.condition));
+    }
+
+    fn case(&mut self, seed: u64) {
+        let rng = &mut Rng::new(seed);
+        let mut recipe = generate::recipe(rng);
+        if rng.chance(15) {
+            generate::damage(rng, &mut recipe);
+        }
+        let mut sheet = generate::sheet(rng, &field_types(&recipe));
+        if rng.chance(3) {
+            generate::damage(rng, &mut sheet);
+        }
+        let (limit, choices) = (generate::limit(rng), generate::choices(rng));
+        let length = generate::log_length(rng);
+
+        let derived = self.derive(rng, &recipe);
+        let verdict = derived.as_ref().ok().map(|condition| self.check(condition, &sheet));
+        self.run(&recipe, &sheet, limit, &choices, length);
+        self.guarded(&recipe, &sheet, limit, &choices, length, &derived, verdict);
+        if seed % 64 == 0 {
+            self.short(rng, &recipe);
+            for length in 0..3 * RECORD + 2 {
+                self.run(&recipe, &sheet, limit, &choices, length);
+            }
+        }
+
+        let mut condition = match (&derived, rng.chance(30)) {
+            (Ok(condition), true) => condition.clone(),
+            _ => generate::condition(rng),
+        };
+        if rng.chance(50) {
+            generate::damage(rng, &mut condition);
+        }
+        let sheet = generate::sheet(rng, &listed_types(&condition));
+        self.check(&condition, &sheet);
+    }
+}
+
+#[test]
+fn generated_cases() {
+    let (first, cases) = (setting("SEED", 1), setting("CASES", 1_000_000));
+    println!("SEED={first} CASES={cases}");
+    let next = AtomicU64::new(first);
+    let threads = std::thread::available_parallelism().map_or(1, |n| n.get());
+    std::thread::scope(|scope| {
+        for _ in 0..threads {
+            scope.spawn(|| {
+                let mut bench = Bench::new();
+                loop {
+                    let seed = next.fetch_add(1, Ordering::Relaxed);
+                    if seed >= first + cases {
+                        break;
+                    }
+                    let told = std::panic::catch_unwind(std::panic::AssertUnwindSafe(|| bench.case(seed)));
+                    assert!(told.is_ok(), "the case SEED={seed} CASES=1 differs");
+                }
+            });
+        }
+    });
+}
