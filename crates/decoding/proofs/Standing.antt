@@ -1,62 +1,93 @@
--- What a decoded statement stands for and what is known of its numbers, from its entry and what the tables say of it.
+-- What a decoded statement of a program that is read stands for, and what is known of its numbers.
 -- Assumes nothing.
-use mathlib.Core.Path.{_≡_, refl, sym, ap, subst, _∙_}
-use mathlib.Core.Bool.{Bool, true, false}
+use mathlib.Core.Path.{_≡_, sym, ap, subst, _∙_}
+use mathlib.Core.Bool.{true}
 use mathlib.Core.Logic.{_≢_}
 use mathlib.Core.List.{List}
 use Prim.Native.Nat.{ℕ, _+_, _*_, _≤_, _<_}
+use native.Mathlib.Decide.{ℕ-discrete}
 use native.Mathlib.Omega.{arith}
-use lib.Dec.{eqb}
 use lib.ListN.{length, getD}
-use borrow.Author.Tests.{eqb-true, eqb-false}
 use Rattle.model.specs.Code.{plain}
-use Rattle.model.specs.Program.{Statement, Tables, formRight, variableType, arrayOf, stmtOf}
-use Rattle.program.proofs.Known.{counts-known, types-known, form-known}
+use Rattle.model.specs.Program.{Statement, Tables, formRight, variableType, arrayOf, typesAgree, stmtOf}
+use Rattle.program.proofs.Known.{counts-known, types-known, form-known, agree-known}
 use Rattle.program.proofs.Statements.{stmt-at, type-small}
 use Rattle.program.proofs.Tables.{sized, statement-in}
-use Rattle.program.specs.Reading.{IsRead, tablesOf, statementOf, stmtAt}
+use Rattle.program.specs.Reading.{IsRead, tablesOf, stmtAt}
 use Rattle.program.specs.declared.Layout.{Layout}
 use Rattle.machine.proofs.Executions.{stmt-decoded}
-use Rattle.machine.specs.Decoding.{Length, instrOf, entryOf}
+use Rattle.machine.specs.Decoding.{Length, instrOf, entryOf, Ready, IndexedInstr}
 use Rattle.machine.specs.declared.Decoded.{Decoded}
-use Rattle.decoding.proofs.Forms.{Named, form-named, array-length, array-type-small, four-bytes}
-use Rattle.decoding.specs.Known.{Known}
+use Rattle.decoding.proofs.Forms.{Operands, form-operands, array-length, array-type-small, array-length-small, four-bytes}
+use Rattle.decoding.proofs.Indexes.{instr-indexed}
+use Rattle.decoding.specs.Known.{Known, DecodedAt}
 
-module _ (s : List ℕ) (L : Layout) (h : IsRead s L) (bytes : (i : ℕ) → getD s i 0 < 256) (i : ℕ) (k : i < L .statements) (d : Decoded)
-    (entry : entryOf d ≡ statementOf (tablesOf s) i)
-    (ty : d .kind ≢ 9 → d .ty ≡ variableType (tablesOf s) (d .a)) (cell : d .kind ≡ 9 → d .ty ≡ arrayOf (tablesOf s) (d .a) .ty)
-    (from : d .from ≡ variableType (tablesOf s) (d .b))
-    (len : d .kind ≢ 9 → d .len ≡ arrayOf (tablesOf s) (d .b) .len) (store : d .kind ≡ 9 → d .len ≡ arrayOf (tablesOf s) (d .a) .len) where
+module _ (s : List ℕ) (L : Layout) (h : IsRead s L) (i : ℕ) (k : i < L .statements) (d : Decoded) (at : DecodedAt (tablesOf s) i d) where
   abbrev T : Tables
   T = tablesOf s
 
   pub stands-for : d .kind ≤ 10 → stmtAt T i ≡ plain (instrOf d)
-  stands-for small =
-      stmt-at T i ∙ ap (stmtOf T) (sym entry)
-      ∙ stmt-decoded T d small (record { ty = ty; from = λ e. from; loads = λ e. len (λ n. omega arith); stores = λ e. (store e, cell e) })
+  stands-for small = stmt-at T i ∙ ap (stmtOf T) (sym (at .entry)) ∙ stmt-decoded T d small (at .tabled)
 
-  named : Named T (d .kind) (d .a) (d .b) (d .c)
-  named =
+  pub decoded-operands : Operands T (entryOf d)
+  decoded-operands =
       let z = sized s L (h .placed) in
       let n = counts-known s L h in
-      form-named T (rw (z .fields) (n .0)) (rw (z .variables) (n .1)) (rw (z .arrays) (n .2)) (entryOf d) (subst (λ (q : Statement). formRight T q ≡ true) (sym entry) (form-known s L h i k))
+      form-operands T (rw (z .fields) (n .0)) (rw (z .variables) (n .1)) (rw (z .arrays) (n .2)) (entryOf d) (subst (λ (q : Statement). formRight T q ≡ true) (sym (at .entry)) (form-known s L h i k))
 
-  few : (x : ℕ) → x < length (T .arrays) → x < 16
-  few x g = omega (arith, sized s L (h .placed) .arrays, counts-known s L h .2)
+  few-arrays : (x : ℕ) → x < length (T .arrays) → x < 16
+  few-arrays x g = omega (arith, sized s L (h .placed) .arrays, counts-known s L h .2)
 
-  type : (b : Bool) → eqb (d .kind) 9 ≡ b → d .ty < 8
-  type true e = rw (cell (eqb-true (d .kind) 9 e)) (array-type-small T (types-known s L h) (d .a))
-  type false e = rw (ty (eqb-false (d .kind) 9 e)) (type-small T (types-known s L h) (d .a))
+  type : d .ty < 8
+  type = go (ℕ-discrete (d .kind) 9)
+    where
+      go : Dec (d .kind ≡ 9) → d .ty < 8
+      go (yes e) = rw (at .tabled .stores e .1) (array-type-small (tablesOf s) (types-known s L h) (d .a))
+      go (no n) = rw (at .tabled .ty n) (type-small (tablesOf s) (types-known s L h) (d .a))
 
-  pub known : Known d
-  known = record {
-    a = named .first;
-    b = named .second;
-    c = named .third;
-    ty = type (eqb (d .kind) 9) refl;
-    from = rw from (type-small T (types-known s L h) (d .b));
-    imm = rw (ap (λ (q : Statement). q .imm) (entry ∙ statement-in s L (h .placed) i k)) (four-bytes s bytes (L .«statements_at» + 8 * i + 4));
-    reads = named .reads;
-    loads = λ e. (few (d .b) (named .loads e), subst Length (sym (len (λ n. omega arith))) (array-length T (types-known s L h) (d .b) (named .loads e)));
-    stores = λ e. (few (d .a) (named .stores e), subst Length (sym (store e)) (array-length T (types-known s L h) (d .a) (named .stores e)));
-  }
+  loads : d .kind ≡ 8 → (d .b < 16) × Length (d .len)
+  loads e =
+      let o = decoded-operands .loads e in
+      (few-arrays (d .b) o, subst Length (sym (at .tabled .loads e)) (array-length T (types-known s L h) (d .b) o))
+
+  stores : d .kind ≡ 9 → (d .a < 16) × Length (d .len)
+  stores e =
+      let o = decoded-operands .stores e in
+      (few-arrays (d .a) o, subst Length (sym (at .tabled .stores e .0)) (array-length T (types-known s L h) (d .a) o))
+
+  -- ready to be executed
+  pub ready : (d .kind ≡ 7 → ⊥) → Ready d
+  ready no-read =
+      let o = decoded-operands in
+      record { no-read = no-read; a = o .a; b = o .b; c = o .c; ty = type; loads = loads; stores = stores }
+
+  -- the array's length and the index's type are as the statement has them
+  pub indexed : IndexedInstr T (instrOf d)
+  indexed = instr-indexed T d (subst (λ (q : Statement). typesAgree T q ≡ true) (sym (at .entry)) (agree-known s L h i k)) (at .tabled)
+
+  -- read from bytes, with the type of the variable b, and the length of the array a where it is a store, else of the array b
+  module _ (bytes : (x : ℕ) → getD s x 0 < 256) (from : d .from ≡ variableType T (d .b))
+      (len : d .kind ≢ 9 → d .len ≡ arrayOf T (d .b) .len) (store : d .kind ≡ 9 → d .len ≡ arrayOf T (d .a) .len) where
+    short : d .len ≤ 256
+    short = go (ℕ-discrete (d .kind) 9)
+      where
+        go : Dec (d .kind ≡ 9) → d .len ≤ 256
+        go (yes e) = rw (store e) (array-length-small (tablesOf s) (types-known s L h) (d .a))
+        go (no n) = rw (len n) (array-length-small (tablesOf s) (types-known s L h) (d .b))
+
+    pub known : Known d
+    known =
+        let o = decoded-operands in
+        record {
+          kind = o .kind;
+          a = o .a;
+          b = o .b;
+          c = o .c;
+          ty = type;
+          from = rw from (type-small T (types-known s L h) (d .b));
+          imm = rw (ap (λ (q : Statement). q .imm) (at .entry ∙ statement-in s L (h .placed) i k)) (four-bytes s bytes (L .«statements_at» + 8 * i + 4));
+          len = short;
+          reads = λ e. omega (arith, o .reads e, sized s L (h .placed) .fields, counts-known s L h .0);
+          loads = loads;
+          stores = stores;
+        }

@@ -5,7 +5,9 @@ use native.Mathlib.Omega.{arith}
 use lib.ListN.{getD}
 use borrow.Author.Needs.{needs}
 use Rattle.model.specs.Program.{Statement}
+use Rattle.program.specs.Reading.{tablesOf}
 use Rattle.machine.specs.declared.Decoded.{Decoded}
+use Rattle.decoding.specs.Known.{DecodedAt}
 use Rattle.decoding.proofs.Standing.{stands-for, known}
 use Rattle.decoding.proofs.decoded.Statement.{statement}
 use Rattle.decoding.proofs.decoded.Tie as tie
@@ -48,11 +50,17 @@ returns c =
     } in
     let bytes : (i : ℕ) → getD s i 0 < 256 = λ i. omega (arith, c .before .before .before .before .before .before .before .shared-slice-known .given i) in
     let ty = c .before .before .type-of .ensures in
-    let len = c .len-of .ensures in (
+    let from = c .before .variable-type .ensures in
+    let len = c .len-of .ensures in
+    let at : DecodedAt (tablesOf s) (g .args .i) d = record {
+      entry = q .ensures;
+      tabled = record { ty = ty .0; from = λ e. from; loads = λ e. len .0 (λ n. omega arith); stores = λ e. (len .1 e, ty .1 e) };
+    } in (
       ap (λ (r : Statement). r .kind) (q .ensures),
       ap (λ (r : Statement). r .a) (q .ensures),
-      stands-for s (g .args .layout) (g .pre .0) bytes (g .args .i) (g .pre .1) d (q .ensures) (ty .0) (ty .1) (c .before .variable-type .ensures) (len .0) (len .1),
-      known s (g .args .layout) (g .pre .0) bytes (g .args .i) (g .pre .1) d (q .ensures) (ty .0) (ty .1) (c .before .variable-type .ensures) (len .0) (len .1),
+      stands-for s (g .args .layout) (g .pre .0) (g .args .i) (g .pre .1) d at,
+      known s (g .args .layout) (g .pre .0) (g .args .i) (g .pre .1) d at bytes from (len .0) (len .1),
+      at,
     )
 
 pub decoded-spec : {M : Type 1} → statement M
