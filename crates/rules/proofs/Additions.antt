@@ -2,15 +2,17 @@
 -- Assumes nothing.
 use mathlib.Core.Bool.{Bool, true, false}
 use mathlib.Core.List.{List, [], _∷_, map}
-use mathlib.Core.Logic.{inl}
+use mathlib.Core.Logic.{_≢_, inl, ⊎-elim}
 use mathlib.Core.Path.{_≡_, refl, sym, ap, ap₂, _∙_}
 use Prim.Native.Nat.{ℕ, _+_, _^_, _≤_, _<_}
 use native.Mathlib.Omega.{arith}
+use lib.Dec.{eqb}
 use lib.ListN.{length, getD, drop, length-map, List·getD-map}
+use borrow.Author.Tests.{eqb-true, eqb-false}
 use Rattle.model.specs.Conjunct.{Conj, Cond, insert, union, atoms, renumber}
 use Rattle.model.specs.Walk.{loads, subsets}
 use Rattle.model.proofs.Canonical.{insert-length, union-canon, union-left, sub-length}
-use Rattle.model.proofs.Tests.{true→T}
+use Rattle.model.proofs.Tests.{decide, true→T}
 use Rattle.model.proofs.TidySets.{Canon}
 use Rattle.sets.proofs.Inserting.{union-next, union-over}
 use Rattle.sets.specs.Region.{setOf, Inserted}
@@ -48,6 +50,15 @@ module _ (x : Conj) (b : ℕ) (s t : List ℕ) where
   unfolding union
   added-out true q d i = absurd (true→T (sym q))
   added-out false q d i = λ G c f p. limits-ten G p (omega (arith, i .1, sub-length (union (x ∷ []) (setOf s b)) G (union-canon (x ∷ []) (setOf s b) d) c f))
+
+  -- there was no room for it, which happens for a store alone
+  pub added-full : (r : Bool) → r ≡ false → (k : ℕ) → (k ≢ 9 → length (setOf s b) < 64) → Canon (setOf s b) → Inserted r b x s t → Added (Refused 10) (λ G. k ≡ 9 → Short G) (x ∷ []) b s t
+  added-full true q k few d i = absurd (true→T (sym q))
+  added-full false q k few d i =
+      ⊎-elim
+      (λ p. added-store (Refused 10) (k ≡ 9) (x ∷ []) b s t (eqb-true k 9 p) (added-out false q d i))
+      (λ p. absurd (omega (arith, i .1, few (eqb-false k 9 p), insert-length x (setOf s b))))
+      (decide (eqb k 9))
 
 -- ---- several, from the last to the first
 

@@ -8,6 +8,7 @@ ghost use Rattle.model.specs.Conjunct.{Atom, atom, var, atoms, renumber};
 ghost use Rattle.model.specs.Lists.{All};
 ghost use Rattle.model.specs.Walk.{nodes, loads, swapAll, subsets, before, back};
 ghost use Rattle.model.proofs.TidySets.{Numbered};
+ghost use Rattle.model.proofs.Touch.{writes};
 ghost use Rattle.machine.specs.Decoding.{instrOf};
 ghost use Rattle.decoding.specs.Known.{Known};
 ghost use Rattle.node.specs.Word.{nodeOf};
@@ -101,7 +102,7 @@ fn assign_one(s: &mut [u64], room: usize, e: Conjunct, label: u64, d: Decoded) -
     Answer::Done
 }
 
-// ---- sites and stores: kinds 9 and 10
+// ---- stores: kind 9
 
 // one conjunct more, renumbered; false where the set would have over 64
 fn add(s: &mut [u64], room: usize, e: Conjunct) -> bool
@@ -198,20 +199,39 @@ fn store_one(s: &mut [u64], room: usize, e: Conjunct, d: Decoded) -> Answer
 
 // ---- the set
 
-// What one conjunct comes to before the statement d, added to the set of the room.
+// Whether the statement d changes what the conjunct speaks of.
+fn touched(e: Conjunct, d: Decoded) -> bool
+    requires { ⌜ d .kind ≤ 10 ⌝ }
+    ensures { λ r. ⌜ r ≡ writes (instrOf d) (conjOf e) ⌝ }
+{
+    let kind = d.kind;
+    let a = d.a as u64;
+    if kind == 10 {
+        return false;
+    }
+    if kind == 9 {
+        return conjunct::mentions_array(e, a, d.len);
+    }
+    conjunct::mentions_variable(e, a)
+}
+
+// What one conjunct comes to before the statement d, added to the set of the room. A conjunct that
+// d does not touch stays as it is.
 fn add_before(s: &mut [u64], room: usize, e: Conjunct, label: u64, d: Decoded) -> Answer
     requires { ⌜ Room (now s) room × (d .kind ≢ 9 → length (setOf (now s) room) < 64) × (label < 2 ^ 16) × (d .kind ≤ 10) × Known d × Numbered (conjOf e) ⌝ }
     ensures { λ r. ⌜ Added r (λ G. d .kind ≡ 9 → Short G) (map renumber (before label (instrOf d) (conjOf e))) room (now (s .entry)) (now (s .exit)) × Within room (now (s .entry)) (now (s .exit)) ⌝ }
 {
+    if !touched(e, d) {
+        if !sets::insert(s, room, e) {
+            return Answer::Refused(10);
+        }
+        return Answer::Done;
+    }
     let kind = d.kind;
     if kind <= 8 {
         return assign_one(s, room, e, label, d);
     }
-    if kind == 9 {
-        return store_one(s, room, e, d);
-    }
-    add(s, room, e);
-    Answer::Done
+    store_one(s, room, e, d)
 }
 
 // What the conjuncts of the region at b come to before the statement d, gathered in the empty room

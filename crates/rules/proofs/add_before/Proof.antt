@@ -1,67 +1,91 @@
 -- `rules::add_before` meets its contract. Assumes nothing.
-use mathlib.Core.Path.{_≡_, subst}
 use mathlib.Core.List.{map}
+use mathlib.Core.Path.{_≡_, sym, subst, _∙_}
 use native.Mathlib.Omega.{arith}
+use borrow.Author.Tests.{not-true, not-false}
 use borrow.Author.Needs.{needs}
-use Rattle.model.specs.Conjunct.{renumber, Cond}
+use Rattle.model.specs.Conjunct.{renumber}
 use Rattle.model.specs.Walk.{before}
 use Rattle.machine.specs.Decoding.{instrOf}
 use Rattle.conjunct.specs.Value.{conjOf}
-use Rattle.rules.proofs.Additions.{added-store, added-one}
-use Rattle.rules.proofs.ByKind.{before-site}
+use Rattle.rules.proofs.Additions.{added-store, added-in, added-full}
+use Rattle.rules.proofs.ByKind.{writes-kind}
+use Rattle.rules.proofs.Untouched.{before-untouched}
 use Rattle.rules.specs.Adding.{Short, Added}
-use Rattle.rules.specs.declared.Answer.the-variants.{Done}
+use Rattle.rules.specs.declared.Answer.the-variants.{Done, Refused}
 use Rattle.rules.proofs.add_before.Statement.{statement}
 use Rattle.rules.proofs.add_before.Tie as tie
 
-assign-one-requires : tie.Need-assign-one-requires
-assign-one-requires c κs =
-    let g = c .before .before .before in
-    (g .pre .0 .0, g .pre .1 (λ e. omega arith), g .pre .2, omega arith, g .pre .4, g .pre .5)
+touched-requires : tie.Need-touched-requires
+touched-requires c κs = search needs
+
+insert-requires : tie.Need-insert-requires
+insert-requires c κs = search needs
 
 same-length : tie.Need-same-length
 same-length c = search needs
 
 returns : tie.Need-returns
-returns c = c .before .before .assign-one .ensures
-
-store-one-requires : tie.Need-store-one-requires
-store-one-requires c κs = search needs
+returns c =
+    let g = c .before .before .before .before .before .before .before .before in
+    let a = g .args in
+    let i = c .before .before .before .insert in
+    let w = sym (c .before .before .before .before .before .before .touched .ensures) ∙ not-true _ (c .before .before .before .before .before .if1 .taken) in
+    (subst (λ R. Added (Refused 10) (λ G. a .d .kind ≡ 9 → Short G) R (a .room) (a .s .now) (i .last .0)) (sym (before-untouched (a .label) (instrOf (a .d)) (conjOf (a .e)) w (g .pre .5))) (added-full (conjOf (a .e)) (a .room) (a .s .now) (i .last .0) (i .result) (not-true _ (c .if2 .taken)) (a .d .kind) (g .pre .1) (g .pre .0 .1) (i .ensures .0)), i .ensures .1)
 
 same-length-2 : tie.Need-same-length-2
 same-length-2 c = search needs
 
 returns-2 : tie.Need-returns-2
 returns-2 c =
-    let g = c .before .before .before .before .before .before .before in
+    let g = c .before .before .before .before .before .before .before .before in
     let a = g .args in
-    let r = c .before .before .store-one in
-    (added-store (r .result) (a .d .kind ≡ 9) (map renumber (before (a .label) (instrOf (a .d)) (conjOf (a .e)))) (a .room) (a .s .now) (r .last .0) (omega arith) (r .ensures .0 (a .label)), r .ensures .1)
+    let i = c .before .before .before .insert in
+    let w = sym (c .before .before .before .before .before .before .touched .ensures) ∙ not-true _ (c .before .before .before .before .before .if1 .taken) in
+    (subst (λ R. Added Done Short R (a .room) (a .s .now) (i .last .0)) (sym (before-untouched (a .label) (instrOf (a .d)) (conjOf (a .e)) w (g .pre .5))) (added-in (conjOf (a .e)) (a .room) (a .s .now) (i .last .0) (i .result) (not-false _ (c .if2 .left)) (i .ensures .0)), i .ensures .1)
 
-add-requires : tie.Need-add-requires
-add-requires c κs = search needs
+assign-one-requires : tie.Need-assign-one-requires
+assign-one-requires c κs =
+    let g = c .before .before .before .before .before in
+    (g .pre .0 .0, g .pre .1 (λ e. omega arith), g .pre .2, omega arith, g .pre .4, g .pre .5)
 
 same-length-3 : tie.Need-same-length-3
 same-length-3 c = search needs
 
 returns-3 : tie.Need-returns-3
-returns-3 c =
-    let g = c .before .before .before .before .before .before .before in
+returns-3 c = c .before .before .assign-one .ensures
+
+store-one-requires : tie.Need-store-one-requires
+store-one-requires c κs =
+    let g = c .before .before .before .before .before in
     let a = g .args in
-    let r = c .before .before .add in
-    let P : Cond → Type 0 = λ G. a .d .kind ≡ 9 → Short G in
-    (subst (λ R. Added Done P R (a .room) (a .s .now) (r .last .0)) (before-site (a .d) (a .label) (conjOf (a .e)) (omega arith)) (added-one (renumber (conjOf (a .e))) (a .room) (a .s .now) (r .last .0) (r .result) P (g .pre .1 (λ e. omega arith)) (r .ensures .0)), r .ensures .1)
+    let k : a .d .kind ≡ 9 = writes-kind (a .d) (conjOf (a .e)) (g .pre .3) (omega arith) (sym (c .before .before .before .touched .ensures) ∙ not-false _ (c .before .before .if1 .left)) in
+    (g .pre .0, k, g .pre .4)
+
+same-length-4 : tie.Need-same-length-4
+same-length-4 c = search needs
+
+returns-4 : tie.Need-returns-4
+returns-4 c =
+    let g = c .before .before .before .before .before .before .before .before in
+    let a = g .args in
+    let r = c .before .before .store-one in
+    let k : a .d .kind ≡ 9 = writes-kind (a .d) (conjOf (a .e)) (g .pre .3) (omega arith) (sym (c .before .before .before .before .before .before .touched .ensures) ∙ not-false _ (c .before .before .before .before .before .if1 .left)) in
+    (added-store (r .result) (a .d .kind ≡ 9) (map renumber (before (a .label) (instrOf (a .d)) (conjOf (a .e)))) (a .room) (a .s .now) (r .last .0) k (r .ensures .0 (a .label)), r .ensures .1)
 
 pub add-before-spec : {M : Type 1} → statement M
 add-before-spec =
     tie.close
     (tie.spec
-    assign-one-requires
+    touched-requires
+    insert-requires
     same-length
     returns
-    store-one-requires
     same-length-2
     returns-2
-    add-requires
+    assign-one-requires
     same-length-3
-    returns-3)
+    returns-3
+    store-one-requires
+    same-length-4
+    returns-4)
