@@ -7,8 +7,8 @@ use Prim.Native.Nat.{ℕ, _+_, _/_, _%_, _≤_, _<_}
 use native.Mathlib.Omega.{arith}
 use native.Mathlib.Numerals.{add-one}
 use lib.Dec.{eqb}
-use lib.ListN.{length, getD, take, set}
-use lib.Seq.{take-suc, getD-set-same, getD-set-other}
+use lib.ListN.{length, getD, take, drop, set, length-drop}
+use lib.Seq.{take-suc, getD-drop, getD-set-same, getD-set-other}
 use borrow.Author.Tests.{ne-eqb}
 use Rattle.model.specs.Conjunct.{Conj, Cond}
 use Rattle.model.proofs.Lists.{all-imp, all-append}
@@ -25,7 +25,7 @@ use Rattle.mentions.specs.declared.Mentions.{Mentions}
 pub extends-self : (m : Mentions) → Extends m m
 extends-self m = record { variables = λ x f. f; arrays = λ t f. f }
 
-pub extends-trans : (l m n : Mentions) → Extends l m → Extends m n → Extends l n
+extends-trans : (l m n : Mentions) → Extends l m → Extends m n → Extends l n
 extends-trans l m n h k = record { variables = λ x f. h .variables x (k .variables x f); arrays = λ t f. h .arrays t (k .arrays t f) }
 
 pub covers-more : (m n : Mentions) (e : Conj) → Extends m n → Covers m e → Covers n e
@@ -45,17 +45,31 @@ covers-append m d e h k = record {
   arrays = λ t j f. some-append (isLoad t j) d e (h .arrays t j f) (k .arrays t j f);
 }
 
-pub covers-none : (m : Mentions) → Covers m []
+covers-none : (m : Mentions) → Covers m []
 unfolding some
 covers-none m = record { variables = λ x f. refl; arrays = λ t k f. refl }
 
 -- the node at j after those before it
-pub covers-next : (m n : Mentions) (ws : List ℕ) (j : ℕ) → j < length ws → Extends m n → Covers m (nodesOf (take j ws)) → Covers n (nodeOf (getD ws j 0) ∷ [])
+covers-next : (m n : Mentions) (ws : List ℕ) (j : ℕ) → j < length ws → Extends m n → Covers m (nodesOf (take j ws)) → Covers n (nodeOf (getD ws j 0) ∷ [])
     → Covers n (nodesOf (take (j + 1) ws))
 covers-next m n ws j h k a b =
     let e : nodesOf (take (j + 1) ws) ≡ nodesOf (take j ws) ++ (nodeOf (getD ws j 0) ∷ []) =
     ap (λ i. nodesOf (take i ws)) (add-one j) ∙ ap nodesOf (take-suc ws j 0 h) ∙ map-join nodeOf (take j ws) (getD ws j 0 ∷ []) in
     subst (Covers n) (sym e) (covers-append n (nodesOf (take j ws)) (nodeOf (getD ws j 0) ∷ []) (covers-more m n (nodesOf (take j ws)) k a) b)
+
+-- the flags of m, and those of the first j nodes of the words from a on, are in r
+pub record Noted (m r : Mentions) (s : List ℕ) (a j : ℕ) : Type 0 where
+  pub extends : Extends m r
+  pub covers : Covers r (nodesOf (take j (drop a s)))
+
+pub noted-none : (m : Mentions) (s : List ℕ) (a : ℕ) → Noted m m s a 0
+noted-none m s a = record { extends = extends-self m; covers = covers-none m }
+
+pub noted-next : (m r n : Mentions) (s : List ℕ) (a j : ℕ) → a + j < length s → Noted m r s a j → Extends r n × Covers n (nodeOf (getD s (a + j) 0) ∷ []) → Noted m n s a (j + 1)
+noted-next m r n s a j h k b = record {
+  extends = extends-trans m r n (k .extends) (b .0);
+  covers = covers-next r n (drop a s) j (rw length-drop (omega arith)) (b .0) (k .covers) (subst (λ w. Covers n (nodeOf w ∷ [])) (sym (getD-drop a s j 0)) (b .1));
+}
 
 -- the conjunct at i after those before it
 pub speaks-next : (m n : Mentions) (S : Cond) (i : ℕ) (e : Conj) → i < length S → e ≡ getD S i [] → Extends m n → Speaks m (take i S) → Covers n e

@@ -2,16 +2,13 @@
 // any of them. Assumes nothing.
 ghost use mathlib.Core.Path.{_≡_};
 ghost use mathlib.Core.Bool.{true};
-ghost use mathlib.Core.List.{[], _∷_};
 ghost use Prim.Native.Nat.{_+_, _≤_};
 ghost use lib.ListN.{length};
 ghost use Rattle.model.specs.Program.{Tables, stmtOf};
 ghost use Rattle.program.specs.Reading.{Placed, tablesOf, stmtAt, entryOf};
-ghost use Rattle.node.specs.Word.{nodeOf};
-ghost use Rattle.conjunct.specs.Value.{conjOf};
-ghost use Rattle.sets.specs.Region.{setOf};
+ghost use Rattle.node.specs.Word.{nodesOf};
+ghost use Rattle.sets.specs.Region.{slotAt, setOf};
 ghost use Rattle.mentions.specs.Mentioned.{Covers, Speaks, Extends, Spares, Quiet};
-use conjunct::Conjunct;
 use program::Entry;
 use program::Layout;
 
@@ -23,40 +20,33 @@ pub struct Mentions {
 
 // ---- what a set speaks of
 
-// With the variable or the array of one node more.
-fn with_node(m: Mentions, w: u64) -> Mentions
-    ensures { λ r. ⌜ Extends m r × Covers r (nodeOf w ∷ []) ⌝ }
+// With those of the conjunct of the slot at a.
+fn with_slot(m: Mentions, s: &[u64], a: usize) -> Mentions
+    requires { ⌜ a + 121 ≤ length (now s) ⌝ }
+    ensures { λ r. ⌜ Extends m r × Covers r (nodesOf (slotAt (now (s .entry)) a)) ⌝ }
 {
-    if w < 504403158265495552 {
-        return m;
-    }
-    let mut r = m;
-    if w < 576460752303423488 {
-        let x = (w / 16777216 % 256) as usize;
-        if 64 <= x {
-            return m;
-        }
-        r.variables[x] = true;
-        return r;
-    }
-    let t = (w / 65536 % 256) as usize;
-    if 16 <= t {
-        return m;
-    }
-    r.arrays[t] = true;
-    r
-}
-
-// With those of one conjunct more.
-fn with_conjunct(m: Mentions, e: Conjunct) -> Mentions
-    ensures { λ r. ⌜ Extends m r × Covers r (conjOf e) ⌝ }
-{
-    let n = conjunct::capped(e.len);
+    let n = conjunct::capped(s[a] as usize);
     let mut r = m;
     let mut j: usize = 0;
     while j < n {
-        r = with_node(r, e.nodes[j]);
+        let w = s[a + 1 + j];
         j += 1;
+        if w < 504403158265495552 {
+            continue;
+        }
+        if w < 576460752303423488 {
+            let x = (w / 16777216 % 256) as usize;
+            if 64 <= x {
+                continue;
+            }
+            r.variables[x] = true;
+            continue;
+        }
+        let t = (w / 65536 % 256) as usize;
+        if 16 <= t {
+            continue;
+        }
+        r.arrays[t] = true;
     }
     r
 }
@@ -73,7 +63,7 @@ pub fn mentioned(s: &[u64], b: usize) -> Mentions
     };
     let mut i: usize = 0;
     while i < n {
-        r = with_conjunct(r, sets::get(s, b, i));
+        r = with_slot(r, s, b + 1 + 121 * i);
         i += 1;
     }
     r

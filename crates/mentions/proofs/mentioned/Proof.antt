@@ -1,12 +1,14 @@
 -- `mentions::mentioned` meets its contract. Assumes nothing.
-use mathlib.Core.Path.{_≡_, subst}
-use Prim.Native.Nat.{_-_, _≤_}
+use mathlib.Core.List.{[]}
+use mathlib.Core.Path.{_≡_, sym, subst}
+use Prim.Native.Nat.{_+_, _-_, _*_, _≤_}
 use native.Mathlib.Omega.{arith}
-use lib.ListN.{length, take}
+use lib.ListN.{length, getD, take}
 use lib.Seq.{take-all}
 use borrow.Author.Needs.{needs}
-use Rattle.conjunct.specs.Value.{conjOf}
-use Rattle.sets.specs.Region.{setOf}
+use Rattle.node.specs.Word.{nodesOf}
+use Rattle.sets.proofs.Rows.{set-length, set-at}
+use Rattle.sets.specs.Region.{slotAt, setOf}
 use Rattle.mentions.proofs.Flags.{speaks-next}
 use Rattle.mentions.specs.Mentioned.{Speaks}
 use Rattle.mentions.proofs.mentioned.Statement.{statement}
@@ -24,11 +26,17 @@ size-requires c κs = search needs
 loop-holds : tie.Need-loop-holds Inv-loop μ-loop
 loop-holds c = (search needs, c .size .ensures .0, tt)
 
-get-requires : tie.Need-get-requires Inv-loop μ-loop
-get-requires c κs = search needs
+add-with-slot : tie.Need-add-with-slot Inv-loop μ-loop
+add-with-slot c = search needs
 
-with-conjunct-requires : tie.Need-with-conjunct-requires Inv-loop μ-loop
-with-conjunct-requires c κs = search needs
+mul-with-slot : tie.Need-mul-with-slot Inv-loop μ-loop
+mul-with-slot c = search needs
+
+add-with-slot-2 : tie.Need-add-with-slot-2 Inv-loop μ-loop
+add-with-slot-2 c = search needs
+
+with-slot-requires : tie.Need-with-slot-requires Inv-loop μ-loop
+with-slot-requires c κs = search needs
 
 add-i : tie.Need-add-i Inv-loop μ-loop
 add-i c = search needs
@@ -38,11 +46,13 @@ loop-less c = search needs
 
 loop-again : tie.Need-loop-again Inv-loop μ-loop
 loop-again c =
-    let a = c .before .before .before .before .before .before .args in
-    let lp = c .before .before .before .loop in
+    let a = c .before .before .before .before .before .args in
+    let lp = c .before .before .loop in
     let S = setOf (a .s .now) (a .b) in
-    let w = c .with-conjunct in
-    (omega arith, lp .inv .1, speaks-next (lp .r) (w .result) S (lp .i) (conjOf (c .before .get .result)) (omega arith) (c .before .get .ensures) (w .ensures .0) (lp .inv .2) (w .ensures .1))
+    let w = c .with-slot in
+    let e = nodesOf (slotAt (a .s .now) (a .b + 1 + 121 * lp .i)) in
+    let at : e ≡ getD S (lp .i) [] = sym (set-at (a .s .now) (a .b) (lp .i) (omega (arith, set-length (a .s .now) (a .b)))) in
+    (omega arith, lp .inv .1, speaks-next (lp .r) (w .result) S (lp .i) e (omega arith) at (w .ensures .0) (lp .inv .2) (w .ensures .1))
 
 returns : tie.Need-returns Inv-loop μ-loop
 returns c =
@@ -59,8 +69,10 @@ mentioned-spec =
     μ-loop
     size-requires
     loop-holds
-    get-requires
-    with-conjunct-requires
+    add-with-slot
+    mul-with-slot
+    add-with-slot-2
+    with-slot-requires
     add-i
     loop-less
     loop-again
