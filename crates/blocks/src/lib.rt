@@ -31,10 +31,12 @@ fn block_end(program: &[u8], layout: Layout, table: &[u64], s: usize) -> u64
 {
     let q = program::statement(program, layout, s);
     let kind = q.kind;
-    let first = mate(table, s as u64);
     match kind {
-        11 => mate(table, first),
-        14 => first,
+        11 => {
+            let other = mate(table, s as u64);
+            mate(table, other)
+        }
+        14 => mate(table, s as u64),
         _ => 0,
     }
 }

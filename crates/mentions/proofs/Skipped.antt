@@ -11,7 +11,7 @@ use Rattle.model.specs.Conjunct.{Cond}
 use Rattle.model.specs.Program.{Statement, Tables, stmtOf}
 use Rattle.model.proofs.Laid.{Laid, laid-le}
 use Rattle.model.proofs.Touch.{some, writes, touches}
-use Rattle.mentions.specs.Mentioned.{FreeVariable, FreeArray, Speaks, Spares, Quiet}
+use Rattle.mentions.specs.Mentioned.{FreeVariable, FreeArray, Speaks, Spares, Quiet, Passed}
 use Rattle.mentions.specs.declared.Mentions.{Mentions}
 
 -- ---- one statement, by its kind
@@ -58,6 +58,26 @@ quiet-next m stmt p i h k j l b = go (decLt j i)
     go : Dec (j < i) → Spares m (stmt j)
     go (yes g) = h j l g
     go (no g) = let e : j ≡ i = omega arith in subst (λ x. Spares m (stmt x)) (sym e) k
+
+-- ---- statements passed over, from the last one back
+
+module _ (m : Mentions) (stmt : ℕ → Stmt) where
+  pub passed-none : (r : ℕ) → Passed m stmt r r
+  passed-none r = record { each-plain = λ i a b. absurd (omega arith); quiet = λ i a b. absurd (omega arith) }
+
+  pub passed-before : (l r : ℕ) → Passed m stmt l r → (x : Instr) → stmt (l - 1) ≡ plain x → Spares m (stmt (l - 1)) → Passed m stmt (l - 1) r
+  passed-before l r h x e k = record {
+    each-plain = λ i a b. first i a b (decLt i l);
+    quiet = λ i a b. other i a b (decLt i l);
+  }
+    where
+      first : (i : ℕ) → l - 1 ≤ i → i < r → Dec (i < l) → (y : Instr) × (stmt i ≡ plain y)
+      first i a b (yes g) = let n : i ≡ l - 1 = omega arith in (x, subst (λ j. stmt j ≡ plain x) (sym n) e)
+      first i a b (no g) = h .each-plain i (omega arith) b
+
+      other : (i : ℕ) → l - 1 ≤ i → i < r → Dec (i < l) → Spares m (stmt i)
+      other i a b (yes g) = let n : i ≡ l - 1 = omega arith in subst (λ j. Spares m (stmt j)) (sym n) k
+      other i a b (no g) = h .quiet i (omega arith) b
 
 -- ---- a piece
 

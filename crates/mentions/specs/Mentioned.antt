@@ -4,7 +4,7 @@ use mathlib.Core.Path.{_≡_}
 use mathlib.Core.Bool.{false}
 use Prim.Native.Nat.{ℕ, _≤_, _<_}
 use lib.ListN.{getD}
-use Rattle.model.specs.Code.{assign, store, site, Stmt, plain, if, else, end, while}
+use Rattle.model.specs.Code.{Instr, assign, store, site, Stmt, plain, if, else, end, while}
 use Rattle.model.specs.Conjunct.{Conj, Cond}
 use Rattle.model.specs.Lists.{All}
 use Rattle.model.proofs.Touch.{isVar, isLoad, some}
@@ -45,3 +45,8 @@ Spares m (while v) = Unit {0}
 -- the flags spare every statement on the labels from p up to q
 abbrev pub Quiet : Mentions → (ℕ → Stmt) → ℕ → ℕ → Type 0
 Quiet m stmt p q = (i : ℕ) → p ≤ i → i < q → Spares m (stmt i)
+
+-- the same, and each of these statements is plain
+pub record Passed (m : Mentions) (stmt : ℕ → Stmt) (p q : ℕ) : Type 0 where
+  pub each-plain : (i : ℕ) → p ≤ i → i < q → (x : Instr) × (stmt i ≡ plain x)
+  pub quiet : Quiet m stmt p q

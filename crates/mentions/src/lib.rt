@@ -8,7 +8,7 @@ ghost use Rattle.model.specs.Program.{Tables, stmtOf};
 ghost use Rattle.program.specs.Reading.{Placed, tablesOf, stmtAt, entryOf};
 ghost use Rattle.node.specs.Word.{nodesOf};
 ghost use Rattle.sets.specs.Region.{slotAt, setOf};
-ghost use Rattle.mentions.specs.Mentioned.{Covers, Speaks, Extends, Spares, Quiet};
+ghost use Rattle.mentions.specs.Mentioned.{Covers, Speaks, Extends, Spares, Quiet, Passed};
 use program::Entry;
 use program::Layout;
 
@@ -112,4 +112,23 @@ pub fn quiet(program: &[u8], layout: Layout, m: Mentions, p: usize, q: usize) ->
         i += 1;
     }
     true
+}
+
+// How far back from r, but not past p, each statement is plain and changes none of them.
+pub fn passed(program: &[u8], layout: Layout, m: Mentions, p: usize, r: usize) -> usize
+    requires { ⌜ Placed (now program) layout × (p ≤ r) × (r ≤ layout .statements) ⌝ }
+    ensures { λ l. ⌜ (p ≤ l) × (l ≤ r) × Passed m (stmtAt (tablesOf (now (program .entry)))) l r ⌝ }
+{
+    let mut l = r;
+    while p < l {
+        let entry = program::statement(program, layout, l - 1);
+        if 11 <= entry.kind {
+            return l;
+        }
+        if !spares(m, entry) {
+            return l;
+        }
+        l -= 1;
+    }
+    l
 }

@@ -1,7 +1,7 @@
 -- One statement or block of a piece of program, walked from its end: the laws of each kind of turn.
 -- Assumes nothing.
 use mathlib.Core.Path.{_≡_, refl, sym, ap, subst, _∙_}
-use Prim.Native.Nat.{ℕ, suc, _-_, _≤_, _<_}
+use Prim.Native.Nat.{ℕ, zero, suc, _+_, _-_, _≤_, _<_}
 use native.Mathlib.Omega.{arith}
 use Rattle.model.specs.Code.{Instr, Code, done, step, branch, loop, Stmt, plain, end}
 use Rattle.model.specs.Conjunct.{Cond}
@@ -15,7 +15,7 @@ use Rattle.model.proofs.Skip.{walk-skip}
 use Rattle.model.proofs.Tidied.{walk-tidy}
 use Rattle.model.proofs.TidySets.{Tidy}
 use Rattle.model.proofs.Walks.{walk-append}
-use Rattle.mentions.specs.Mentioned.{Speaks, Quiet}
+use Rattle.mentions.specs.Mentioned.{Speaks, Quiet, Passed}
 use Rattle.mentions.specs.declared.Mentions.{Mentions}
 use Rattle.mentions.proofs.Skipped.{quiet-touches}
 use Rattle.walk.specs.Turn.{firstOf, Sole}
@@ -137,3 +137,14 @@ module _ (stmt : ℕ → Stmt) (mate : ℕ → ℕ) where
     -- it changes nothing that the set speaks of
     pub stands-passed : (m : Mentions) → Speaks m S → Quiet m stmt l r → Stands depth p q l S₀ S
     stands-passed m s k = stands-turned S (λ w g. walk-skip w S (quiet-touches m S s stmt mate w l r g k) (h .tidy))
+
+  -- the statements from l on, one by one from the last
+  pub stands-over : (depth p q l r : ℕ) (S₀ S : Cond) → Stands depth p q r S₀ S → (m : Mentions) → Speaks m S → p ≤ l → l ≤ r → Passed m stmt l r → Stands depth p q l S₀ S
+  stands-over depth p q l r S₀ S h m s b e k = go (r - l) r (omega arith) h k
+    where
+      go : (n i : ℕ) → i ≡ n + l → Stands depth p q i S₀ S → Passed m stmt l i → Stands depth p q l S₀ S
+      go zero i a g w = let e : i ≡ l = omega arith in subst (λ j. Stands depth p q j S₀ S) e g
+      go (suc n) i a g w =
+          let x = w .each-plain (i - 1) (omega arith) (omega arith) in
+          let last = stands-passed depth p q (i - 1) i S₀ S g (omega arith) (sym (first-plain (stmt (i - 1)) (x .0) (i - 1) (x .1))) m s (λ j c d. w .quiet j (omega arith) d) in
+          go n (i - 1) (omega arith) last (record { each-plain = λ j c d. w .each-plain j c (omega arith); quiet = λ j c d. w .quiet j c (omega arith) })

@@ -244,12 +244,12 @@ pub fn walk(
     requires { ⌜ IsRead (now program) layout × (q ≤ layout .statements) × (depth ≤ 4) × (b + (2 * depth + 2) * 7745 ≤ length (now s)) × Tidy (setOf (now s) b) × Piece (now program) (now table) depth p q ⌝ }
     ensures { λ r. ⌜ ((c : Code) → Lies (now (program .entry)) (now (table .entry)) c p q → walk c (setOf (now (s .entry)) b) ≡ answered r (setOf (now (s .exit)) b)) × Below b (now (s .entry)) (now (s .exit)) ⌝ }
 {
-    let mut r = q;
     let mut m = mentions::mentioned(s, b);
+    let mut r = mentions::passed(program, layout, m, p, q);
     while p < r {
         let l = beginning(program, layout, table, r - 1);
         if mentions::quiet(program, layout, m, l, r) {
-            r = l;
+            r = mentions::passed(program, layout, m, p, l);
         } else {
             match turn(program, layout, table, s, depth, b, l, r) {
                 Answer::Refused(n) => {
@@ -257,7 +257,7 @@ pub fn walk(
                 }
                 Answer::Done => {
                     m = mentions::mentioned(s, b);
-                    r = l;
+                    r = mentions::passed(program, layout, m, p, l);
                 }
             }
         }

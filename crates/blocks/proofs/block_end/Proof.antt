@@ -17,22 +17,30 @@ mate-requires c κs = search needs
 mate-requires-2 : tie.Need-mate-requires-2
 mate-requires-2 c κs = search needs
 
+mate-requires-3 : tie.Need-mate-requires-3
+mate-requires-3 c κs = search needs
+
 returns : tie.Need-returns
 returns c =
-    let k = ap (λ x. x .kind) (sym (c .before .before .before .statement .ensures)) ∙ c .before .match .keys1 in
-    c .mate2 .ensures ∙ ap (λ x. getD (c .before .before .before .before .before .before .args .table .now) x 0) (c .before .before .mate .ensures) ∙ sym (if-ends (tablesOf (c .before .before .before .before .before .before .args .program .now)) (λ i. getD (c .before .before .before .before .before .before .args .table .now) i 0) (c .before .before .before .before .before .before .args .s) k)
+    let m = c .before .before in
+    let a = m .before .before .before .before .args in
+    let k = ap (λ x. x .kind) (sym (m .before .statement .ensures)) ∙ m .match .keys1 in
+    c .mate2 .ensures ∙ ap (λ x. getD (a .table .now) x 0) (c .before .mate .ensures) ∙ sym (if-ends (tablesOf (a .program .now)) (λ i. getD (a .table .now) i 0) (a .s) k)
 
 returns-2 : tie.Need-returns-2
 returns-2 c =
-    let k = ap (λ x. x .kind) (sym (c .before .before .statement .ensures)) ∙ c .match .keys2 in
-    c .before .mate .ensures ∙ sym (while-ends (tablesOf (c .before .before .before .before .before .args .program .now)) (λ i. getD (c .before .before .before .before .before .args .table .now) i 0) (c .before .before .before .before .before .args .s) k)
+    let m = c .before in
+    let a = m .before .before .before .before .args in
+    let k = ap (λ x. x .kind) (sym (m .before .statement .ensures)) ∙ m .match .keys2 in
+    c .mate3 .ensures ∙ sym (while-ends (tablesOf (a .program .now)) (λ i. getD (a .table .now) i 0) (a .s) k)
 
 returns-3 : tie.Need-returns-3
 returns-3 c =
-    let k = ap (λ x. x .kind) (c .before .before .statement .ensures) in
-    sym (none-ends (tablesOf (c .before .before .before .before .before .args .program .now)) (λ i. getD (c .before .before .before .before .before .args .table .now) i 0) (c .before .before .before .before .before .args .s) (λ e. c .match .rest .0 .1 (k ∙ e)) (λ e. c .match .rest .1 (k ∙ e)))
+    let a = c .before .before .before .before .args in
+    let k = ap (λ x. x .kind) (c .before .statement .ensures) in
+    sym (none-ends (tablesOf (a .program .now)) (λ i. getD (a .table .now) i 0) (a .s) (λ e. c .match .rest .0 .1 (k ∙ e)) (λ e. c .match .rest .1 (k ∙ e)))
 
 pub block-end-spec : {M : Type 1} → statement M
 block-end-spec =
     tie.close
-    (tie.spec statement-requires mate-requires mate-requires-2 returns returns-2 returns-3)
+    (tie.spec statement-requires mate-requires mate-requires-2 mate-requires-3 returns returns-2 returns-3)

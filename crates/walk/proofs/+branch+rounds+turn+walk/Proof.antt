@@ -17,7 +17,7 @@ use Rattle.model.proofs.Laid.{Laid, laid-le}
 use Rattle.model.proofs.TidySets.{Tidy}
 use Rattle.walk.proofs.Joining.{first-refused, other-tidy, other-refused, branches-tidy, branches-joined}
 use Rattle.walk.proofs.Rounding.{Goes, goes-first, goes-over, start-tidy, goes-refused, closing-tidy, goes-long, goes-settled, goes-again}
-use Rattle.walk.proofs.Turns.{Stands, stands-first, stands-done, stands-due, stands-bounds, stands-turned, stands-refused, stands-passed}
+use Rattle.walk.proofs.Turns.{Stands, stands-first, stands-done, stands-due, stands-bounds, stands-turned, stands-refused, stands-passed, stands-over}
 use Rattle.walk.proofs.Entered.{begins, single-some, single-step, single-if, single-while}
 use Rattle.walk.proofs.ByKind.{at-if, at-while, at-plain}
 use Rattle.walk.proofs.Regions.{below-self, below-trans, walked-done, walked-refused}
@@ -37,6 +37,7 @@ use Rattle.walk.proofs.walk.Kinds as walk-kinds
 use Rattle.walk.proofs.+branch+rounds+turn+walk.Lts-walk as walk-lts
 use Rattle.decoding.proofs.decoded.Reads as decoded-reads
 use Rattle.mentions.proofs.mentioned.Reads as mentioned-reads
+use Rattle.mentions.proofs.passed.Reads as passed-reads
 use Rattle.mentions.proofs.quiet.Reads as quiet-reads
 use Rattle.walk.proofs.beginning.Reads as beginning-reads
 use Rattle.walk.proofs.close_branch.Reads as close-branch-reads
@@ -561,7 +562,7 @@ turn-returns-3 t c =
     (λ x y. e x (setOf (a .s .now) (a .b)) y ∙ w .rule .ensures .0, w .rule .ensures .1)
 
 abbrev walk-Inv-loop : walk-lts.InvT-loop
-walk-Inv-loop program layout table s₀ depth b p q r₀ m₀ s r m =
+walk-Inv-loop program layout table s₀ depth b p q m₀ r₀ s m r =
     (r ≤ q)
     × (length s ≡ length s₀)
     × Below b s₀ s
@@ -569,27 +570,39 @@ walk-Inv-loop program layout table s₀ depth b p q r₀ m₀ s r m =
     × Stands (stmts program) (mates table) depth p q r (setOf s₀ b) (setOf s b)
 
 abbrev walk-μ-loop : walk-lts.MeasureT-loop
-walk-μ-loop program layout table s₀ depth b p q r₀ m₀ s r m = r
+walk-μ-loop program layout table s₀ depth b p q m₀ r₀ s m r = r
 
 -- what `walk` may ask of its callees, and what it learns
 abbrev walk-told : ℕ → walk-lts.Claims
-walk-told t = (mentioned-reads.Asked, mentioned-reads.Learnt, beginning-reads.Asked, beginning-reads.Learnt, quiet-reads.Asked, quiet-reads.Learnt, turn-below t, turn.Post)
+walk-told t = (mentioned-reads.Asked, mentioned-reads.Learnt, passed-reads.Asked, passed-reads.Learnt, beginning-reads.Asked, beginning-reads.Learnt, quiet-reads.Asked, quiet-reads.Learnt, turn-below t, turn.Post)
 
 walk-mentioned-requires : (t : ℕ) → walk-lts.Need-mentioned-requires (walk-told t) (walk-at t) walk.Post walk-Inv-loop walk-μ-loop
 walk-mentioned-requires t c κs = search needs
 
-walk-loop-holds : (t : ℕ) → walk-lts.Need-loop-holds (walk-told t) (walk-at t) walk.Post walk-Inv-loop walk-μ-loop
-walk-loop-holds t c =
+walk-passed-requires : (t : ℕ) → walk-lts.Need-passed-requires (walk-told t) (walk-at t) walk.Post walk-Inv-loop walk-μ-loop
+walk-passed-requires t c κs =
     let i = c .before .before .before .before .before in
     let a = i .args in
     let p = i .pre .1 in
     let stmt = stmts (a .program .now) in
-    let mate = mates (a .table .now) in (
-      search needs,
+    let mate = mates (a .table .now) in
+    (p .0 .placed, laid-le stmt mate (p .5 .0) (a .p) (a .q) (p .5 .1), p .1)
+
+walk-loop-holds : (t : ℕ) → walk-lts.Need-loop-holds (walk-told t) (walk-at t) walk.Post walk-Inv-loop walk-μ-loop
+walk-loop-holds t c =
+    let i = c .before .before .before .before .before .before in
+    let a = i .args in
+    let p = i .pre .1 in
+    let o = c .passed in
+    let S = setOf (a .s .now) (a .b) in
+    let stmt = stmts (a .program .now) in
+    let mate = mates (a .table .now) in
+    let y = stands-first stmt mate (a .depth) (a .p) (a .q) S (p .5 .0) (p .5 .1) (p .5 .2) (p .4) in (
+      o .ensures .1,
       refl,
       below-self (a .b) (a .s .now),
-      c .mentioned .ensures,
-      stands-first stmt mate (a .depth) (a .p) (a .q) (setOf (a .s .now) (a .b)) (p .5 .0) (p .5 .1) (p .5 .2) (p .4),
+      c .before .mentioned .ensures,
+      stands-over stmt mate (a .depth) (a .p) (a .q) (o .result) (a .q) S S y (c .before .mentioned .result) (c .before .mentioned .ensures) (o .ensures .0) (o .ensures .1) (o .ensures .2),
     )
 
 walk-sub-beginning : (t : ℕ) → walk-lts.Need-sub-beginning (walk-told t) (walk-at t) walk.Post walk-Inv-loop walk-μ-loop
@@ -601,36 +614,52 @@ walk-beginning-requires t c κs = search needs
 walk-quiet-requires : (t : ℕ) → walk-lts.Need-quiet-requires (walk-told t) (walk-at t) walk.Post walk-Inv-loop walk-μ-loop
 walk-quiet-requires t c κs =
     let h = c .before .before in
-    let i = h .before .before .before .before .before .before in
+    let i = h .before .before .before .before .before .before .before in
     let p = i .pre .1 in
     (p .0 .placed, omega (arith, h .loop .inv .0, p .1))
 
-walk-loop-less : (t : ℕ) → walk-lts.Need-loop-less (walk-told t) (walk-at t) walk.Post walk-Inv-loop walk-μ-loop
-walk-loop-less t c =
+walk-passed-requires-2 : (t : ℕ) → walk-lts.Need-passed-requires-2 (walk-told t) (walk-at t) walk.Post walk-Inv-loop walk-μ-loop
+walk-passed-requires-2 t c κs =
     let f = c .before .before in
     let g = f .before in
     let h = g .before in
-    let i = h .before .before .before .before .before .before in
+    let i = h .before .before .before .before .before .before .before in
+    let a = i .args in
+    let p = i .pre .1 in
+    let stmt = stmts (a .program .now) in
+    let mate = mates (a .table .now) in
+    let y = stands-bounds stmt mate (a .depth) (a .p) (a .q) (f .beginning .result) (h .loop .r) (setOf (a .s .now) (a .b)) (setOf (h .loop .s) (a .b)) (h .loop .inv .4) (g .loop-test .taken) (f .beginning .ensures) in
+    (p .0 .placed, y .0, omega (arith, y .1, h .loop .inv .0, p .1))
+
+walk-loop-less : (t : ℕ) → walk-lts.Need-loop-less (walk-told t) (walk-at t) walk.Post walk-Inv-loop walk-μ-loop
+walk-loop-less t c =
+    let f = c .before .before .before in
+    let g = f .before in
+    let h = g .before in
+    let i = h .before .before .before .before .before .before .before in
     let a = i .args in
     let stmt = stmts (a .program .now) in
     let mate = mates (a .table .now) in
-    stands-bounds stmt mate (a .depth) (a .p) (a .q) (f .beginning .result) (h .loop .r) (setOf (a .s .now) (a .b)) (setOf (h .loop .s) (a .b)) (h .loop .inv .4) (g .loop-test .taken) (f .beginning .ensures) .1
+    let y = stands-bounds stmt mate (a .depth) (a .p) (a .q) (f .beginning .result) (h .loop .r) (setOf (a .s .now) (a .b)) (setOf (h .loop .s) (a .b)) (h .loop .inv .4) (g .loop-test .taken) (f .beginning .ensures) in
+    omega (arith, y .1, c .passed2 .ensures .1)
 
 walk-loop-again : (t : ℕ) → walk-lts.Need-loop-again (walk-told t) (walk-at t) walk.Post walk-Inv-loop walk-μ-loop
 walk-loop-again t c =
-    let f = c .before .before in
+    let f = c .before .before .before in
     let g = f .before in
     let h = g .before in
-    let i = h .before .before .before .before .before .before in
+    let i = h .before .before .before .before .before .before .before in
     let a = i .args in
+    let o = c .passed2 in
     let stmt = stmts (a .program .now) in
     let mate = mates (a .table .now) in
-    let y = stands-bounds stmt mate (a .depth) (a .p) (a .q) (f .beginning .result) (h .loop .r) (setOf (a .s .now) (a .b)) (setOf (h .loop .s) (a .b)) (h .loop .inv .4) (g .loop-test .taken) (f .beginning .ensures) in (
-      omega (arith, h .loop .inv .0),
+    let y = stands-bounds stmt mate (a .depth) (a .p) (a .q) (f .beginning .result) (h .loop .r) (setOf (a .s .now) (a .b)) (setOf (h .loop .s) (a .b)) (h .loop .inv .4) (g .loop-test .taken) (f .beginning .ensures) in
+    let z = stands-passed stmt mate (a .depth) (a .p) (a .q) (f .beginning .result) (h .loop .r) (setOf (a .s .now) (a .b)) (setOf (h .loop .s) (a .b)) (h .loop .inv .4) (g .loop-test .taken) (f .beginning .ensures) (h .loop .m) (h .loop .inv .3) (c .before .before .quiet .ensures (c .before .if1 .taken)) in (
+      omega (arith, y .1, o .ensures .1, h .loop .inv .0),
       h .loop .inv .1,
       h .loop .inv .2,
       h .loop .inv .3,
-      stands-passed stmt mate (a .depth) (a .p) (a .q) (f .beginning .result) (h .loop .r) (setOf (a .s .now) (a .b)) (setOf (h .loop .s) (a .b)) (h .loop .inv .4) (g .loop-test .taken) (f .beginning .ensures) (h .loop .m) (h .loop .inv .3) (c .before .quiet .ensures (c .if1 .taken)),
+      stands-over stmt mate (a .depth) (a .p) (a .q) (o .result) (f .beginning .result) (setOf (a .s .now) (a .b)) (setOf (h .loop .s) (a .b)) z (h .loop .m) (h .loop .inv .3) (o .ensures .0) (o .ensures .1) (o .ensures .2),
     )
 
 walk-turn-requires : (t : ℕ) → walk-lts.Need-turn-requires (walk-told t) (walk-at t) walk.Post walk-Inv-loop walk-μ-loop
@@ -638,7 +667,7 @@ walk-turn-requires t c κs =
     let f = c .before .before .before in
     let g = f .before in
     let h = g .before in
-    let i = h .before .before .before .before .before .before in
+    let i = h .before .before .before .before .before .before .before in
     let a = i .args in
     let p = i .pre .1 in
     let stmt = stmts (a .program .now) in
@@ -657,7 +686,7 @@ walk-returns t c =
     let f = w .before .before .before .before in
     let g = f .before in
     let h = g .before in
-    let i = h .before .before .before .before .before .before in
+    let i = h .before .before .before .before .before .before .before in
     let a = i .args in
     let stmt = stmts (a .program .now) in
     let mate = mates (a .table .now) in
@@ -670,36 +699,62 @@ walk-enum-told : (t : ℕ) → walk-lts.Need-enum-told (walk-told t) (walk-at t)
 walk-enum-told t c = search needs
 
 walk-mentioned-requires-2 : (t : ℕ) → walk-lts.Need-mentioned-requires-2 (walk-told t) (walk-at t) walk.Post walk-Inv-loop walk-μ-loop
-walk-mentioned-requires-2 t c κs = search needs
+walk-mentioned-requires-2 t c κs =
+    let w = c .before .before .before .before .before in
+    let f = w .before .before .before .before in
+    let g = f .before in
+    let h = g .before in
+    let i = h .before .before .before .before .before .before .before in
+    let a = i .args in
+    let p = i .pre .1 in
+    omega (arith, p .3, h .loop .inv .1, w .turn .kept .1 .1 .1 .0)
 
-walk-loop-less-2 : (t : ℕ) → walk-lts.Need-loop-less-2 (walk-told t) (walk-at t) walk.Post walk-Inv-loop walk-μ-loop
-walk-loop-less-2 t c =
+walk-passed-requires-3 : (t : ℕ) → walk-lts.Need-passed-requires-3 (walk-told t) (walk-at t) walk.Post walk-Inv-loop walk-μ-loop
+walk-passed-requires-3 t c κs =
     let f = c .before .before .before .before .before .before .before .before .before .before in
     let g = f .before in
     let h = g .before in
-    let i = h .before .before .before .before .before .before in
+    let i = h .before .before .before .before .before .before .before in
+    let a = i .args in
+    let p = i .pre .1 in
+    let stmt = stmts (a .program .now) in
+    let mate = mates (a .table .now) in
+    let y = stands-bounds stmt mate (a .depth) (a .p) (a .q) (f .beginning .result) (h .loop .r) (setOf (a .s .now) (a .b)) (setOf (h .loop .s) (a .b)) (h .loop .inv .4) (g .loop-test .taken) (f .beginning .ensures) in
+    (p .0 .placed, y .0, omega (arith, y .1, h .loop .inv .0, p .1))
+
+walk-loop-less-2 : (t : ℕ) → walk-lts.Need-loop-less-2 (walk-told t) (walk-at t) walk.Post walk-Inv-loop walk-μ-loop
+walk-loop-less-2 t c =
+    let f = c .before .before .before .before .before .before .before .before .before .before .before in
+    let g = f .before in
+    let h = g .before in
+    let i = h .before .before .before .before .before .before .before in
     let a = i .args in
     let stmt = stmts (a .program .now) in
     let mate = mates (a .table .now) in
-    stands-bounds stmt mate (a .depth) (a .p) (a .q) (f .beginning .result) (h .loop .r) (setOf (a .s .now) (a .b)) (setOf (h .loop .s) (a .b)) (h .loop .inv .4) (g .loop-test .taken) (f .beginning .ensures) .1
+    let y = stands-bounds stmt mate (a .depth) (a .p) (a .q) (f .beginning .result) (h .loop .r) (setOf (a .s .now) (a .b)) (setOf (h .loop .s) (a .b)) (h .loop .inv .4) (g .loop-test .taken) (f .beginning .ensures) in
+    omega (arith, y .1, c .passed3 .ensures .1)
 
 walk-loop-again-2 : (t : ℕ) → walk-lts.Need-loop-again-2 (walk-told t) (walk-at t) walk.Post walk-Inv-loop walk-μ-loop
 walk-loop-again-2 t c =
-    let e = c .before .before in
+    let k = c .before in
+    let e = k .before .before in
     let w = e .before .before .before .before in
     let f = w .before .before .before .before in
     let g = f .before in
     let h = g .before in
-    let i = h .before .before .before .before .before .before in
+    let i = h .before .before .before .before .before .before .before in
     let a = i .args in
+    let o = c .passed3 in
+    let v = w .turn .last .1 .1 .1 .0 in
     let stmt = stmts (a .program .now) in
     let mate = mates (a .table .now) in
-    let y = stands-bounds stmt mate (a .depth) (a .p) (a .q) (f .beginning .result) (h .loop .r) (setOf (a .s .now) (a .b)) (setOf (h .loop .s) (a .b)) (h .loop .inv .4) (g .loop-test .taken) (f .beginning .ensures) in (
-      omega (arith, h .loop .inv .0),
+    let y = stands-bounds stmt mate (a .depth) (a .p) (a .q) (f .beginning .result) (h .loop .r) (setOf (a .s .now) (a .b)) (setOf (h .loop .s) (a .b)) (h .loop .inv .4) (g .loop-test .taken) (f .beginning .ensures) in
+    let z = stands-turned stmt mate (a .depth) (a .p) (a .q) (f .beginning .result) (h .loop .r) (setOf (a .s .now) (a .b)) (setOf (h .loop .s) (a .b)) (h .loop .inv .4) (g .loop-test .taken) (f .beginning .ensures) (setOf v (a .b)) (walked-done stmt mate (w .turn .result) (f .beginning .result) (h .loop .r) (a .b) (h .loop .s) v (w .turn .ensures) (e .enum-told .given .1)) in (
+      omega (arith, y .1, o .ensures .1, h .loop .inv .0),
       w .turn .kept .1 .1 .1 .0 ∙ h .loop .inv .1,
-      below-trans (a .b) (a .s .now) (h .loop .s) (w .turn .last .1 .1 .1 .0) (h .loop .inv .2) (w .turn .ensures .1),
-      c .mentioned2 .ensures,
-      stands-turned stmt mate (a .depth) (a .p) (a .q) (f .beginning .result) (h .loop .r) (setOf (a .s .now) (a .b)) (setOf (h .loop .s) (a .b)) (h .loop .inv .4) (g .loop-test .taken) (f .beginning .ensures) (setOf (w .turn .last .1 .1 .1 .0) (a .b)) (walked-done stmt mate (w .turn .result) (f .beginning .result) (h .loop .r) (a .b) (h .loop .s) (w .turn .last .1 .1 .1 .0) (w .turn .ensures) (e .enum-told .given .1)),
+      below-trans (a .b) (a .s .now) (h .loop .s) v (h .loop .inv .2) (w .turn .ensures .1),
+      k .mentioned2 .ensures,
+      stands-over stmt mate (a .depth) (a .p) (a .q) (o .result) (f .beginning .result) (setOf (a .s .now) (a .b)) (setOf v (a .b)) z (k .mentioned2 .result) (k .mentioned2 .ensures) (o .ensures .0) (o .ensures .1) (o .ensures .2),
     )
 
 walk-same-length-2 : (t : ℕ) → walk-lts.Need-same-length-2 (walk-told t) (walk-at t) walk.Post walk-Inv-loop walk-μ-loop
@@ -708,7 +763,7 @@ walk-same-length-2 t c = search needs
 walk-returns-2 : (t : ℕ) → walk-lts.Need-returns-2 (walk-told t) (walk-at t) walk.Post walk-Inv-loop walk-μ-loop
 walk-returns-2 t c =
     let h = c .before in
-    let i = h .before .before .before .before .before .before in
+    let i = h .before .before .before .before .before .before .before in
     let a = i .args in
     let stmt = stmts (a .program .now) in
     let mate = mates (a .table .now) in
@@ -788,10 +843,12 @@ pub +branch+rounds+turn+walk-spec : {M : Type 1} → statement M
     walk-Inv-loop
     walk-μ-loop
     (walk-mentioned-requires t)
+    (walk-passed-requires t)
     (walk-loop-holds t)
     (walk-sub-beginning t)
     (walk-beginning-requires t)
     (walk-quiet-requires t)
+    (walk-passed-requires-2 t)
     (walk-loop-less t)
     (walk-loop-again t)
     (walk-turn-requires t)
@@ -800,6 +857,7 @@ pub +branch+rounds+turn+walk-spec : {M : Type 1} → statement M
     (walk-returns t)
     (walk-enum-told t)
     (walk-mentioned-requires-2 t)
+    (walk-passed-requires-3 t)
     (walk-loop-less-2 t)
     (walk-loop-again-2 t)
     (walk-same-length-2 t)
