@@ -1,6 +1,6 @@
 -- `blocks::block_end` meets its contract.
 -- Assumes nothing.
-use mathlib.Core.Path.{sym, ap, _∙_}
+use mathlib.Core.Path.{_≡_, sym, ap, _∙_}
 use lib.ListN.{getD}
 use borrow.Author.Needs.{needs}
 use Rattle.program.specs.Reading.{tablesOf}
@@ -25,7 +25,8 @@ returns c =
     let m = c .before .before in
     let a = m .before .before .before .before .args in
     let k = ap (λ x. x .kind) (sym (m .before .statement .ensures)) ∙ m .match .keys1 in
-    c .mate2 .ensures ∙ ap (λ x. getD (a .table .now) x 0) (c .before .mate .ensures) ∙ sym (if-ends (tablesOf (a .program .now)) (λ i. getD (a .table .now) i 0) (a .s) k)
+    let e : c .mate2 .result ≡ getD (a .table .now) (c .before .mate .result) 0 = c .mate2 .ensures in
+    e ∙ ap (λ x. getD (a .table .now) x 0) (c .before .mate .ensures) ∙ sym (if-ends (tablesOf (a .program .now)) (λ i. getD (a .table .now) i 0) (a .s) k)
 
 returns-2 : tie.Need-returns-2
 returns-2 c =
