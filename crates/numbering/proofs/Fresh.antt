@@ -51,6 +51,27 @@ put-more out out₀ s m j h k e =
     let p : m + (j + 1) ≡ suc (m + j) = omega arith in
     rw (p, add-one j, take-suc-set out (m + j) (getD s j 0) h, e, take-suc s j 0 k) (mathlib.Core.List.append-assoc (take m out₀) (take j s) (getD s j 0 ∷ []))
 
+-- none, one, two and three words stored
+module _ (out s : List ℕ) (m : ℕ) (three : length s ≡ 3) where
+  pub put-none : take (m + 0) out ≡ take m out ++ take 0 s
+  put-none = let e : m + 0 ≡ m = omega arith in rw e (sym (mathlib.Core.List.append-nil (take m out)))
+
+  pub put-one : m + 1 ≤ length out → take (m + 1) (set out m (getD s 0 0)) ≡ take m out ++ take 1 s
+  put-one h =
+      let e : m + 0 ≡ m = omega arith in
+      subst (λ j. take (m + 1) (set out j (getD s 0 0)) ≡ take m out ++ take 1 s) e (put-more out out s m 0 (omega arith) (omega (arith, three)) put-none)
+
+  pub put-two : m + 2 ≤ length out → take (m + 2) (set (set out m (getD s 0 0)) (m + 1) (getD s 1 0)) ≡ take m out ++ take 2 s
+  put-two h =
+      let l = lib.ListN.length-set out m (getD s 0 0) in
+      put-more (set out m (getD s 0 0)) out s m 1 (omega (arith, l)) (omega (arith, three)) (put-one (omega arith))
+
+  pub put-three : m + 3 ≤ length out → take (m + 3) (set (set (set out m (getD s 0 0)) (m + 1) (getD s 1 0)) (m + 2) (getD s 2 0)) ≡ take m out ++ take 3 s
+  put-three h =
+      let l = lib.ListN.length-set out m (getD s 0 0) in
+      let k = lib.ListN.length-set (set out m (getD s 0 0)) (m + 1) (getD s 1 0) in
+      put-more (set (set out m (getD s 0 0)) (m + 1) (getD s 1 0)) out s m 2 (omega (arith, l, k)) (omega (arith, three)) (put-two (omega arith))
+
 -- ---- the numbers
 
 -- every number but 0 one higher

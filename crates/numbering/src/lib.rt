@@ -13,7 +13,7 @@ ghost use Rattle.model.proofs.Meaning.{AtAtom};
 ghost use Rattle.model.proofs.TidySets.{Numbered};
 ghost use Rattle.node.specs.Word.{isAtom, keyOf, nodeOf, nodesOf};
 ghost use Rattle.conjunct.specs.Value.{conjOf};
-ghost use Rattle.numbering.specs.Behind.{Atoms, Ranked, Behind, LoadBehind, rightWords, rightOf, pieceOf, Replaced};
+ghost use Rattle.numbering.specs.Behind.{Atoms, Ranked, Behind, LoadBehind, rightWords, rightOf, Replaced};
 use conjunct::Conjunct;
 
 // how many atoms of its source stand before an atom, and whether it is there
@@ -83,35 +83,32 @@ fn note(seen: &mut [u64], m: usize, w: u64) -> Noted
     }
 }
 
+fn renumber_words(words: &mut [u64], n: usize)
+    requires { ⌜ (n ≤ 120) × (n ≤ length (now words)) ⌝ }
+    ensures { λ _. ⌜ nodesOf (take n (now (words .exit))) ≡ renumber (nodesOf (take n (now (words .entry)))) ⌝ }
+{
+    let mut seen: [u64; 120] = [0; 120];
+    let mut m: usize = 0;
+    let mut i: usize = 0;
+    while i < n {
+        let w = words[i];
+        let p = note(&mut seen, m, w);
+        words[i] = p.word;
+        m = p.count;
+        i += 1;
+    }
+}
+
 // the n of each source count from 1 by first appearance
 pub fn renumber(e: Conjunct) -> Conjunct
     ensures { λ r. ⌜ conjOf r ≡ renumber (conjOf e) ⌝ }
 {
     let n = conjunct::capped(e.len);
-    let mut r = e;
-    let mut seen: [u64; 120] = [0; 120];
-    let mut m: usize = 0;
-    let mut i: usize = 0;
-    while i < n {
-        let w = r.nodes[i];
-        let p = note(&mut seen, m, w);
-        r.nodes[i] = p.word;
-        m = p.count;
-        i += 1;
-    }
-    r
-}
-
-fn piece(w: u64, x: u64, r: Right) -> Right
-    requires { ⌜ r .len ≤ 3 ⌝ }
-    ensures { λ p. ⌜ (rightWords p ≡ pieceOf x (rightWords r) w) × (p .len ≤ 3) × (length (rightWords p) ≡ p .len) ⌝ }
-{
-    if node::is_variable(w, x) {
-        return r;
-    }
-    Right {
-        len: 1,
-        nodes: [w, 0, 0],
+    let mut nodes = e.nodes;
+    renumber_words(&mut nodes, n);
+    Conjunct {
+        len: e.len,
+        nodes: nodes,
     }
 }
 
@@ -119,12 +116,18 @@ fn put(out: &mut [u64], m: usize, p: Right)
     requires { ⌜ (p .len ≤ 3) × (m + p .len ≤ length (now out)) ⌝ }
     ensures { λ _. ⌜ take (m + p .len) (now (out .exit)) ≡ take m (now (out .entry)) ++ rightWords p ⌝ }
 {
-    let n = p.len;
-    let mut j: usize = 0;
-    while j < n {
-        out[m + j] = p.nodes[j];
-        j += 1;
+    if p.len == 0 {
+        return;
     }
+    out[m] = p.nodes[0];
+    if p.len == 1 {
+        return;
+    }
+    out[m + 1] = p.nodes[1];
+    if p.len == 2 {
+        return;
+    }
+    out[m + 2] = p.nodes[2];
 }
 
 // the right side r for the variable x, numbered anew
@@ -133,27 +136,38 @@ pub fn substitute(e: Conjunct, x: u64, r: Right) -> Substituted
     ensures { λ s. ⌜ Replaced e x r s ⌝ }
 {
     let n = conjunct::capped(e.len);
+    let k = r.len;
     let mut out: [u64; 120] = [0; 120];
     let mut m: usize = 0;
     let mut i: usize = 0;
     while i < n {
-        let p = piece(e.nodes[i], x, r);
-        let k = p.len;
-        if m + k > 120 {
+        let w = e.nodes[i];
+        if node::is_variable(w, x) {
+            if m + k > 120 {
+                return Substituted {
+                    over: true,
+                    conj: e,
+                };
+            }
+            put(&mut out, m, r);
+            m += k;
+            i += 1;
+            continue;
+        }
+        if m >= 120 {
             return Substituted {
                 over: true,
                 conj: e,
             };
         }
-        put(&mut out, m, p);
-        m += k;
+        out[m] = w;
+        m += 1;
         i += 1;
     }
-    let c = Conjunct { len: m, nodes: out };
-    let d = renumber(c);
+    renumber_words(&mut out, m);
     Substituted {
         over: false,
-        conj: d,
+        conj: Conjunct { len: m, nodes: out },
     }
 }
 

@@ -1,80 +1,106 @@
 -- `numbering::put` meets its contract. Assumes nothing.
-use mathlib.Core.List.{_++_, append-nil}
-use mathlib.Core.Path.{_≡_, refl, sym, _∙_}
-use Prim.Native.Nat.{_+_, _-_, _≤_}
+use mathlib.Core.Path.{_≡_}
+use Prim.Native.Nat.{_+_}
 use native.Mathlib.Omega.{arith}
-use lib.ListN.{length, take, getD, length-set}
+use lib.ListN.{length, getD, set, length-set}
 use borrow.Author.Needs.{needs}
-use Rattle.numbering.proofs.Fresh.{put-more}
+use Rattle.numbering.proofs.Fresh.{put-none, put-one, put-two, put-three}
 use Rattle.numbering.proofs.put.Statement.{statement}
 use Rattle.numbering.proofs.put.Tie as tie
 
-abbrev Inv-loop : tie.InvT-loop
-Inv-loop out₀ m p n j₀ out j = (j ≤ n) × (n ≡ p .len) × (length out ≡ length out₀) × (length (p .nodes) ≡ 3) × (take (m + j) out ≡ take m out₀ ++ take j (p .nodes))
+returns : tie.Need-returns
+returns c =
+    let a = c .before .args in
+    let h : length (a .t3 .nodes) ≡ 3 = search needs in
+    let e : a .t3 .len ≡ 0 = omega arith in
+    rw e (put-none (a .out .now) (a .t3 .nodes) (a .m) h)
 
-abbrev μ-loop : tie.MeasureT-loop
-μ-loop out₀ m p n j₀ out j = n - j
-
-loop-holds : tie.Need-loop-holds Inv-loop μ-loop
-loop-holds c =
-    let a = c .args in
-    let e : a .m + 0 ≡ a .m = omega arith in
-    (search needs, refl, refl, search needs, rw e (sym (append-nil (take (a .m) (a .out .now)))))
-
-mul-out : tie.Need-mul-out Inv-loop μ-loop
-mul-out c = search needs
-
-element-copy-out-out : tie.Need-element-copy-out-out Inv-loop μ-loop
+element-copy-out-out : tie.Need-element-copy-out-out
 element-copy-out-out c = search needs
 
-add-out : tie.Need-add-out Inv-loop μ-loop
-add-out c = search needs
+mul-out : tie.Need-mul-out
+mul-out c = search needs
 
-mul-out-2 : tie.Need-mul-out-2 Inv-loop μ-loop
-mul-out-2 c = search needs
-
-slice-write-out : tie.Need-slice-write-out Inv-loop μ-loop
+slice-write-out : tie.Need-slice-write-out
 slice-write-out c = search needs
 
-add-j : tie.Need-add-j Inv-loop μ-loop
-add-j c = search needs
-
-loop-less : tie.Need-loop-less Inv-loop μ-loop
-loop-less c = search needs
-
-loop-again : tie.Need-loop-again Inv-loop μ-loop
-loop-again c =
-    let a = c .before .before .before .args in
-    let lp = c .before .before .loop in (
-      omega arith,
-      refl,
-      length-set (lp .out) (a .m + lp .j) (getD (a .t3 .nodes) (lp .j) 0) ∙ lp .inv .2,
-      lp .inv .3,
-      put-more (lp .out) (a .out .now) (a .t3 .nodes) (a .m) (lp .j) (omega arith) (omega arith) (lp .inv .4),
-    )
-
-same-length : tie.Need-same-length Inv-loop μ-loop
+same-length : tie.Need-same-length
 same-length c = search needs
 
-returns : tie.Need-returns Inv-loop μ-loop
-returns c =
-    let e : c .before .loop .j ≡ c .before .before .args .t3 .len = omega arith in
-    rw e at (c .before .loop .inv .4)
+returns-2 : tie.Need-returns-2
+returns-2 c =
+    let a = c .before .before .before .args in
+    let h : length (a .t3 .nodes) ≡ 3 = search needs in
+    let e : a .t3 .len ≡ 1 = omega arith in
+    rw e (put-one (a .out .now) (a .t3 .nodes) (a .m) h (omega arith))
+
+element-copy-out-out-2 : tie.Need-element-copy-out-out-2
+element-copy-out-out-2 c = search needs
+
+add-out : tie.Need-add-out
+add-out c = search needs
+
+mul-out-2 : tie.Need-mul-out-2
+mul-out-2 c = search needs
+
+slice-write-out-2 : tie.Need-slice-write-out-2
+slice-write-out-2 c =
+    let a = c .before .before .before .before .args in
+    omega (arith, length-set (a .out .now) (a .m) (getD (a .t3 .nodes) 0 0))
+
+same-length-2 : tie.Need-same-length-2
+same-length-2 c = search needs
+
+returns-3 : tie.Need-returns-3
+returns-3 c =
+    let a = c .before .before .before .before .before .args in
+    let h : length (a .t3 .nodes) ≡ 3 = search needs in
+    let e : a .t3 .len ≡ 2 = omega arith in
+    rw e (put-two (a .out .now) (a .t3 .nodes) (a .m) h (omega arith))
+
+element-copy-out-out-3 : tie.Need-element-copy-out-out-3
+element-copy-out-out-3 c = search needs
+
+add-out-2 : tie.Need-add-out-2
+add-out-2 c = search needs
+
+mul-out-3 : tie.Need-mul-out-3
+mul-out-3 c = search needs
+
+slice-write-out-3 : tie.Need-slice-write-out-3
+slice-write-out-3 c =
+    let a = c .before .before .before .before .before .before .args in
+    omega (arith, length-set (a .out .now) (a .m) (getD (a .t3 .nodes) 0 0), length-set (set (a .out .now) (a .m) (getD (a .t3 .nodes) 0 0)) (a .m + 1) (getD (a .t3 .nodes) 1 0))
+
+same-length-3 : tie.Need-same-length-3
+same-length-3 c = search needs
+
+returns-4 : tie.Need-returns-4
+returns-4 c =
+    let a = c .before .before .before .before .before .before .args in
+    let h : length (a .t3 .nodes) ≡ 3 = search needs in
+    let e : a .t3 .len ≡ 3 = omega arith in
+    rw e (put-three (a .out .now) (a .t3 .nodes) (a .m) h (omega arith))
 
 pub put-spec : {M : Type 1} → statement M
 put-spec =
     tie.close
     (tie.spec
-    Inv-loop
-    μ-loop
-    loop-holds
-    mul-out
+    returns
     element-copy-out-out
+    mul-out
+    slice-write-out
+    same-length
+    returns-2
+    element-copy-out-out-2
     add-out
     mul-out-2
-    slice-write-out
-    add-j
-    loop-less
-    loop-again
-    same-length
-    returns)
+    slice-write-out-2
+    same-length-2
+    returns-3
+    element-copy-out-out-3
+    add-out-2
+    mul-out-3
+    slice-write-out-3
+    same-length-3
+    returns-4)

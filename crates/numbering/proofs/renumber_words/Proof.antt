@@ -1,0 +1,85 @@
+-- `numbering::renumber_words` meets its contract. Assumes nothing.
+use mathlib.Core.Path.{_≡_, refl, _∙_}
+use Prim.Native.Nat.{_-_, _≤_, _<_}
+use native.Mathlib.Omega.{arith}
+use lib.ListN.{replicate, length, length-set}
+use borrow.Author.Needs.{needs}
+use Rattle.numbering.proofs.Renumbered.{Numbering, numbering-none, numbering-next}
+use Rattle.numbering.proofs.renumber_words.Statement.{statement}
+use Rattle.numbering.proofs.renumber_words.Tie as tie
+
+abbrev Inv-loop : tie.InvT-loop
+Inv-loop words₀ n seen₀ m₀ i₀ words seen m i = (i ≤ n) × (n ≤ 120) × (n ≤ length words₀) × (length words ≡ length words₀) × (length seen ≡ 120) × Numbering words words₀ seen m i
+
+abbrev μ-loop : tie.MeasureT-loop
+μ-loop words₀ n seen₀ m₀ i₀ words seen m i = n - i
+
+loop-holds : tie.Need-loop-holds Inv-loop μ-loop
+loop-holds c = (search needs, search needs, search needs, refl, refl, numbering-none (c .before .args .words .now) (replicate 120 0))
+
+mul-w : tie.Need-mul-w Inv-loop μ-loop
+mul-w c = search needs
+
+slice-read-w : tie.Need-slice-read-w Inv-loop μ-loop
+slice-read-w c = search needs
+
+slice-aggregate-note : tie.Need-slice-aggregate-note Inv-loop μ-loop
+slice-aggregate-note c = search needs
+
+note-requires : tie.Need-note-requires Inv-loop μ-loop
+note-requires c κs = let lp = c .before .before .before .loop in (omega arith, omega arith, lp .inv .5 .all)
+
+mul-words : tie.Need-mul-words Inv-loop μ-loop
+mul-words c = search needs
+
+slice-write-words : tie.Need-slice-write-words Inv-loop μ-loop
+slice-write-words c = search needs
+
+add-i : tie.Need-add-i Inv-loop μ-loop
+add-i c = search needs
+
+loop-less : tie.Need-loop-less Inv-loop μ-loop
+loop-less c = search needs
+
+loop-again : tie.Need-loop-again Inv-loop μ-loop
+loop-again c =
+    let l₀ = c .before .before .before .before .before .before .before .args .words .now in
+    let lp = c .before .before .before .before .before .loop in
+    let p = c .before .note in
+    let h : lp .i < length (lp .words) = omega arith in
+    let k : lp .i < length l₀ = omega arith in (
+      omega arith,
+      lp .inv .1,
+      lp .inv .2,
+      length-set (lp .words) (lp .i) (p .result .word) ∙ lp .inv .3,
+      p .kept .0 ∙ lp .inv .4,
+      numbering-next (lp .words) l₀ (lp .seen) (lp .m) (lp .i) h k (lp .inv .5) (p .last .0) (p .result) (p .ensures),
+    )
+
+same-length : tie.Need-same-length Inv-loop μ-loop
+same-length c = search needs
+
+returns : tie.Need-returns Inv-loop μ-loop
+returns c =
+    let lp = c .before .loop in
+    let e : lp .i ≡ c .before .before .before .args .n = omega arith in
+    rw e at (lp .inv .5 .done)
+
+pub renumber-words-spec : {M : Type 1} → statement M
+renumber-words-spec =
+    tie.close
+    (tie.spec
+    Inv-loop
+    μ-loop
+    loop-holds
+    mul-w
+    slice-read-w
+    slice-aggregate-note
+    note-requires
+    mul-words
+    slice-write-words
+    add-i
+    loop-less
+    loop-again
+    same-length
+    returns)
