@@ -167,7 +167,7 @@ impl Bench {
             generate::damage(rng, &mut condition);
         }
         let sheet = generate::sheet(rng, &listed_types(&condition));
-        self.check(&condition, &sheet);
+        let _ = self.check(&condition, &sheet);
     }
 }
 
