@@ -5,6 +5,7 @@
 
 use gate::*;
 use gate_oracle as plain;
+use gate_oracle::build::{constant, recipe, s};
 use gate_oracle::generate::{self, Rng};
 use std::hint::black_box;
 use std::time::{Duration, Instant};
@@ -14,29 +15,6 @@ const U32: u8 = 2;
 const U64: u8 = 3;
 
 // ---- recipes and sheets
-
-fn recipe(fields: &[u8], variables: &[u8], trays: &[[u8; 4]], statements: &[[u8; 8]]) -> Vec<u8> {
-    let (trays, statements) = (trays.concat(), statements.concat());
-    let sections = [fields, variables, &trays, &statements];
-    let mut file = Vec::new();
-    let mut offset = 32u32;
-    for section in sections {
-        file.extend(offset.to_le_bytes());
-        file.extend((section.len() as u32).to_le_bytes());
-        offset += section.len() as u32;
-    }
-    file.extend(sections.concat());
-    file
-}
-
-fn s(kind: u8, a: u8, b: u8, c: u8) -> [u8; 8] {
-    [kind, a, b, c, 0, 0, 0, 0]
-}
-
-fn constant(a: u8, value: u32) -> [u8; 8] {
-    let v = value.to_le_bytes();
-    [0, a, 0, 0, v[0], v[1], v[2], v[3]]
-}
 
 /// A sheet of one field with `count` readings.
 fn sheet(width: usize, count: usize) -> Vec<u8> {
@@ -102,7 +80,7 @@ fn mixed() -> Vec<u8> {
             constant(0, 1),
             constant(1, 1_103_515_245),
             constant(2, 12_345),
-            constant(5, u32::MAX),
+            constant(5, u32::MAX as i64),
             constant(6, 1),
             s(14, 5, 0, 0),
             s(9, 0, 4, 0),
@@ -125,7 +103,7 @@ fn mixed() -> Vec<u8> {
 /// while n: x = read; site x; n = n - 1.
 fn reading() -> Vec<u8> {
     let code = [
-        constant(1, u32::MAX),
+        constant(1, u32::MAX as i64),
         constant(2, 1),
         s(14, 1, 0, 0),
         s(7, 0, 0, 0),
@@ -210,7 +188,7 @@ fn main() {
     );
 
     heading("check");
-    let mut checks = |name: &str, unit: &str, count: f64, file: &[u8], sheet: &[u8]| {
+    let checks = |name: &str, unit: &str, count: f64, file: &[u8], sheet: &[u8]| {
         let file = plain::derive(file).unwrap();
         assert_eq!(plain::check(&file, sheet), Ok(true));
         assert_eq!(check(&file, sheet), Ok(Verdict::Pass));

@@ -75,6 +75,19 @@ impl Bench {
         unsafe {
             assert_eq!(library::gate_derive(recipe.as_ptr(), recipe.len(), to, room, work, scratch.len()), 1 << 32);
             assert_eq!(library::gate_derive(recipe.as_ptr(), recipe.len(), to, condition.len(), work, words), 1 << 32);
+            let (mut steps, mut records) = (7, 9);
+            let none = [0u8; 0].as_ptr();
+            let (to_log, room) = (log.as_mut_ptr(), log.len());
+            let (file, length) = (recipe.as_ptr(), recipe.len());
+            let answer = library::gate_run(
+                file, length, none, 0, 1, none, 0, to_log, room, work, words, &mut steps, &mut records,
+            );
+            assert_eq!((answer, steps, records), (1 << 32, 7, 9));
+            let all = condition.len();
+            let answer = library::gate_guarded(
+                file, length, none, 0, 1, none, 0, to_log, room, to, all, work, words, &mut steps, &mut records,
+            );
+            assert_eq!((answer, steps, records), (1 << 32, 7, 9));
         }
         assert!(untouched(condition));
         assert!(untouched(&log));

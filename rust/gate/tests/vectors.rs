@@ -1,20 +1,12 @@
 //! The outside vectors through the proved library: every answer and every output byte.
 
 use gate::*;
+use gate_oracle::run::choice_file;
 use std::fs;
 use std::path::PathBuf;
 
 fn file(case: &str, name: &str) -> Option<Vec<u8>> {
     fs::read(PathBuf::from("../vectors/base").join(format!("{case}.{name}"))).ok()
-}
-
-/// The run program's rule: a limit of 4 bytes, missing ones 0, where 0 means 10,000; then the choices.
-fn split_choices(bytes: &[u8]) -> (u32, &[u8]) {
-    let head = bytes.len().min(4);
-    let mut limit = [0; 4];
-    limit[..head].copy_from_slice(&bytes[..head]);
-    let limit = u32::from_le_bytes(limit);
-    (if limit == 0 { 10_000 } else { limit }, &bytes[head..])
 }
 
 fn refused(refusal: Refusal) -> String {
@@ -62,7 +54,7 @@ fn all_cases() {
         }
 
         let choices = input("choices");
-        let (limit, choices) = split_choices(&choices);
+        let (limit, choices) = choice_file(&choices);
         let mut log = vec![0xA5; log_length.parse().unwrap()];
         let answer = match run(&recipe, &sheet, limit, choices, &mut log, &mut scratch) {
             Ok(Ran { end, steps, records }) => {

@@ -7,6 +7,7 @@
 
 pub mod analysis;
 pub mod bigint;
+pub mod build;
 pub mod condition;
 pub mod gate;
 pub mod generate;

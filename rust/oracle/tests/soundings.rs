@@ -1,33 +1,11 @@
 //! The soundings of document 01.
 
+use gate_oracle::build::{constant, recipe, s};
 use gate_oracle::*;
 
 const U16: u8 = 1;
 const U32: u8 = 2;
 const I32: u8 = 6;
-
-fn recipe(fields: &[u8], variables: &[u8], trays: &[[u8; 4]], statements: &[[u8; 8]]) -> Vec<u8> {
-    let (trays, statements) = (trays.concat(), statements.concat());
-    let sections = [fields, variables, &trays, &statements];
-    let mut file = Vec::new();
-    let mut offset = 32u32;
-    for section in sections {
-        file.extend(offset.to_le_bytes());
-        file.extend((section.len() as u32).to_le_bytes());
-        offset += section.len() as u32;
-    }
-    file.extend(sections.concat());
-    file
-}
-
-fn s(kind: u8, a: u8, b: u8, c: u8) -> [u8; 8] {
-    [kind, a, b, c, 0, 0, 0, 0]
-}
-
-fn constant(a: u8, value: i64) -> [u8; 8] {
-    let v = (value as u32).to_le_bytes();
-    [0, a, 0, 0, v[0], v[1], v[2], v[3]]
-}
 
 /// The gate and the one record of: two constants, a step on them, a site.
 fn binary(ty: u8, kind: u8, left: i64, right: i64) -> (bool, u8, i64) {

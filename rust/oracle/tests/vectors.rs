@@ -14,16 +14,6 @@ fn file(directory: &Path, case: &str, name: &str) -> Option<Vec<u8>> {
     fs::read(directory.join(format!("{case}.{name}"))).ok()
 }
 
-/// The run program's rule: a limit of 4 bytes, missing ones 0, where 0 means
-/// 10,000; then the choices.
-fn split_choices(bytes: &[u8]) -> (u32, &[u8]) {
-    let head = bytes.len().min(4);
-    let mut limit = [0; 4];
-    limit[..head].copy_from_slice(&bytes[..head]);
-    let limit = u32::from_le_bytes(limit);
-    (if limit == 0 { 10_000 } else { limit }, &bytes[head..])
-}
-
 fn verdict(answer: Result<bool, u8>) -> String {
     match answer {
         Ok(true) => "pass".to_string(),
@@ -63,7 +53,7 @@ fn differences(directory: &Path, line: &str) -> Vec<String> {
     compare("gate on derived", gate_on_derived, &text);
 
     let log_length: usize = log_length.parse().unwrap();
-    let (limit, choices) = split_choices(&choice_file);
+    let (limit, choices) = gate_oracle::run::choice_file(&choice_file);
     let mut log = vec![0xA5; log_length];
     let mut expected = file(directory, case, "log").unwrap_or_default();
     let written = expected.len();
