@@ -58,7 +58,7 @@ load-atom t k (var x ty) h = tt
 load-atom t k (op o ty) h = tt
 load-atom t k (conv ty) h = tt
 
-before-none : (l : ℕ) (i : Instr) (e : Conj) → writes i e ≡ false → Numbered e → map renumber (before l i e) ≡ e ∷ []
+pub before-none : (l : ℕ) (i : Instr) (e : Conj) → writes i e ≡ false → Numbered e → map renumber (before l i e) ≡ e ∷ []
 unfolding before writes subsets
 before-none l (assign a ty r) e w h =
     ap (_∷ []) (ap renumber (replace-none a (nodes l ty r) e (none-all (isVar a) e w)) ∙ renumber-raised e ∙ h)

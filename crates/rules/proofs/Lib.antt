@@ -3,6 +3,5 @@ pub mod Limiting
 pub mod Choices
 pub mod ByKind
 pub mod Additions
-pub mod Untouched
 pub mod Assigning
 pub mod Gathering
