@@ -106,5 +106,8 @@ pub stmt-at : (T : Tables) (i : ℕ) → getD (stmtsOf T) i end ≡ stmtOf T (st
 unfolding stmtOf
 stmt-at T i = List·getD-map (stmtOf T) (T .statements) i noStatement
 
+pub plain-at : (T : Tables) (i : ℕ) → statementOf T i .kind < 11 → (x : Instr) × (getD (stmtsOf T) i end ≡ plain x)
+plain-at T i h = let p = stmt-plain T (statementOf T i) h in (p .0, stmt-at T i ∙ p .1)
+
 pub stmts-length : (T : Tables) (L : Layout) → Sized T L → length (stmtsOf T) ≡ L .statements
 stmts-length T L h = length-map (T .statements) (stmtOf T) ∙ h .statements
