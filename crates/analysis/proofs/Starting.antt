@@ -91,26 +91,26 @@ start-fits s b =
     } in
     fine-limits (started S) fine
 
--- ---- in a region, with the room after it
+-- ---- in a region, with a room behind it
 
-module _ (s₀ : List ℕ) (b : ℕ) (fits : b + 15490 ≤ length s₀) where
+module _ (s₀ : List ℕ) (b room : ℕ) (fit : b + 7745 ≤ room) (inside : room + 7745 ≤ length s₀) where
   -- the set stays while the room changes
-  pub kept : (s : List ℕ) → length s ≡ length s₀ → Within (b + 7745) s₀ s → setOf s b ≡ setOf s₀ b
-  kept s len within = frame s₀ s (b + 7745) b len (omega arith) (inr (omega arith)) within
+  pub kept : (s : List ℕ) → length s ≡ length s₀ → Within room s₀ s → setOf s b ≡ setOf s₀ b
+  kept s len within = frame s₀ s room b len (omega arith) (inr fit) within
 
   -- one conjunct more
-  pub started-more : (s t : List ℕ) (k j : ℕ) (d : Conj) (r : Bool) → length s ≡ length s₀ → Within (b + 7745) s₀ s → j + 1 ≡ k → k ≤ length (setOf s₀ b)
-      → d ≡ renumber (map zeroed (getD (setOf s b) j [])) → setOf s (b + 7745) ≡ started (drop k (setOf s₀ b)) → Inserted r (b + 7745) d s t
-      → setOf t (b + 7745) ≡ started (drop j (setOf s₀ b))
+  pub started-more : (s t : List ℕ) (k j : ℕ) (d : Conj) (r : Bool) → length s ≡ length s₀ → Within room s₀ s → j + 1 ≡ k → k ≤ length (setOf s₀ b)
+      → d ≡ renumber (map zeroed (getD (setOf s b) j [])) → setOf s room ≡ started (drop k (setOf s₀ b)) → Inserted r room d s t
+      → setOf t room ≡ started (drop j (setOf s₀ b))
   started-more s t k j d r len within e h p so = go r
     where
-      next : insert d (setOf s (b + 7745)) ≡ started (drop j (setOf s₀ b))
+      next : insert d (setOf s room) ≡ started (drop j (setOf s₀ b))
       next = ap₂ insert (p ∙ ap (λ R. renumber (map zeroed (getD R j []))) (kept s len within)) so ∙ sym (started-next (setOf s₀ b) k j e h)
 
-      go : (q : Bool) → Inserted q (b + 7745) d s t → setOf t (b + 7745) ≡ started (drop j (setOf s₀ b))
+      go : (q : Bool) → Inserted q room d s t → setOf t room ≡ started (drop j (setOf s₀ b))
       go true i = i ∙ next
       go false i =
-          absurd (omega (arith, i .1, insert-length d (setOf s (b + 7745)), ap length so, started-length (drop k (setOf s₀ b)), length-drop k (setOf s₀ b), region-few s₀ b))
+          absurd (omega (arith, i .1, insert-length d (setOf s room), ap length so, started-length (drop k (setOf s₀ b)), length-drop k (setOf s₀ b), region-few s₀ b))
 
-  pub start-done : (s t : List ℕ) (k : ℕ) → k ≡ 0 → setOf s (b + 7745) ≡ started (drop k (setOf s₀ b)) → setOf t b ≡ setOf s (b + 7745) → start (setOf s₀ b) ≡ ok (setOf t b)
-  start-done s t k z so e = start-fits s₀ b ∙ ap (λ T. ok T) (sym (e ∙ so ∙ ap (λ j. started (drop j (setOf s₀ b))) z))
+pub start-done : (s₀ : List ℕ) (b : ℕ) (s : List ℕ) (room k : ℕ) → k ≡ 0 → setOf s room ≡ started (drop k (setOf s₀ b)) → start (setOf s₀ b) ≡ ok (setOf s room)
+start-done s₀ b s room k z so = start-fits s₀ b ∙ ap (λ T. ok T) (sym (so ∙ ap (λ j. started (drop j (setOf s₀ b))) z))

@@ -33,14 +33,25 @@ fn single(s: &mut [u64], b: usize, w: u64)
     requires { ⌜ b + 7745 ≤ length (now s) ⌝ }
     ensures { λ _. ⌜ (setOf (now (s .exit)) b ≡ (nodeOf w ∷ []) ∷ []) × Within b (now (s .entry)) (now (s .exit)) ⌝ }
 {
-    let mut nodes: [u64; 120] = [0; 120];
-    nodes[0] = w;
-    let e = conjunct::Conjunct {
-        len: 1,
-        nodes: nodes,
-    };
+    let words: [u64; 1] = [w];
     sets::clear(s, b);
-    sets::insert(s, b, e);
+    sets::insert(s, b, &words, 1);
+}
+
+// What the conjuncts of the region at b come to at the program's start, gathered in the empty room
+// from the last to the first. `e` and `seen` are room to work in.
+fn gather_start(s: &mut [u64], b: usize, room: usize, e: &mut [u64], seen: &mut [u64])
+    requires { ⌜ (b + 7745 ≤ room) × (room + 7745 ≤ length (now s)) × (setOf (now s) room ≡ []) × (120 ≤ length (now e)) × (120 ≤ length (now seen)) ⌝ }
+    ensures { λ _. ⌜ (start (setOf (now (s .entry)) b) ≡ ok (setOf (now (s .exit)) room)) × Within room (now (s .entry)) (now (s .exit)) ⌝ }
+{
+    let mut k = sets::size(s, b);
+    while k > 0 {
+        k -= 1;
+        let n = sets::get(s, b, k, e);
+        conjunct::at_start(e, n);
+        numbering::renumber(e, n, seen);
+        sets::insert(s, room, e, n);
+    }
 }
 
 // The rule at the program's start on the set of the region at b. The region after it, at b + 7745,
@@ -51,14 +62,9 @@ fn start_set(s: &mut [u64], b: usize)
 {
     let room = b + 7745;
     sets::clear(s, room);
-    let mut k = sets::size(s, b);
-    while k > 0 {
-        k -= 1;
-        let e = sets::get(s, b, k);
-        let zeroed = conjunct::at_start(e);
-        let numbered = numbering::renumber(zeroed);
-        sets::insert(s, room, numbered);
-    }
+    let mut e: [u64; 120] = [0; 120];
+    let mut seen: [u64; 120] = [0; 120];
+    gather_start(s, b, room, &mut e, &mut seen);
     sets::copy(s, b, room);
 }
 

@@ -2,15 +2,14 @@
 -- Assumes nothing.
 use mathlib.Core.Bool.{Bool, false, _||_}
 use mathlib.Core.List.{List, [], _∷_, _++_, map}
-use mathlib.Core.Path.{_≡_, refl, sym, ap, ap₂, _∙_}
+use mathlib.Core.Path.{_≡_, refl, sym, ap, _∙_}
 use Prim.Native.Nat.{ℕ, zero, suc, _+_, _-_, _<_, _≤_, compare, Ordering·lt, Ordering·eq, Ordering·gt}
 use native.Mathlib.Numerals.{add-one}
 use native.Mathlib.Omega.{arith}
 use lib.ListN.{length, take, drop, getD, set}
 use lib.Seq.{drop-cons, take-suc, take-suc-set, drop-set-lt, getD-drop, getD-take, length-take-le, drop-length}
 use Rattle.model.proofs.Touch.{some}
-use Rattle.model.specs.Conjunct.{Node, _then_, orderNumbers, order}
-use Rattle.node.proofs.Lists.{conjunct-order}
+use Rattle.model.specs.Conjunct.{Node, _then_, orderNumbers}
 use Rattle.node.proofs.WordOrder.{compare-less, compare-more, compare-same}
 use Rattle.node.specs.Word.{nodeOf, nodesOf}
 
@@ -98,11 +97,3 @@ unfolding some
 some-none f l n k =
     let e : drop n (take n l) ≡ [] = ap (λ j. drop j (take n l)) (sym (length-take-le n l k)) ∙ drop-length (take n l) in
     rw e
-
--- ---- conjuncts
-
--- the order of two conjuncts, from their words
-pub order-values : (l m : List ℕ) (n k x y : ℕ) → n ≤ length l → k ≤ length m → take n l ≡ take x l → take k m ≡ take y m
-    → (compare n k then orderNumbers (take n l) (take k m)) ≡ order (nodesOf (take x l)) (nodesOf (take y m))
-order-values l m n k x y h g p q =
-    rw (← p, ← q) (ap₂ (λ a b. compare a b then orderNumbers (take n l) (take k m)) (sym (length-take-le n l h)) (sym (length-take-le k m g)) ∙ sym (conjunct-order (take n l) (take k m)))

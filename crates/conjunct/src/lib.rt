@@ -1,21 +1,15 @@
-// A conjunct by value: its order, and the changes of a conjunct node by node. A node is a word, as
-// crate node says. Assumes nothing.
+// A conjunct as the first n of lent words: its order, and its changes node by node. A node is a word,
+// as crate node says. Assumes nothing.
 ghost use mathlib.Core.Path.{_≡_};
 ghost use mathlib.Core.Bool.{cond};
 ghost use mathlib.Core.List.{List, map};
 ghost use Prim.Native.Nat.{ℕ, _+_, _<_, _≤_, compare};
-ghost use lib.Dec.{isEq};
 ghost use lib.ListN.{length, take, drop};
-ghost use Rattle.model.specs.Conjunct.{Atom, atom, var, _then_, orderNumbers, order, sameAtom, onAtom};
+ghost use Rattle.model.specs.Conjunct.{Atom, atom, var, _then_, orderNumbers, sameAtom, onAtom};
 ghost use Rattle.model.specs.Walk.{zeroed, onArray, swap, swapAll};
 ghost use Rattle.model.proofs.Touch.{isVar, isLoad, some};
 ghost use Rattle.node.specs.Word.{nodeOf};
-ghost use Rattle.conjunct.specs.Value.{wordsOf, conjOf, orderingOf};
-
-pub struct Conjunct {
-    pub len: usize,
-    pub nodes: [u64; 120],
-}
+ghost use Rattle.conjunct.specs.Value.{conjOf, orderingOf};
 
 pub enum Order {
     Less,
@@ -23,7 +17,7 @@ pub enum Order {
     More,
 }
 
-// the number of nodes, whatever the length says
+// a number of nodes, whatever the word that counts them says
 pub fn capped(len: usize) -> usize
     ensures { λ r. ⌜ (r ≤ 120) × ((l : List ℕ) → length l ≡ 120 → take r l ≡ take len l) ⌝ }
 {
@@ -59,39 +53,18 @@ pub fn order_at(s: &[u64], a: usize, n: usize, t: &[u64], b: usize, m: usize) ->
     Order::Same
 }
 
-pub fn compare(a: Conjunct, b: Conjunct) -> Order
-    ensures { λ r. ⌜ orderingOf r ≡ order (conjOf a) (conjOf b) ⌝ }
-{
-    let n = capped(a.len);
-    let m = capped(b.len);
-    order_at(&a.nodes, 0, n, &b.nodes, 0, m)
-}
-
-pub fn same(a: Conjunct, b: Conjunct) -> bool
-    ensures { λ r. ⌜ r ≡ isEq (order (conjOf a) (conjOf b)) ⌝ }
-{
-    let o = compare(a, b);
-    match o {
-        Order::Less => false,
-        Order::Same => true,
-        Order::More => false,
-    }
-}
-
 // ---- node by node
 
 // at the program's start variables and loads are 0
-pub fn at_start(e: Conjunct) -> Conjunct
-    ensures { λ r. ⌜ conjOf r ≡ map zeroed (conjOf e) ⌝ }
+pub fn at_start(w: &mut [u64], n: usize)
+    requires { ⌜ n ≤ length (now w) ⌝ }
+    ensures { λ _. ⌜ conjOf (now (w .exit)) n ≡ map zeroed (conjOf (now (w .entry)) n) ⌝ }
 {
-    let n = capped(e.len);
-    let mut r = e;
     let mut i: usize = 0;
     while i < n {
-        r.nodes[i] = node::at_start(r.nodes[i]);
+        w[i] = node::at_start(w[i]);
         i += 1;
     }
-    r
 }
 
 fn load_swapped(w: u64, array: u64, len: u64, v: u64) -> u64
@@ -107,42 +80,38 @@ fn atom_swapped(w: u64, a: u64, v: u64) -> u64
 }
 
 // every load from the array by the variable v
-pub fn replace_all(e: Conjunct, array: u64, len: u64, v: u64) -> Conjunct
-    ensures { λ r. ⌜ ((x ty : ℕ) → nodeOf v ≡ var x ty → conjOf r ≡ swapAll array len x ty (conjOf e)) ⌝ }
+pub fn replace_all(w: &mut [u64], n: usize, array: u64, len: u64, v: u64)
+    requires { ⌜ n ≤ length (now w) ⌝ }
+    ensures { λ _. ⌜ ((x ty : ℕ) → nodeOf v ≡ var x ty → conjOf (now (w .exit)) n ≡ swapAll array len x ty (conjOf (now (w .entry)) n)) ⌝ }
 {
-    let n = capped(e.len);
-    let mut r = e;
     let mut i: usize = 0;
     while i < n {
-        r.nodes[i] = load_swapped(r.nodes[i], array, len, v);
+        w[i] = load_swapped(w[i], array, len, v);
         i += 1;
     }
-    r
 }
 
 // the atom a by the variable v
-pub fn replace_one(e: Conjunct, a: u64, v: u64) -> Conjunct
-    ensures { λ r. ⌜ ((b : Atom) (x ty : ℕ) → nodeOf a ≡ atom b → nodeOf v ≡ var x ty → conjOf r ≡ swap b x ty (conjOf e)) ⌝ }
+pub fn replace_one(w: &mut [u64], n: usize, a: u64, v: u64)
+    requires { ⌜ n ≤ length (now w) ⌝ }
+    ensures { λ _. ⌜ ((b : Atom) (x ty : ℕ) → nodeOf a ≡ atom b → nodeOf v ≡ var x ty → conjOf (now (w .exit)) n ≡ swap b x ty (conjOf (now (w .entry)) n)) ⌝ }
 {
-    let n = capped(e.len);
-    let mut r = e;
     let mut i: usize = 0;
     while i < n {
-        r.nodes[i] = atom_swapped(r.nodes[i], a, v);
+        w[i] = atom_swapped(w[i], a, v);
         i += 1;
     }
-    r
 }
 
 // ---- what a conjunct speaks of
 
-pub fn mentions_variable(e: Conjunct, x: u64) -> bool
-    ensures { λ r. ⌜ r ≡ some (isVar x) (conjOf e) ⌝ }
+pub fn mentions_variable(w: &[u64], n: usize, x: u64) -> bool
+    requires { ⌜ n ≤ length (now w) ⌝ }
+    ensures { λ r. ⌜ r ≡ some (isVar x) (conjOf (now (w .entry)) n) ⌝ }
 {
-    let n = capped(e.len);
     let mut i: usize = 0;
     while i < n {
-        if node::is_variable(e.nodes[i], x) {
+        if node::is_variable(w[i], x) {
             return true;
         }
         i += 1;
@@ -150,13 +119,13 @@ pub fn mentions_variable(e: Conjunct, x: u64) -> bool
     false
 }
 
-pub fn mentions_array(e: Conjunct, array: u64, len: u64) -> bool
-    ensures { λ r. ⌜ r ≡ some (isLoad array len) (conjOf e) ⌝ }
+pub fn mentions_array(w: &[u64], n: usize, array: u64, len: u64) -> bool
+    requires { ⌜ n ≤ length (now w) ⌝ }
+    ensures { λ r. ⌜ r ≡ some (isLoad array len) (conjOf (now (w .entry)) n) ⌝ }
 {
-    let n = capped(e.len);
     let mut i: usize = 0;
     while i < n {
-        if node::is_load(e.nodes[i], array, len) {
+        if node::is_load(w[i], array, len) {
             return true;
         }
         i += 1;

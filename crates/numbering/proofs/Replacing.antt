@@ -8,19 +8,16 @@ use native.Mathlib.Numerals.{add-one}
 use native.Mathlib.Omega.{arith}
 use lib.ListN.{length, take, getD, set, length-append}
 use lib.Seq.{length-take-le, take-suc-set}
-use borrow.Author.Tests.{lt-ltb, le-ltb}
 use Rattle.model.proofs.Meaning.{AtAtom}
 use Rattle.model.proofs.TidySets.{Numbered}
-use Rattle.model.proofs.Tests.{true→T}
 use Rattle.model.proofs.Touch.{isVar}
 use Rattle.model.specs.Conjunct.{renumber}
 use Rattle.model.specs.Lists.{All}
 use Rattle.model.specs.Walk.{replace}
 use Rattle.node.specs.Word.{nodeOf, nodesOf}
-use Rattle.conjunct.specs.Value.{wordsOf, conjOf}
-use Rattle.conjunct.specs.declared.Conjunct.{Conjunct}
+use Rattle.conjunct.specs.Value.{conjOf}
 use Rattle.numbering.proofs.Fresh.{flat-snoc, flat-part, fresh-length, fresh-renumber}
-use Rattle.numbering.specs.Behind.{rightWords, rightOf, pieceOf, Replaced}
+use Rattle.numbering.specs.Behind.{rightWords, rightOf, pieceOf}
 use Rattle.numbering.specs.declared.Right.{Right}
 
 -- ---- one word more
@@ -44,34 +41,18 @@ module _ (x : ℕ) (r l : List ℕ) (i : ℕ) (inside : i < length l) where
 
 -- ---- the answers
 
-module _ (e : Conjunct) (x : ℕ) (r : Right) (numbered : Numbered (conjOf e)) (fresh : All (AtAtom (λ a. a .n ≡ 0)) (rightOf r)) where
-  same-length : length (flatMap (replace x (rightOf r)) (conjOf e)) ≡ length (flatMap (pieceOf x (rightWords r)) (wordsOf e))
-  same-length = fresh-length x (rightWords r) fresh (wordsOf e) numbered
-
+module _ (l : List ℕ) (n x : ℕ) (r : Right) (inside : n ≤ length l) (numbered : Numbered (conjOf l n)) (fresh : All (AtAtom (λ a. a .n ≡ 0)) (rightOf r)) where
   -- over 120 nodes already after some words
-  pub replaced-over : (i n m k : ℕ) (out : List ℕ) → take n (e .nodes) ≡ take (e .len) (e .nodes) → i < n → n ≤ length (e .nodes) → m ≤ length out
-      → take m out ≡ flatMap (pieceOf x (rightWords r)) (take i (e .nodes)) → length (pieceOf x (rightWords r) (getD (e .nodes) i 0)) ≡ k → 120 < m + k
-      → Replaced e x r (record { over = true; conj = e })
-  replaced-over i n m k out cap h g f t p o =
+  pub replaced-over : (i m k : ℕ) (out : List ℕ) → i < n → m ≤ length out → take m out ≡ flatMap (pieceOf x (rightWords r)) (take i l)
+      → length (pieceOf x (rightWords r) (getD l i 0)) ≡ k → 120 < m + k → 120 < length (flatMap (replace x (rightOf r)) (conjOf l n))
+  replaced-over i m k out h f t p o =
       let F = pieceOf x (rightWords r) in
-      let a : length (flatMap F (take i (e .nodes))) ≡ m = ap length (sym t) ∙ length-take-le m out f in
-      let b = ap length (flat-snoc F (e .nodes) i 0 (omega arith)) ∙ length-append (flatMap F (take i (e .nodes))) (F (getD (e .nodes) i 0)) in
-      let d = flat-part F (e .nodes) (i + 1) n (omega arith) in
-      let s : length (flatMap F (take n (e .nodes))) ≡ length (flatMap F (wordsOf e)) = ap (λ l. length (flatMap F l)) cap in
-      record {
-        over = sym (lt-ltb 120 (length (flatMap (replace x (rightOf r)) (conjOf e))) (omega (arith, same-length)));
-        conj = λ q. absurd (true→T (sym q));
-      }
+      let a : length (flatMap F (take i l)) ≡ m = ap length (sym t) ∙ length-take-le m out f in
+      let b = ap length (flat-snoc F l i 0 (omega arith)) ∙ length-append (flatMap F (take i l)) (F (getD l i 0)) in
+      let d = flat-part F l (i + 1) n (omega arith) in
+      omega (arith, fresh-length x (rightWords r) fresh (take n l) numbered)
 
-  -- all words put together
-  pub replaced-done : (n m : ℕ) (out : List ℕ) → take n (e .nodes) ≡ take (e .len) (e .nodes) → m ≤ 120 → m ≤ length out
-      → take m out ≡ flatMap (pieceOf x (rightWords r)) (take n (e .nodes)) → (d : Conjunct) → conjOf d ≡ renumber (nodesOf (take m out))
-      → Replaced e x r (record { over = false; conj = d })
-  replaced-done n m out cap g f t d c =
-      let F = pieceOf x (rightWords r) in
-      let w : take m out ≡ flatMap F (wordsOf e) = t ∙ ap (flatMap F) cap in
-      let a : length (flatMap F (wordsOf e)) ≡ m = ap length (sym w) ∙ length-take-le m out f in
-      record {
-        over = sym (le-ltb 120 (length (flatMap (replace x (rightOf r)) (conjOf e))) (omega (arith, same-length)));
-        conj = λ q. c ∙ ap (λ l. renumber (nodesOf l)) w ∙ fresh-renumber x (rightWords r) fresh (wordsOf e) numbered;
-      }
+  -- all words put together, and renumbered
+  pub replaced-done : (m : ℕ) (out after : List ℕ) → take m out ≡ flatMap (pieceOf x (rightWords r)) (take n l) → conjOf after m ≡ renumber (conjOf out m)
+      → conjOf after m ≡ renumber (flatMap (replace x (rightOf r)) (conjOf l n))
+  replaced-done m out after t c = c ∙ ap (λ ws. renumber (nodesOf ws)) t ∙ fresh-renumber x (rightWords r) fresh (take n l) numbered

@@ -1,23 +1,22 @@
 -- The distinct atoms of a conjunct that grows at its end; the words of a right side; and what a substitution answers.
 -- Assumes nothing.
-use mathlib.Core.Bool.{true, false, cond}
+use mathlib.Core.Bool.{true, cond}
 use mathlib.Core.List.{List, [], _∷_, _++_, map, flatMap}
 use mathlib.Core.Path.{_≡_}
-use Prim.Native.Nat.{ℕ, _+_, _≤_}
-use lib.Dec.{ltb}
+use Prim.Native.Nat.{ℕ, _+_, _≤_, _<_}
 use lib.ListN.{length, take}
 use Rattle.model.proofs.Atoms.{has}
 use Rattle.model.proofs.Touch.{isVar, isLoad}
-use Rattle.model.specs.Conjunct.{Atom, Node, const, atom, var, op, conv, rank, renamed, onAtom, renumber}
+use Rattle.model.specs.Conjunct.{Atom, Node, const, atom, var, op, conv, Conj, rank, renamed, onAtom, renumber}
 use Rattle.model.specs.Lists.{every}
 use Rattle.model.specs.Walk.{replace}
 use Rattle.node.specs.Word.{isAtom, atomOf, nodeOf, nodesOf}
 use Rattle.conjunct.specs.Value.{conjOf}
-use Rattle.conjunct.specs.declared.Conjunct.{Conjunct}
 use Rattle.numbering.specs.declared.Noted.{Noted}
 use Rattle.numbering.specs.declared.Rank.{Rank}
 use Rattle.numbering.specs.declared.Right.{Right}
 use Rattle.numbering.specs.declared.Substituted.{Substituted}
+use Rattle.numbering.specs.declared.Substituted.the-variants.{Over, Nodes}
 
 -- the distinct atoms with a node put behind them
 unfoldable pub behind : Node → List Atom → List Atom
@@ -65,7 +64,7 @@ rightOf r = nodesOf (rightWords r)
 unfoldable pub pieceOf : ℕ → List ℕ → ℕ → List ℕ
 pieceOf x r w = cond (isVar x (nodeOf w)) r (w ∷ [])
 
--- the answer of a substitution of r for x in e: whether it has over 120 nodes, and if not, what it is, numbered anew
-pub record Replaced (e : Conjunct) (x : ℕ) (r : Right) (s : Substituted) : Type 0 where
-  pub over : s .over ≡ ltb 120 (length (flatMap (replace x (rightOf r)) (conjOf e)))
-  pub conj : s .over ≡ false → conjOf (s .conj) ≡ renumber (flatMap (replace x (rightOf r)) (conjOf e))
+-- the answer of a substitution of r for x in e: it has over 120 nodes, or these first words, numbered anew
+abbrev pub Replaced : Substituted → Conj → ℕ → Right → List ℕ → Type 0
+Replaced Over e x r out = 120 < length (flatMap (replace x (rightOf r)) e)
+Replaced (Nodes m) e x r out = (m ≤ 120) × (conjOf out m ≡ renumber (flatMap (replace x (rightOf r)) e))

@@ -3,18 +3,17 @@
 ghost use mathlib.Core.Path.{_≡_};
 ghost use mathlib.Core.Bool.{true, cond};
 ghost use mathlib.Core.List.{map, _++_};
-ghost use Prim.Native.Nat.{ℕ, _+_, _<_, _≤_};
+ghost use Prim.Native.Nat.{_+_, _<_, _≤_};
 ghost use lib.Dec.{eqb};
 ghost use lib.ListN.{length, take};
-ghost use Rattle.model.specs.Conjunct.{Atom, atom, renumber, atoms};
+ghost use Rattle.model.specs.Conjunct.{atom, renumber, atoms};
 ghost use Rattle.model.specs.Lists.{All};
 ghost use Rattle.model.specs.Walk.{loads};
 ghost use Rattle.model.proofs.Meaning.{AtAtom};
 ghost use Rattle.model.proofs.TidySets.{Numbered};
-ghost use Rattle.node.specs.Word.{isAtom, keyOf, nodeOf, nodesOf};
+ghost use Rattle.node.specs.Word.{isAtom, keyOf};
 ghost use Rattle.conjunct.specs.Value.{conjOf};
 ghost use Rattle.numbering.specs.Behind.{Atoms, Ranked, Behind, LoadBehind, rightWords, rightOf, Replaced};
-use conjunct::Conjunct;
 
 // how many atoms of its source stand before an atom, and whether it is there
 pub struct Rank {
@@ -34,10 +33,10 @@ pub struct Right {
     pub nodes: [u64; 3],
 }
 
-// a conjunct after a substitution, or over 120 nodes
-pub struct Substituted {
-    pub over: bool,
-    pub conj: Conjunct,
+// how many nodes a conjunct has after a substitution, or that they are over 120
+pub enum Substituted {
+    Over,
+    Nodes(usize),
 }
 
 fn tick(k: u64, s: u64) -> u64
@@ -83,32 +82,19 @@ fn note(seen: &mut [u64], m: usize, w: u64) -> Noted
     }
 }
 
-fn renumber_words(words: &mut [u64], n: usize)
-    requires { ⌜ (n ≤ 120) × (n ≤ length (now words)) ⌝ }
-    ensures { λ _. ⌜ nodesOf (take n (now (words .exit))) ≡ renumber (nodesOf (take n (now (words .entry)))) ⌝ }
+// the n of each source count from 1 by first appearance; `seen` is room to work in
+pub fn renumber(words: &mut [u64], n: usize, seen: &mut [u64])
+    requires { ⌜ (n ≤ 120) × (n ≤ length (now words)) × (120 ≤ length (now seen)) ⌝ }
+    ensures { λ _. ⌜ conjOf (now (words .exit)) n ≡ renumber (conjOf (now (words .entry)) n) ⌝ }
 {
-    let mut seen: [u64; 120] = [0; 120];
     let mut m: usize = 0;
     let mut i: usize = 0;
     while i < n {
         let w = words[i];
-        let p = note(&mut seen, m, w);
+        let p = note(seen, m, w);
         words[i] = p.word;
         m = p.count;
         i += 1;
-    }
-}
-
-// the n of each source count from 1 by first appearance
-pub fn renumber(e: Conjunct) -> Conjunct
-    ensures { λ r. ⌜ conjOf r ≡ renumber (conjOf e) ⌝ }
-{
-    let n = conjunct::capped(e.len);
-    let mut nodes = e.nodes;
-    renumber_words(&mut nodes, n);
-    Conjunct {
-        len: e.len,
-        nodes: nodes,
     }
 }
 
@@ -130,45 +116,42 @@ fn put(out: &mut [u64], m: usize, p: Right)
     out[m + 2] = p.nodes[2];
 }
 
-// the right side r for the variable x, numbered anew
-pub fn substitute(e: Conjunct, x: u64, r: Right) -> Substituted
-    requires { ⌜ (r .len ≤ 3) × Numbered (conjOf e) × All (AtAtom (λ a. a .n ≡ 0)) (rightOf r) ⌝ }
-    ensures { λ s. ⌜ Replaced e x r s ⌝ }
+// the right side r for the variable x in the first n words of e, numbered anew, to `out`; `seen` is
+// room to work in
+pub fn substitute(
+    e: &[u64],
+    n: usize,
+    x: u64,
+    r: Right,
+    out: &mut [u64],
+    seen: &mut [u64],
+) -> Substituted
+    requires { ⌜ (n ≤ 120) × (n ≤ length (now e)) × (120 ≤ length (now out)) × (120 ≤ length (now seen)) × (r .len ≤ 3) × Numbered (conjOf (now e) n) × All (AtAtom (λ a. a .n ≡ 0)) (rightOf r) ⌝ }
+    ensures { λ s. ⌜ Replaced s (conjOf (now (e .entry)) n) x r (now (out .exit)) ⌝ }
 {
-    let n = conjunct::capped(e.len);
     let k = r.len;
-    let mut out: [u64; 120] = [0; 120];
     let mut m: usize = 0;
     let mut i: usize = 0;
     while i < n {
-        let w = e.nodes[i];
+        let w = e[i];
         if node::is_variable(w, x) {
             if m + k > 120 {
-                return Substituted {
-                    over: true,
-                    conj: e,
-                };
+                return Substituted::Over;
             }
-            put(&mut out, m, r);
+            put(out, m, r);
             m += k;
             i += 1;
             continue;
         }
         if m >= 120 {
-            return Substituted {
-                over: true,
-                conj: e,
-            };
+            return Substituted::Over;
         }
         out[m] = w;
         m += 1;
         i += 1;
     }
-    renumber_words(&mut out, m);
-    Substituted {
-        over: false,
-        conj: Conjunct { len: m, nodes: out },
-    }
+    renumber(out, m, seen);
+    Substituted::Nodes(m)
 }
 
 fn note_load(seen: &mut [u64], m: usize, w: u64, array: u64, len: u64) -> usize
@@ -186,21 +169,18 @@ fn note_load(seen: &mut [u64], m: usize, w: u64, array: u64, len: u64) -> usize
     m + 1
 }
 
-// the distinct loads from the array by first appearance, as nodes
-pub fn loads(e: Conjunct, array: u64, len: u64) -> Conjunct
-    ensures { λ r. ⌜ conjOf r ≡ map atom (loads array len (atoms (conjOf e))) ⌝ }
+// the distinct loads from the array in the first n words of e by first appearance, as nodes, to `out`;
+// how many they are
+pub fn loads(e: &[u64], n: usize, array: u64, len: u64, out: &mut [u64]) -> usize
+    requires { ⌜ (n ≤ 120) × (n ≤ length (now e)) × (120 ≤ length (now out)) ⌝ }
+    ensures { λ m. ⌜ (m ≤ n) × (conjOf (now (out .exit)) m ≡ map atom (loads array len (atoms (conjOf (now (e .entry)) n)))) ⌝ }
 {
-    let n = conjunct::capped(e.len);
-    let mut seen: [u64; 120] = [0; 120];
     let mut m: usize = 0;
     let mut i: usize = 0;
     while i < n {
-        let w = e.nodes[i];
-        m = note_load(&mut seen, m, w, array, len);
+        let w = e[i];
+        m = note_load(out, m, w, array, len);
         i += 1;
     }
-    Conjunct {
-        len: m,
-        nodes: seen,
-    }
+    m
 }

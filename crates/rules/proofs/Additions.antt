@@ -9,7 +9,7 @@ use native.Mathlib.Omega.{arith}
 use lib.Dec.{eqb}
 use lib.ListN.{length, getD, drop, length-map, List·getD-map}
 use borrow.Author.Tests.{eqb-true, eqb-false}
-use Rattle.model.specs.Conjunct.{Conj, Cond, insert, union, atoms, renumber}
+use Rattle.model.specs.Conjunct.{Atom, Conj, Cond, insert, union, atoms, renumber}
 use Rattle.model.specs.Walk.{loads, subsets}
 use Rattle.model.proofs.Canonical.{insert-length, union-canon, union-left, sub-length}
 use Rattle.model.proofs.Tests.{decide, true→T}
@@ -78,17 +78,21 @@ module _ (F : Cond) (b : ℕ) (s₀ s t : List ℕ) (k j : ℕ) (x : Conj) (next
 
 -- ---- the subsets
 
-module _ (t k x ty : ℕ) (e : Conj) where
+module _ (ks : List Atom) (x ty : ℕ) (e : Conj) where
   abbrev pub Chosen : Cond
-  Chosen = map renumber (subsets (loads t k (atoms e)) x ty e)
+  Chosen = map renumber (subsets ks x ty e)
 
-  pub chosen-length : length Chosen ≡ 2 ^ length (loads t k (atoms e))
-  chosen-length = length-map (subsets (loads t k (atoms e)) x ty e) renumber ∙ subsets-length x ty (loads t k (atoms e)) e
+  pub chosen-length : length Chosen ≡ 2 ^ length ks
+  chosen-length = length-map (subsets ks x ty e) renumber ∙ subsets-length x ty ks e
 
-  pub chosen-at : (c : Conj) (j : ℕ) → c ≡ getD (subsets (loads t k (atoms e)) x ty e) j [] → renumber c ≡ getD Chosen j []
+  pub chosen-at : (c : Conj) (j : ℕ) → c ≡ getD (subsets ks x ty e) j [] → renumber c ≡ getD Chosen j []
   unfolding renumber
-  chosen-at c j h = ap renumber h ∙ sym (List·getD-map renumber (subsets (loads t k (atoms e)) x ty e) j [])
+  chosen-at c j h = ap renumber h ∙ sym (List·getD-map renumber (subsets ks x ty e) j [])
 
-  pub chosen-many : 7 ≤ length (loads t k (atoms e)) → (b : ℕ) (s u : List ℕ) → Added (Refused 10) Short Chosen b s u
+module _ (t k x ty : ℕ) (e : Conj) where
+  abbrev onto : List Atom
+  onto = loads t k (atoms e)
+
+  pub chosen-many : 7 ≤ length onto → (b : ℕ) (s u : List ℕ) → Added (Refused 10) Short (Chosen onto x ty e) b s u
   chosen-many h b s u G c f p =
-      limits-ten G p (omega (arith, seven-many (length (loads t k (atoms e))) h, subsets-many t k x ty e G c (λ y m. f y (union-left y Chosen (setOf s b) m))))
+      limits-ten G p (omega (arith, seven-many (length onto) h, subsets-many t k x ty e G c (λ y m. f y (union-left y (Chosen onto x ty e) (setOf s b) m))))

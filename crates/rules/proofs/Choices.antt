@@ -21,9 +21,9 @@ noAtom = record { src = field 0 0; n = 0 }
 
 -- ---- the words of atoms
 
-module _ (ks : List Atom) where
-  pub atoms-length : (ws : List ℕ) → nodesOf ws ≡ map atom ks → length ks ≡ length (nodesOf ws)
-  atoms-length ws e = sym (ap length e ∙ length-map ks atom)
+-- how many they are
+pub atoms-count : (l : List ℕ) (m : ℕ) (ks : List Atom) → m ≤ length l → nodesOf (take m l) ≡ map atom ks → length ks ≡ m
+atoms-count l m ks h e = sym (length-map ks atom) ∙ ap length (sym e) ∙ length-map (take m l) nodeOf ∙ length-take-le m l h
 
 word-atom : (ws : List ℕ) (ks : List Atom) (i : ℕ) → nodesOf ws ≡ map atom ks → i < length ks → nodeOf (getD ws i 0) ≡ atom (getD ks i noAtom)
 word-atom ws [] i e h = absurd (omega arith)
@@ -36,10 +36,6 @@ pub word-of : (l : List ℕ) (m : ℕ) (ks : List Atom) (i : ℕ) → nodesOf (t
 word-of l m ks i e h =
     let n : length (take m l) ≡ length ks = sym (length-map (take m l) nodeOf) ∙ ap length e ∙ length-map ks atom in
     ap nodeOf (sym (getD-take m l i 0 (omega (arith, take-few m l)))) ∙ word-atom (take m l) ks i e h
-
--- how many the first m of 120 words are, by their number capped
-pub capped-length : (l : List ℕ) (m n : ℕ) → length l ≡ 120 → n ≤ 120 → take n l ≡ take m l → n ≡ length (nodesOf (take m l))
-capped-length l m n h k e = sym (length-take-le n l (omega arith)) ∙ ap length e ∙ sym (length-map (take m l) nodeOf)
 
 -- ---- halves
 

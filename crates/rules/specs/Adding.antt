@@ -43,3 +43,7 @@ Added (Refused n) P R b s t = (G : Cond) → Canon G → Sub (union R (setOf s b
 -- a region to add to: it lies in the words, and its set is canonical
 abbrev pub Room : List ℕ → ℕ → Type 0
 Room s b = (b + 7745 ≤ length s) × Canon (setOf s b)
+
+-- two lists of words to work in, each of 120 or more
+abbrev pub Desk : List ℕ → List ℕ → Type 0
+Desk out seen = (120 ≤ length out) × (120 ≤ length seen)

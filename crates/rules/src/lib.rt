@@ -1,9 +1,10 @@
-// The rule of one statement on a set of conjuncts. Assumes nothing.
+// The rule of one statement on a set of conjuncts. A conjunct is the first n of lent words; `out` and
+// `seen` are room for 120 words each to work in. Assumes nothing.
 ghost use mathlib.Core.Path.{_≡_};
 ghost use mathlib.Core.Logic.{_≢_};
 ghost use mathlib.Core.List.{List, [], _∷_, map};
 ghost use Prim.Native.Nat.{ℕ, _+_, _≤_, _<_, _^_};
-ghost use lib.ListN.{length, getD};
+ghost use lib.ListN.{length, getD, take};
 ghost use Rattle.model.specs.Conjunct.{Atom, atom, var, atoms, renumber};
 ghost use Rattle.model.specs.Lists.{All};
 ghost use Rattle.model.specs.Walk.{nodes, loads, swapAll, subsets, before, back};
@@ -15,11 +16,11 @@ ghost use Rattle.node.specs.Word.{nodeOf};
 ghost use Rattle.conjunct.specs.Value.{conjOf};
 ghost use Rattle.numbering.specs.Behind.{rightOf};
 ghost use Rattle.sets.specs.Region.{setOf, Within, Inserted};
-ghost use Rattle.rules.specs.Adding.{sideOf, Short, Added, Room};
+ghost use Rattle.rules.specs.Adding.{sideOf, Short, Added, Room, Desk};
 ghost use Rattle.rules.specs.Answers.{answered, Below};
-use conjunct::Conjunct;
 use machine::Decoded;
 use numbering::Right;
+use numbering::Substituted;
 
 // The set is in its region, or a refusal: 9, 10 or 11.
 pub enum Answer {
@@ -88,29 +89,51 @@ fn right_side(label: u64, d: Decoded) -> Right
 }
 
 // The right side for the variable in one conjunct. The set has room: each conjunct comes to one.
-fn assign_one(s: &mut [u64], room: usize, e: Conjunct, label: u64, d: Decoded) -> Answer
-    requires { ⌜ (room + 7745 ≤ length (now s)) × (length (setOf (now s) room) < 64) × (label < 2 ^ 16) × (d .kind ≤ 8) × Known d × Numbered (conjOf e) ⌝ }
-    ensures { λ r. ⌜ Added r (λ G. d .kind ≡ 9 → Short G) (map renumber (before label (instrOf d) (conjOf e))) room (now (s .entry)) (now (s .exit)) × Within room (now (s .entry)) (now (s .exit)) ⌝ }
+fn assign_one(
+    s: &mut [u64],
+    room: usize,
+    e: &[u64],
+    n: usize,
+    label: u64,
+    d: Decoded,
+    out: &mut [u64],
+    seen: &mut [u64],
+) -> Answer
+    requires { ⌜ (room + 7745 ≤ length (now s)) × (length (setOf (now s) room) < 64) × (n ≤ 120) × (n ≤ length (now e)) × Desk (now out) (now seen) × (label < 2 ^ 16) × (d .kind ≤ 8) × Known d × Numbered (conjOf (now e) n) ⌝ }
+    ensures { λ r. ⌜ Added r (λ G. d .kind ≡ 9 → Short G) (map renumber (before label (instrOf d) (conjOf (now (e .entry)) n))) room (now (s .entry)) (now (s .exit)) × Within room (now (s .entry)) (now (s .exit)) ⌝ }
 {
     let right = right_side(label, d);
-    let t = numbering::substitute(e, d.a as u64, right);
-    if t.over {
-        return Answer::Refused(9);
+    let t = numbering::substitute(e, n, d.a as u64, right, out, seen);
+    match t {
+        Substituted::Over => Answer::Refused(9),
+        Substituted::Nodes(m) => {
+            sets::insert(s, room, out, m);
+            Answer::Done
+        }
     }
-    let c = t.conj;
-    sets::insert(s, room, c);
-    Answer::Done
 }
 
 // ---- stores: kind 9
 
-// one conjunct more, renumbered; false where the set would have over 64
-fn add(s: &mut [u64], room: usize, e: Conjunct) -> bool
-    requires { ⌜ room + 7745 ≤ length (now s) ⌝ }
-    ensures { λ r. ⌜ Inserted r room (renumber (conjOf e)) (now (s .entry)) (now (s .exit)) × Within room (now (s .entry)) (now (s .exit)) ⌝ }
+// One conjunct more, renumbered; false where the set would have over 64.
+fn add(s: &mut [u64], room: usize, e: &mut [u64], n: usize, seen: &mut [u64]) -> bool
+    requires { ⌜ (room + 7745 ≤ length (now s)) × (n ≤ 120) × Desk (now e) (now seen) ⌝ }
+    ensures { λ r. ⌜ Inserted r room (renumber (conjOf (now (e .entry)) n)) (now (s .entry)) (now (s .exit)) × Within room (now (s .entry)) (now (s .exit)) ⌝ }
 {
-    let c = numbering::renumber(e);
-    sets::insert(s, room, c)
+    numbering::renumber(e, n, seen);
+    sets::insert(s, room, e, n)
+}
+
+// The first n words of e to `out`.
+fn copy(e: &[u64], n: usize, out: &mut [u64])
+    requires { ⌜ (n ≤ length (now e)) × (n ≤ length (now out)) ⌝ }
+    ensures { λ _. ⌜ take n (now (out .exit)) ≡ take n (now (e .entry)) ⌝ }
+{
+    let mut i: usize = 0;
+    while i < n {
+        out[i] = e[i];
+        i += 1;
+    }
 }
 
 // 2 to the power n
@@ -129,80 +152,126 @@ fn power(n: usize) -> u64
     }
 }
 
-// The j-th of the conjuncts for the subsets of n loads: from the first load on, it is left in the
-// lower half of them and replaced by the variable v in the upper half.
-fn chosen(e: Conjunct, atoms: Conjunct, n: usize, j: u64, v: u64) -> Conjunct
-    requires { ⌜ (n ≤ 6) × (n ≡ length (conjOf atoms)) × (j < 2 ^ n) ⌝ }
-    ensures { λ r. ⌜ ((ks : List Atom) (x ty : ℕ) → conjOf atoms ≡ map atom ks → nodeOf v ≡ var x ty → conjOf r ≡ getD (subsets ks x ty (conjOf e)) j []) ⌝ }
+// The j-th of the conjuncts for the subsets of k loads, from the conjunct itself: from the first load
+// on, it is left in the lower half of them and replaced by the variable v in the upper half.
+fn choose(w: &mut [u64], n: usize, atoms: &[u64], k: usize, j: u64, v: u64)
+    requires { ⌜ (n ≤ length (now w)) × (k ≤ 6) × (k ≤ length (now atoms)) × (j < 2 ^ k) ⌝ }
+    ensures { λ _. ⌜ ((ks : List Atom) (x ty : ℕ) → conjOf (now (atoms .entry)) k ≡ map atom ks → nodeOf v ≡ var x ty → conjOf (now (w .exit)) n ≡ getD (subsets ks x ty (conjOf (now (w .entry)) n)) j []) ⌝ }
 {
-    let mut r = e;
     let mut rest = j;
-    let mut half = power(n);
+    let mut half = power(k);
     let mut i: usize = 0;
-    while i < n {
+    while i < k {
         half = half / 2;
         if rest >= half {
-            r = conjunct::replace_one(r, atoms.nodes[i], v);
+            conjunct::replace_one(w, n, atoms[i], v);
             rest -= half;
         }
         i += 1;
     }
-    r
 }
 
-// A store to an array of several cells: a conjunct for each subset of the loads. For seven loads
-// or more these are over 64.
-fn store_subsets(s: &mut [u64], room: usize, e: Conjunct, array: u64, len: u64, v: u64) -> Answer
-    requires { ⌜ Room (now s) room ⌝ }
-    ensures { λ r. ⌜ ((x ty : ℕ) → nodeOf v ≡ var x ty → Added r Short (map renumber (subsets (loads array len (atoms (conjOf e))) x ty (conjOf e))) room (now (s .entry)) (now (s .exit))) × Within room (now (s .entry)) (now (s .exit)) ⌝ }
+// The conjunct of each subset of k loads.
+fn add_subsets(
+    s: &mut [u64],
+    room: usize,
+    e: &[u64],
+    n: usize,
+    atoms: &[u64],
+    k: usize,
+    v: u64,
+    out: &mut [u64],
+    seen: &mut [u64],
+) -> Answer
+    requires { ⌜ Room (now s) room × (n ≤ 120) × (n ≤ length (now e)) × (k ≤ 6) × (k ≤ length (now atoms)) × Desk (now out) (now seen) ⌝ }
+    ensures { λ r. ⌜ ((ks : List Atom) (x ty : ℕ) → conjOf (now (atoms .entry)) k ≡ map atom ks → nodeOf v ≡ var x ty → Added r Short (map renumber (subsets ks x ty (conjOf (now (e .entry)) n))) room (now (s .entry)) (now (s .exit))) × Within room (now (s .entry)) (now (s .exit)) ⌝ }
 {
-    let atoms = numbering::loads(e, array, len);
-    let n = conjunct::capped(atoms.len);
-    if n >= 7 {
-        return Answer::Refused(10);
-    }
-    let mut j = power(n);
+    let mut j = power(k);
     while j > 0 {
         j -= 1;
-        let c = chosen(e, atoms, n, j, v);
-        if !add(s, room, c) {
+        copy(e, n, out);
+        choose(out, n, atoms, k, j, v);
+        if !add(s, room, out, n, seen) {
             return Answer::Refused(10);
         }
     }
     Answer::Done
 }
 
-// A store to an array of one cell: every load is the stored variable.
-fn store_cell(s: &mut [u64], room: usize, e: Conjunct, array: u64, len: u64, v: u64) -> Answer
-    requires { ⌜ Room (now s) room ⌝ }
-    ensures { λ r. ⌜ ((x ty : ℕ) → nodeOf v ≡ var x ty → Added r Short (renumber (swapAll array len x ty (conjOf e)) ∷ []) room (now (s .entry)) (now (s .exit))) × Within room (now (s .entry)) (now (s .exit)) ⌝ }
+// A store to an array of several cells: a conjunct for each subset of the loads. For seven loads
+// or more these are over 64.
+fn store_subsets(
+    s: &mut [u64],
+    room: usize,
+    e: &[u64],
+    n: usize,
+    array: u64,
+    len: u64,
+    v: u64,
+    out: &mut [u64],
+    seen: &mut [u64],
+) -> Answer
+    requires { ⌜ Room (now s) room × (n ≤ 120) × (n ≤ length (now e)) × Desk (now out) (now seen) ⌝ }
+    ensures { λ r. ⌜ ((x ty : ℕ) → nodeOf v ≡ var x ty → Added r Short (map renumber (subsets (loads array len (atoms (conjOf (now (e .entry)) n))) x ty (conjOf (now (e .entry)) n))) room (now (s .entry)) (now (s .exit))) × Within room (now (s .entry)) (now (s .exit)) ⌝ }
 {
-    let c = conjunct::replace_all(e, array, len, v);
-    if !add(s, room, c) {
+    let mut atoms: [u64; 120] = [0; 120];
+    let k = numbering::loads(e, n, array, len, &mut atoms);
+    if k >= 7 {
+        return Answer::Refused(10);
+    }
+    add_subsets(s, room, e, n, &atoms, k, v, out, seen)
+}
+
+// A store to an array of one cell: every load is the stored variable.
+fn store_cell(
+    s: &mut [u64],
+    room: usize,
+    e: &[u64],
+    n: usize,
+    array: u64,
+    len: u64,
+    v: u64,
+    out: &mut [u64],
+    seen: &mut [u64],
+) -> Answer
+    requires { ⌜ Room (now s) room × (n ≤ 120) × (n ≤ length (now e)) × Desk (now out) (now seen) ⌝ }
+    ensures { λ r. ⌜ ((x ty : ℕ) → nodeOf v ≡ var x ty → Added r Short (renumber (swapAll array len x ty (conjOf (now (e .entry)) n)) ∷ []) room (now (s .entry)) (now (s .exit))) × Within room (now (s .entry)) (now (s .exit)) ⌝ }
+{
+    copy(e, n, out);
+    conjunct::replace_all(out, n, array, len, v);
+    if !add(s, room, out, n, seen) {
         return Answer::Refused(10);
     }
     Answer::Done
 }
 
-fn store_one(s: &mut [u64], room: usize, e: Conjunct, d: Decoded) -> Answer
-    requires { ⌜ Room (now s) room × (d .kind ≡ 9) × Known d ⌝ }
-    ensures { λ r. ⌜ ((label : ℕ) → Added r Short (map renumber (before label (instrOf d) (conjOf e))) room (now (s .entry)) (now (s .exit))) × Within room (now (s .entry)) (now (s .exit)) ⌝ }
+fn store_one(
+    s: &mut [u64],
+    room: usize,
+    e: &[u64],
+    n: usize,
+    d: Decoded,
+    out: &mut [u64],
+    seen: &mut [u64],
+) -> Answer
+    requires { ⌜ Room (now s) room × (n ≤ 120) × (n ≤ length (now e)) × Desk (now out) (now seen) × (d .kind ≡ 9) × Known d ⌝ }
+    ensures { λ r. ⌜ ((label : ℕ) → Added r Short (map renumber (before label (instrOf d) (conjOf (now (e .entry)) n))) room (now (s .entry)) (now (s .exit))) × Within room (now (s .entry)) (now (s .exit)) ⌝ }
 {
     let array = d.a as u64;
     let len = d.len;
     let v = node::variable(d.c as u64, d.ty as u64);
     if len == 1 {
-        return store_cell(s, room, e, array, len, v);
+        return store_cell(s, room, e, n, array, len, v, out, seen);
     }
-    store_subsets(s, room, e, array, len, v)
+    store_subsets(s, room, e, n, array, len, v, out, seen)
 }
 
 // ---- the set
 
 // Whether the statement d changes what the conjunct speaks of.
-fn touched(e: Conjunct, d: Decoded) -> bool
-    requires { ⌜ d .kind ≤ 10 ⌝ }
-    ensures { λ r. ⌜ r ≡ writes (instrOf d) (conjOf e) ⌝ }
+fn touched(e: &[u64], n: usize, d: Decoded) -> bool
+    requires { ⌜ (n ≤ length (now e)) × (d .kind ≤ 10) ⌝ }
+    ensures { λ r. ⌜ r ≡ writes (instrOf d) (conjOf (now (e .entry)) n) ⌝ }
 {
     let kind = d.kind;
     let a = d.a as u64;
@@ -210,47 +279,76 @@ fn touched(e: Conjunct, d: Decoded) -> bool
         return false;
     }
     if kind == 9 {
-        return conjunct::mentions_array(e, a, d.len);
+        return conjunct::mentions_array(e, n, a, d.len);
     }
-    conjunct::mentions_variable(e, a)
+    conjunct::mentions_variable(e, n, a)
 }
 
 // What one conjunct comes to before the statement d, added to the set of the room. A conjunct that
 // d does not touch stays as it is.
-fn add_before(s: &mut [u64], room: usize, e: Conjunct, label: u64, d: Decoded) -> Answer
-    requires { ⌜ Room (now s) room × (d .kind ≢ 9 → length (setOf (now s) room) < 64) × (label < 2 ^ 16) × (d .kind ≤ 10) × Known d × Numbered (conjOf e) ⌝ }
-    ensures { λ r. ⌜ Added r (λ G. d .kind ≡ 9 → Short G) (map renumber (before label (instrOf d) (conjOf e))) room (now (s .entry)) (now (s .exit)) × Within room (now (s .entry)) (now (s .exit)) ⌝ }
+fn add_before(
+    s: &mut [u64],
+    room: usize,
+    e: &[u64],
+    n: usize,
+    label: u64,
+    d: Decoded,
+    out: &mut [u64],
+    seen: &mut [u64],
+) -> Answer
+    requires { ⌜ Room (now s) room × (d .kind ≢ 9 → length (setOf (now s) room) < 64) × (n ≤ 120) × (n ≤ length (now e)) × Desk (now out) (now seen) × (label < 2 ^ 16) × (d .kind ≤ 10) × Known d × Numbered (conjOf (now e) n) ⌝ }
+    ensures { λ r. ⌜ Added r (λ G. d .kind ≡ 9 → Short G) (map renumber (before label (instrOf d) (conjOf (now (e .entry)) n))) room (now (s .entry)) (now (s .exit)) × Within room (now (s .entry)) (now (s .exit)) ⌝ }
 {
-    if !touched(e, d) {
-        if !sets::insert(s, room, e) {
+    if !touched(e, n, d) {
+        if !sets::insert(s, room, e, n) {
             return Answer::Refused(10);
         }
         return Answer::Done;
     }
     let kind = d.kind;
     if kind <= 8 {
-        return assign_one(s, room, e, label, d);
+        return assign_one(s, room, e, n, label, d, out, seen);
     }
-    store_one(s, room, e, d)
+    store_one(s, room, e, n, d, out, seen)
 }
 
 // What the conjuncts of the region at b come to before the statement d, gathered in the empty room
 // from the last to the first.
-fn gather(s: &mut [u64], b: usize, room: usize, label: u64, d: Decoded) -> Answer
-    requires { ⌜ (b + 7745 ≤ room) × (room + 7745 ≤ length (now s)) × (setOf (now s) room ≡ []) × (label < 2 ^ 16) × (d .kind ≤ 10) × Known d × All Numbered (setOf (now s) b) ⌝ }
+fn gather(
+    s: &mut [u64],
+    b: usize,
+    room: usize,
+    label: u64,
+    d: Decoded,
+    e: &mut [u64],
+    out: &mut [u64],
+    seen: &mut [u64],
+) -> Answer
+    requires { ⌜ (b + 7745 ≤ room) × (room + 7745 ≤ length (now s)) × (setOf (now s) room ≡ []) × (120 ≤ length (now e)) × Desk (now out) (now seen) × (label < 2 ^ 16) × (d .kind ≤ 10) × Known d × All Numbered (setOf (now s) b) ⌝ }
     ensures { λ r. ⌜ (back label (instrOf d) (setOf (now (s .entry)) b) ≡ answered r (setOf (now (s .exit)) room)) × Within room (now (s .entry)) (now (s .exit)) ⌝ }
 {
     let mut k = sets::size(s, b);
     while k > 0 {
         k -= 1;
-        let e = sets::get(s, b, k);
-        let answer = add_before(s, room, e, label, d);
+        let n = sets::get(s, b, k, e);
+        let answer = add_before(s, room, e, n, label, d, out, seen);
         match answer {
             Answer::Done => {}
             Answer::Refused(n) => return Answer::Refused(n),
         }
     }
     Answer::Done
+}
+
+// The same, with room to work in.
+fn gather_all(s: &mut [u64], b: usize, room: usize, label: u64, d: Decoded) -> Answer
+    requires { ⌜ (b + 7745 ≤ room) × (room + 7745 ≤ length (now s)) × (setOf (now s) room ≡ []) × (label < 2 ^ 16) × (d .kind ≤ 10) × Known d × All Numbered (setOf (now s) b) ⌝ }
+    ensures { λ r. ⌜ (back label (instrOf d) (setOf (now (s .entry)) b) ≡ answered r (setOf (now (s .exit)) room)) × Within room (now (s .entry)) (now (s .exit)) ⌝ }
+{
+    let mut e: [u64; 120] = [0; 120];
+    let mut out: [u64; 120] = [0; 120];
+    let mut seen: [u64; 120] = [0; 120];
+    gather(s, b, room, label, d, &mut e, &mut out, &mut seen)
 }
 
 // The rule of the statement d with a label on the set of the region at b. The region after it, at
@@ -261,7 +359,7 @@ pub fn rule(s: &mut [u64], b: usize, label: u64, d: Decoded) -> Answer
 {
     let room = b + 7745;
     sets::clear(s, room);
-    let answer = gather(s, b, room, label, d);
+    let answer = gather_all(s, b, room, label, d);
     match answer {
         Answer::Done => {
             sets::copy(s, b, room);

@@ -20,10 +20,8 @@ use Rattle.sets.specs.declared.Spot.{Spot}
 
 -- ---- insertion
 
-pub spotted : (q r : Spot) → q ≡ r → (s w ws : List ℕ) (b n m : ℕ) → n ≡ few (getD s b 0) → take m w ≡ ws → Spotted q (nodesOf (take m w)) (map nodesOf (rowsFrom s (b + 1) n)) → Spotted r (nodesOf ws) (setOf s b)
-spotted q r o s w ws b n m e f h =
-    subst (λ S. Spotted r (nodesOf ws) S) (sym (set-rows s b n e))
-    (subst (λ x. Spotted r (nodesOf x) (map nodesOf (rowsFrom s (b + 1) n))) f (subst (λ x. Spotted x (nodesOf (take m w)) (map nodesOf (rowsFrom s (b + 1) n))) o h))
+pub spotted : (q r : Spot) → q ≡ r → (s : List ℕ) (b n : ℕ) (d : Conj) → n ≡ few (getD s b 0) → Spotted q d (map nodesOf (rowsFrom s (b + 1) n)) → Spotted r d (setOf s b)
+spotted q r o s b n d e h = subst (λ S. Spotted r d S) (sym (set-rows s b n e)) (subst (λ x. Spotted x d (map nodesOf (rowsFrom s (b + 1) n))) o h)
 
 -- one more than it has
 pub grown : (e : Conj) (S : Cond) (i : ℕ) → i ≤ length S → insert e S ≡ take i S ++ (e ∷ drop i S) → length (insert e S) ≡ length S + 1

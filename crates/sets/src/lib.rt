@@ -8,9 +8,8 @@ ghost use lib.ListN.{length, getD, take, drop};
 ghost use Rattle.model.specs.Conjunct.{order, orderNodes, same};
 ghost use Rattle.bytes_le.specs.Overlay.{overlay};
 ghost use Rattle.node.specs.Word.{nodesOf};
-ghost use Rattle.conjunct.specs.Value.{wordsOf, conjOf, orderingOf};
+ghost use Rattle.conjunct.specs.Value.{conjOf, orderingOf};
 ghost use Rattle.sets.specs.Region.{few, slotAt, rowsFrom, setOf, Within, Apart, Spotted, Inserted, Joined};
-use conjunct::Conjunct;
 use conjunct::Order;
 
 // where a conjunct goes: it is there, or before a place
@@ -31,34 +30,29 @@ fn at_most(c: u64) -> usize
 
 // ---- one slot
 
-// the conjunct of the slot at a
-fn read_slot(s: &[u64], a: usize) -> Conjunct
-    requires { ⌜ a + 121 ≤ length (now s) ⌝ }
-    ensures { λ r. ⌜ wordsOf r ≡ slotAt (now (s .entry)) a ⌝ }
+// the words of the slot at a to `out`; how many they are
+fn read_slot(s: &[u64], a: usize, out: &mut [u64]) -> usize
+    requires { ⌜ (a + 121 ≤ length (now s)) × (120 ≤ length (now out)) ⌝ }
+    ensures { λ n. ⌜ (n ≤ 120) × (take n (now (out .exit)) ≡ slotAt (now (s .entry)) a) ⌝ }
 {
     let n = conjunct::capped(s[a] as usize);
-    let mut nodes: [u64; 120] = [0; 120];
     let mut j: usize = 0;
     while j < n {
-        nodes[j] = s[a + 1 + j];
+        out[j] = s[a + 1 + j];
         j += 1;
     }
-    Conjunct {
-        len: n,
-        nodes: nodes,
-    }
+    n
 }
 
-// a conjunct to the slot at a
-fn write_slot(s: &mut [u64], a: usize, e: Conjunct)
-    requires { ⌜ a + 121 ≤ length (now s) ⌝ }
-    ensures { λ _. ⌜ now (s .exit) ≡ overlay (now (s .entry)) a (length (wordsOf e) ∷ wordsOf e) ⌝ }
+// n words to the slot at a
+fn write_slot(s: &mut [u64], a: usize, w: &[u64], n: usize)
+    requires { ⌜ (a + 121 ≤ length (now s)) × (n ≤ 120) × (n ≤ length (now w)) ⌝ }
+    ensures { λ _. ⌜ now (s .exit) ≡ overlay (now (s .entry)) a (n ∷ take n (now (w .entry))) ⌝ }
 {
-    let n = conjunct::capped(e.len);
     s[a] = n as u64;
     let mut j: usize = 0;
     while j < n {
-        s[a + 1 + j] = e.nodes[j];
+        s[a + 1 + j] = w[j];
         j += 1;
     }
 }
@@ -81,19 +75,28 @@ pub fn size(s: &[u64], base: usize) -> usize
     at_most(s[base])
 }
 
-// the i-th conjunct; none past the end
-pub fn get(s: &[u64], base: usize, i: usize) -> Conjunct
-    requires { ⌜ base + 7745 ≤ length (now s) ⌝ }
-    ensures { λ r. ⌜ conjOf r ≡ getD (setOf (now (s .entry)) base) i [] ⌝ }
+// the i-th conjunct, to `out`; how many nodes it has. None past the end.
+pub fn get(s: &[u64], base: usize, i: usize, out: &mut [u64]) -> usize
+    requires { ⌜ (base + 7745 ≤ length (now s)) × (120 ≤ length (now out)) ⌝ }
+    ensures { λ n. ⌜ (n ≤ 120) × (conjOf (now (out .exit)) n ≡ getD (setOf (now (s .entry)) base) i []) ⌝ }
 {
     let n = at_most(s[base]);
     if i < n {
-        return read_slot(s, base + 1 + 121 * i);
+        return read_slot(s, base + 1 + 121 * i, out);
     }
-    Conjunct {
-        len: 0,
-        nodes: [0; 120],
+    0
+}
+
+// how many nodes the i-th conjunct has; 0 past the end
+pub fn node_count(s: &[u64], base: usize, i: usize) -> usize
+    requires { ⌜ base + 7745 ≤ length (now s) ⌝ }
+    ensures { λ n. ⌜ (n ≤ 120) × (n ≡ length (getD (setOf (now (s .entry)) base) i [])) ⌝ }
+{
+    let n = at_most(s[base]);
+    if i < n {
+        return conjunct::capped(s[base + 1 + 121 * i] as usize);
     }
+    0
 }
 
 // the empty set
@@ -134,32 +137,31 @@ fn find(s: &[u64], base: usize, n: usize, w: &[u64], m: usize) -> Spot
     Spot::Before(n)
 }
 
-// a conjunct put before the i-th of the n of a region
-fn place_at(s: &mut [u64], base: usize, n: usize, i: usize, e: Conjunct)
-    requires { ⌜ (n < 64) × (i ≤ n) × (base + 7745 ≤ length (now s)) ⌝ }
-    ensures { λ _. ⌜ (setOf (now (s .exit)) base ≡ take i (map nodesOf (rowsFrom (now (s .entry)) (base + 1) n)) ++ (conjOf e ∷ drop i (map nodesOf (rowsFrom (now (s .entry)) (base + 1) n)))) × Within base (now (s .entry)) (now (s .exit)) ⌝ }
+// m words put before the i-th conjunct of the n of a region
+fn place_at(s: &mut [u64], base: usize, n: usize, i: usize, w: &[u64], m: usize)
+    requires { ⌜ (n < 64) × (i ≤ n) × (base + 7745 ≤ length (now s)) × (m ≤ 120) × (m ≤ length (now w)) ⌝ }
+    ensures { λ _. ⌜ (setOf (now (s .exit)) base ≡ take i (map nodesOf (rowsFrom (now (s .entry)) (base + 1) n)) ++ (conjOf (now (w .entry)) m ∷ drop i (map nodesOf (rowsFrom (now (s .entry)) (base + 1) n)))) × Within base (now (s .entry)) (now (s .exit)) ⌝ }
 {
     let a = base + 1 + 121 * i;
     shift(s, a, 121 * (n - i));
-    write_slot(s, a, e);
+    write_slot(s, a, w, m);
     s[base] = (n + 1) as u64;
 }
 
-// one conjunct more; false where the set would have over 64
-pub fn insert(s: &mut [u64], base: usize, e: Conjunct) -> bool
-    requires { ⌜ base + 7745 ≤ length (now s) ⌝ }
-    ensures { λ r. ⌜ Inserted r base (conjOf e) (now (s .entry)) (now (s .exit)) × Within base (now (s .entry)) (now (s .exit)) ⌝ }
+// the first m words as one conjunct more; false where the set would have over 64
+pub fn insert(s: &mut [u64], base: usize, w: &[u64], m: usize) -> bool
+    requires { ⌜ (base + 7745 ≤ length (now s)) × (m ≤ 120) × (m ≤ length (now w)) ⌝ }
+    ensures { λ r. ⌜ Inserted r base (conjOf (now (w .entry)) m) (now (s .entry)) (now (s .exit)) × Within base (now (s .entry)) (now (s .exit)) ⌝ }
 {
     let n = at_most(s[base]);
-    let m = conjunct::capped(e.len);
-    let spot = find(s, base, n, &e.nodes, m);
+    let spot = find(s, base, n, w, m);
     match spot {
         Spot::Here => true,
         Spot::Before(i) => {
             if n >= 64 {
                 return false;
             }
-            place_at(s, base, n, i, e);
+            place_at(s, base, n, i, w, m);
             true
         }
     }
@@ -178,21 +180,31 @@ pub fn copy(s: &mut [u64], to: usize, from: usize)
     }
 }
 
-// with all conjuncts of another region; false where the set would have over 64
-pub fn union(s: &mut [u64], to: usize, from: usize) -> bool
-    requires { ⌜ (to + 7745 ≤ length (now s)) × (from + 7745 ≤ length (now s)) × Apart to from ⌝ }
+// with all conjuncts of another region; false where the set would have over 64. `words` is room to
+// work in.
+fn join(s: &mut [u64], to: usize, from: usize, words: &mut [u64]) -> bool
+    requires { ⌜ (to + 7745 ≤ length (now s)) × (from + 7745 ≤ length (now s)) × Apart to from × (120 ≤ length (now words)) ⌝ }
     ensures { λ r. ⌜ Joined r from to (now (s .entry)) (now (s .exit)) × Within to (now (s .entry)) (now (s .exit)) ⌝ }
 {
     let mut k = size(s, from);
     while k > 0 {
         k -= 1;
-        let e = get(s, from, k);
-        let done = insert(s, to, e);
+        let n = get(s, from, k, words);
+        let done = insert(s, to, words, n);
         if !done {
             return false;
         }
     }
     true
+}
+
+// with all conjuncts of another region; false where the set would have over 64
+pub fn union(s: &mut [u64], to: usize, from: usize) -> bool
+    requires { ⌜ (to + 7745 ≤ length (now s)) × (from + 7745 ≤ length (now s)) × Apart to from ⌝ }
+    ensures { λ r. ⌜ Joined r from to (now (s .entry)) (now (s .exit)) × Within to (now (s .entry)) (now (s .exit)) ⌝ }
+{
+    let mut words: [u64; 120] = [0; 120];
+    join(s, to, from, &mut words)
 }
 
 // are the conjuncts of two slots the same?

@@ -72,8 +72,8 @@ module _ {A : Type 0} where
 pub word-at : (l : List ℕ) (n i : ℕ) → i < n → getD (nodesOf (take n l)) i (nodeOf 0) ≡ nodeOf (getD l i 0)
 word-at l n i h = List·getD-map nodeOf (take n l) i 0 ∙ ap nodeOf (getD-take n l i 0 h)
 
-pub words-count : (l : List ℕ) (n x : ℕ) → n ≤ length l → take n l ≡ take x l → length (nodesOf (take x l)) ≡ n
-words-count l n x h e = length-map (take x l) nodeOf ∙ ap length (sym e) ∙ length-take-le n l h
+pub words-count : (l : List ℕ) (n : ℕ) → n ≤ length l → length (nodesOf (take n l)) ≡ n
+words-count l n h = length-map (take n l) nodeOf ∙ length-take-le n l h
 
 -- one node more
 module _ (types : List ℕ) (e : Conj) (h : All (FileNode types) e) (o m k : List ℕ) (a i w v : ℕ) (l : i < length e) where

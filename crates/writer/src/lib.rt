@@ -14,7 +14,6 @@ ghost use Rattle.program.specs.Reading.{IsRead, tablesOf};
 ghost use Rattle.node.specs.Word.{fileBytes};
 ghost use Rattle.conjunct.specs.Value.{conjOf};
 ghost use Rattle.sets.specs.Region.{setOf};
-use conjunct::Conjunct;
 use program::Layout;
 
 // the 8 bytes of a number, from the highest on
@@ -32,25 +31,17 @@ fn put_high_first(out: &mut [u8], a: usize, v: u64)
     out[a + 7] = (v % 256) as u8;
 }
 
-// the nodes of a conjunct; where the next one begins
-fn put_conjunct(out: &mut [u8], a: usize, e: Conjunct) -> usize
-    requires { ⌜ a + 960 ≤ length (now out) ⌝ }
-    ensures { λ r. ⌜ (r ≡ a + 8 * length (conjOf e)) × (r ≤ a + 960) × ((types : List ℕ) → All (FileNode types) (conjOf e) → now (out .exit) ≡ overlay (now (out .entry)) a (conjunctBytes (conjOf e))) ⌝ }
+// the nodes of the conjunct of the first n words; where the next one begins
+fn put_conjunct(out: &mut [u8], a: usize, w: &[u64], n: usize) -> usize
+    requires { ⌜ (a + 960 ≤ length (now out)) × (n ≤ 120) × (n ≤ length (now w)) ⌝ }
+    ensures { λ r. ⌜ (r ≡ a + 8 * length (conjOf (now (w .entry)) n)) × (r ≤ a + 960) × ((types : List ℕ) → All (FileNode types) (conjOf (now (w .entry)) n) → now (out .exit) ≡ overlay (now (out .entry)) a (conjunctBytes (conjOf (now (w .entry)) n))) ⌝ }
 {
-    let n = conjunct::capped(e.len);
     let mut i: usize = 0;
     while i < n {
-        put_high_first(out, a + 8 * i, node::filed(e.nodes[i]));
+        put_high_first(out, a + 8 * i, node::filed(w[i]));
         i += 1;
     }
     a + 8 * n
-}
-
-// how many nodes a conjunct has
-fn node_count(e: Conjunct) -> usize
-    ensures { λ r. ⌜ (r ≡ length (conjOf e)) × (r ≤ 120) ⌝ }
-{
-    conjunct::capped(e.len)
 }
 
 // the pair of a conjunct of n nodes that begins at a place
@@ -71,23 +62,24 @@ fn put_pairs(out: &mut [u8], a: usize, s: &[u64], b: usize, begin: usize)
     let mut place = begin;
     let mut i: usize = 0;
     while i < count {
-        let n = node_count(sets::get(s, b, i));
+        let n = sets::node_count(s, b, i);
         put_pair(out, a + 8 * i, place, n);
         place += 8 * n;
         i += 1;
     }
 }
 
-// the conjuncts of a set, one after the other; where the last one ends
-fn put_conjuncts(out: &mut [u8], a: usize, s: &[u64], b: usize) -> usize
-    requires { ⌜ (b + 7745 ≤ length (now s)) × (a + 61440 ≤ length (now out)) ⌝ }
+// the conjuncts of a set, one after the other; where the last one ends. `words` is room to work in.
+fn put_conjuncts(out: &mut [u8], a: usize, s: &[u64], b: usize, words: &mut [u64]) -> usize
+    requires { ⌜ (b + 7745 ≤ length (now s)) × (a + 61440 ≤ length (now out)) × (120 ≤ length (now words)) ⌝ }
     ensures { λ r. ⌜ (r ≡ a + 8 * size (setOf (now (s .entry)) b)) × (r ≤ a + 61440) × ((types : List ℕ) → All (All (FileNode types)) (setOf (now (s .entry)) b) → now (out .exit) ≡ overlay (now (out .entry)) a (flatMap conjunctBytes (setOf (now (s .entry)) b))) ⌝ }
 {
     let count = sets::size(s, b);
     let mut place = a;
     let mut i: usize = 0;
     while i < count {
-        place = put_conjunct(out, place, sets::get(s, b, i));
+        let n = sets::get(s, b, i, words);
+        place = put_conjunct(out, place, words, n);
         i += 1;
     }
     place
@@ -118,5 +110,6 @@ pub fn write(program: &[u8], layout: Layout, s: &[u64], b: usize, out: &mut [u8]
     bytes_le::put_u32(out, 4, fields as u64);
     put_types(out, 8, types);
     put_pairs(out, 8 + fields, s, b, begin);
-    put_conjuncts(out, begin, s, b)
+    let mut words: [u64; 120] = [0; 120];
+    put_conjuncts(out, begin, s, b, &mut words)
 }

@@ -7,11 +7,11 @@ use Rattle.analysis.proofs.Uniting.{inserted-first}
 use Rattle.analysis.proofs.single.Statement.{statement}
 use Rattle.analysis.proofs.single.Tie as tie
 
-array-write-nodes : tie.Need-array-write-nodes
-array-write-nodes c = search needs
-
 clear-requires : tie.Need-clear-requires
 clear-requires c κs = search needs
+
+slice-aggregate-insert : tie.Need-slice-aggregate-insert
+slice-aggregate-insert c = search needs
 
 insert-requires : tie.Need-insert-requires
 insert-requires c κs = search needs
@@ -21,13 +21,19 @@ same-length c = search needs
 
 returns : tie.Need-returns
 returns c =
-    let a = c .before .before .before .before .before .before .before .before .before .args in
-    let s₁ = c .before .before .before .before .before .before .clear .last .0 in
+    let a = c .before .before .before .before .before .before .before .before .before .before .args in
+    let s₁ = c .before .before .before .before .before .before .before .clear .last .0 in
     let t = c .before .before .insert in (
-      inserted-first (t .result) s₁ (t .last .0) (a .b) (nodeOf (a .w) ∷ []) (c .before .before .before .before .before .before .clear .ensures .0) (t .ensures .0),
-      within-trans (a .b) (a .s .now) s₁ (t .last .0) (c .before .before .before .before .before .before .clear .ensures .1) (t .ensures .1),
+      inserted-first (t .result) s₁ (t .last .0) (a .b) (nodeOf (a .w) ∷ []) (c .before .before .before .before .before .before .before .clear .ensures .0) (t .ensures .0),
+      within-trans (a .b) (a .s .now) s₁ (t .last .0) (c .before .before .before .before .before .before .before .clear .ensures .1) (t .ensures .1),
     )
 
 pub single-spec : {M : Type 1} → statement M
 single-spec =
-    tie.close (tie.spec array-write-nodes clear-requires insert-requires same-length returns)
+    tie.close
+    (tie.spec
+    clear-requires
+    slice-aggregate-insert
+    insert-requires
+    same-length
+    returns)

@@ -11,13 +11,10 @@ use Rattle.conjunct.proofs.mentions_array.Statement.{statement}
 use Rattle.conjunct.proofs.mentions_array.Tie as tie
 
 abbrev Inv-loop : tie.InvT-loop
-Inv-loop array len e n i₀ i = (i ≤ n) × (n ≤ 120) × (length (e .nodes) ≡ 120) × (some (isLoad array len) (nodesOf (take n (e .nodes))) ≡ some (isLoad array len) (nodesOf (drop i (take n (e .nodes)))))
+Inv-loop w n array len i₀ i = (i ≤ n) × (n ≤ length w) × (some (isLoad array len) (nodesOf (take n w)) ≡ some (isLoad array len) (nodesOf (drop i (take n w))))
 
 abbrev μ-loop : tie.MeasureT-loop
-μ-loop array len e n i₀ i = n - i
-
-capped-requires : tie.Need-capped-requires Inv-loop μ-loop
-capped-requires c κs = search needs
+μ-loop w n array len i₀ i = n - i
 
 loop-holds : tie.Need-loop-holds Inv-loop μ-loop
 loop-holds c = search needs
@@ -25,8 +22,8 @@ loop-holds c = search needs
 mul-is-load : tie.Need-mul-is-load Inv-loop μ-loop
 mul-is-load c = search needs
 
-element-copy-out-is-load : tie.Need-element-copy-out-is-load Inv-loop μ-loop
-element-copy-out-is-load c = search needs
+shared-slice-read-is-load : tie.Need-shared-slice-read-is-load Inv-loop μ-loop
+shared-slice-read-is-load c = search needs
 
 is-load-requires : tie.Need-is-load-requires Inv-loop μ-loop
 is-load-requires c κs = search needs
@@ -34,9 +31,8 @@ is-load-requires c κs = search needs
 returns : tie.Need-returns Inv-loop μ-loop
 returns c =
     let a = c .before .before .before .before .before .before .args in
-    let cap = c .before .before .before .before .before .capped in
     let lp = c .before .before .before .before .loop in
-    rw (← cap .ensures .1 (a .t1 .nodes) (lp .inv .2), lp .inv .3, some-step (isLoad (a .array) (a .len)) (a .t1 .nodes) (cap .result) (lp .i) (omega arith) (omega arith), ← c .before .is-load .ensures, c .if1 .taken)
+    rw (lp .inv .2, some-step (isLoad (a .array) (a .len)) (a .w .now) (a .n) (lp .i) (omega arith) (lp .inv .1), ← c .before .is-load .ensures, c .if1 .taken)
 
 add-i : tie.Need-add-i Inv-loop μ-loop
 add-i c = search needs
@@ -47,21 +43,18 @@ loop-less c = search needs
 loop-again : tie.Need-loop-again Inv-loop μ-loop
 loop-again c =
     let a = c .before .before .before .before .before .before .args in
-    let cap = c .before .before .before .before .before .capped in
     let lp = c .before .before .before .before .loop in (
       omega arith,
       lp .inv .1,
-      lp .inv .2,
-      lp .inv .3 ∙ some-step (isLoad (a .array) (a .len)) (a .t1 .nodes) (cap .result) (lp .i) (omega arith) (omega arith) ∙ rw (← c .before .is-load .ensures, c .if1 .left),
+      lp .inv .2 ∙ some-step (isLoad (a .array) (a .len)) (a .w .now) (a .n) (lp .i) (omega arith) (lp .inv .1) ∙ rw (← c .before .is-load .ensures, c .if1 .left),
     )
 
 returns-2 : tie.Need-returns-2 Inv-loop μ-loop
 returns-2 c =
     let a = c .before .before .before .args in
-    let cap = c .before .before .capped in
     let lp = c .before .loop in
-    let e : lp .i ≡ cap .result = omega arith in
-    rw (← cap .ensures .1 (a .t1 .nodes) (lp .inv .2), lp .inv .3, e, some-none (isLoad (a .array) (a .len)) (a .t1 .nodes) (cap .result) (omega arith))
+    let e : lp .i ≡ a .n = omega arith in
+    rw (lp .inv .2, e, some-none (isLoad (a .array) (a .len)) (a .w .now) (a .n) (lp .inv .1))
 
 pub mentions-array-spec : {M : Type 1} → statement M
 mentions-array-spec =
@@ -69,10 +62,9 @@ mentions-array-spec =
     (tie.spec
     Inv-loop
     μ-loop
-    capped-requires
     loop-holds
     mul-is-load
-    element-copy-out-is-load
+    shared-slice-read-is-load
     is-load-requires
     returns
     add-i

@@ -11,13 +11,10 @@ use Rattle.conjunct.proofs.mentions_variable.Statement.{statement}
 use Rattle.conjunct.proofs.mentions_variable.Tie as tie
 
 abbrev Inv-loop : tie.InvT-loop
-Inv-loop x e n i₀ i = (i ≤ n) × (n ≤ 120) × (length (e .nodes) ≡ 120) × (some (isVar x) (nodesOf (take n (e .nodes))) ≡ some (isVar x) (nodesOf (drop i (take n (e .nodes)))))
+Inv-loop w n x i₀ i = (i ≤ n) × (n ≤ length w) × (some (isVar x) (nodesOf (take n w)) ≡ some (isVar x) (nodesOf (drop i (take n w))))
 
 abbrev μ-loop : tie.MeasureT-loop
-μ-loop x e n i₀ i = n - i
-
-capped-requires : tie.Need-capped-requires Inv-loop μ-loop
-capped-requires c κs = search needs
+μ-loop w n x i₀ i = n - i
 
 loop-holds : tie.Need-loop-holds Inv-loop μ-loop
 loop-holds c = search needs
@@ -25,8 +22,8 @@ loop-holds c = search needs
 mul-is-variable : tie.Need-mul-is-variable Inv-loop μ-loop
 mul-is-variable c = search needs
 
-element-copy-out-is-variable : tie.Need-element-copy-out-is-variable Inv-loop μ-loop
-element-copy-out-is-variable c = search needs
+shared-slice-read-is-variable : tie.Need-shared-slice-read-is-variable Inv-loop μ-loop
+shared-slice-read-is-variable c = search needs
 
 is-variable-requires : tie.Need-is-variable-requires Inv-loop μ-loop
 is-variable-requires c κs = search needs
@@ -34,9 +31,8 @@ is-variable-requires c κs = search needs
 returns : tie.Need-returns Inv-loop μ-loop
 returns c =
     let a = c .before .before .before .before .before .before .args in
-    let cap = c .before .before .before .before .before .capped in
     let lp = c .before .before .before .before .loop in
-    rw (← cap .ensures .1 (a .t1 .nodes) (lp .inv .2), lp .inv .3, some-step (isVar (a .x)) (a .t1 .nodes) (cap .result) (lp .i) (omega arith) (omega arith), ← c .before .is-variable .ensures, c .if1 .taken)
+    rw (lp .inv .2, some-step (isVar (a .x)) (a .w .now) (a .n) (lp .i) (omega arith) (lp .inv .1), ← c .before .is-variable .ensures, c .if1 .taken)
 
 add-i : tie.Need-add-i Inv-loop μ-loop
 add-i c = search needs
@@ -47,21 +43,18 @@ loop-less c = search needs
 loop-again : tie.Need-loop-again Inv-loop μ-loop
 loop-again c =
     let a = c .before .before .before .before .before .before .args in
-    let cap = c .before .before .before .before .before .capped in
     let lp = c .before .before .before .before .loop in (
       omega arith,
       lp .inv .1,
-      lp .inv .2,
-      lp .inv .3 ∙ some-step (isVar (a .x)) (a .t1 .nodes) (cap .result) (lp .i) (omega arith) (omega arith) ∙ rw (← c .before .is-variable .ensures, c .if1 .left),
+      lp .inv .2 ∙ some-step (isVar (a .x)) (a .w .now) (a .n) (lp .i) (omega arith) (lp .inv .1) ∙ rw (← c .before .is-variable .ensures, c .if1 .left),
     )
 
 returns-2 : tie.Need-returns-2 Inv-loop μ-loop
 returns-2 c =
     let a = c .before .before .before .args in
-    let cap = c .before .before .capped in
     let lp = c .before .loop in
-    let e : lp .i ≡ cap .result = omega arith in
-    rw (← cap .ensures .1 (a .t1 .nodes) (lp .inv .2), lp .inv .3, e, some-none (isVar (a .x)) (a .t1 .nodes) (cap .result) (omega arith))
+    let e : lp .i ≡ a .n = omega arith in
+    rw (lp .inv .2, e, some-none (isVar (a .x)) (a .w .now) (a .n) (lp .inv .1))
 
 pub mentions-variable-spec : {M : Type 1} → statement M
 mentions-variable-spec =
@@ -69,10 +62,9 @@ mentions-variable-spec =
     (tie.spec
     Inv-loop
     μ-loop
-    capped-requires
     loop-holds
     mul-is-variable
-    element-copy-out-is-variable
+    shared-slice-read-is-variable
     is-variable-requires
     returns
     add-i

@@ -15,29 +15,23 @@ use Rattle.numbering.proofs.loads.Statement.{statement}
 use Rattle.numbering.proofs.loads.Tie as tie
 
 abbrev Inv-loop : tie.InvT-loop
-Inv-loop array len e n seen₀ m₀ i₀ seen m i = (i ≤ n) × (n ≤ 120) × (m ≤ i) × (length (e .nodes) ≡ 120) × (length seen ≡ 120) × Atoms (take m seen) × (atomsOf (take m seen) ≡ loads array len (atoms (nodesOf (take i (e .nodes)))))
+Inv-loop e n array len out₀ m₀ i₀ out m i = (i ≤ n) × (n ≤ 120) × (m ≤ i) × (n ≤ length e) × (120 ≤ length out₀) × (length out ≡ length out₀) × Atoms (take m out) × (atomsOf (take m out) ≡ loads array len (atoms (nodesOf (take i e))))
 
 abbrev μ-loop : tie.MeasureT-loop
-μ-loop array len e n seen₀ m₀ i₀ seen m i = n - i
-
-capped-requires : tie.Need-capped-requires Inv-loop μ-loop
-capped-requires c κs = search needs
+μ-loop e n array len out₀ m₀ i₀ out m i = n - i
 
 loop-holds : tie.Need-loop-holds Inv-loop μ-loop
 unfolding every loads atoms
-loop-holds c = (search needs, search needs, search needs, search needs, refl, refl, refl)
+loop-holds c = (search needs, search needs, search needs, search needs, search needs, refl, refl, refl)
 
 mul-w : tie.Need-mul-w Inv-loop μ-loop
 mul-w c = search needs
 
-element-copy-out-w : tie.Need-element-copy-out-w Inv-loop μ-loop
-element-copy-out-w c = search needs
-
-slice-aggregate-note-load : tie.Need-slice-aggregate-note-load Inv-loop μ-loop
-slice-aggregate-note-load c = search needs
+shared-slice-read-w : tie.Need-shared-slice-read-w Inv-loop μ-loop
+shared-slice-read-w c = search needs
 
 note-load-requires : tie.Need-note-load-requires Inv-loop μ-loop
-note-load-requires c κs = let lp = c .before .before .before .loop in (omega arith, lp .inv .5)
+note-load-requires c κs = let lp = c .before .before .before .loop in (omega arith, lp .inv .6)
 
 add-i : tie.Need-add-i Inv-loop μ-loop
 add-i c = search needs
@@ -47,25 +41,27 @@ loop-less c = search needs
 
 loop-again : tie.Need-loop-again Inv-loop μ-loop
 loop-again c =
-    let a = c .before .before .before .before .before .before .before .args in
-    let lp = c .before .before .before .before .before .loop in
-    let p = c .before .note-load in (
+    let a = c .before .before .before .before .before .before .before .before .before .args in
+    let lp = c .before .before .before .before .before .before .loop in
+    let p = c .before .before .note-load in (
       omega arith,
       lp .inv .1,
       omega arith,
       lp .inv .3,
-      p .kept .0 ∙ lp .inv .4,
+      lp .inv .4,
+      p .kept .0 ∙ lp .inv .5,
       p .ensures .1 .all,
-      loads-next (a .array) (a .len) (a .t1 .nodes) (lp .i) (take (lp .m) (lp .seen)) (take (p .result) (p .last .0)) (omega arith) (lp .inv .6) (p .ensures .1),
+      loads-next (a .array) (a .len) (a .e .now) (lp .i) (take (lp .m) (lp .out)) (take (p .result) (p .last .0)) (omega arith) (lp .inv .7) (p .ensures .1),
     )
+
+same-length : tie.Need-same-length Inv-loop μ-loop
+same-length c = search needs
 
 returns : tie.Need-returns Inv-loop μ-loop
 returns c =
-    let a = c .before .before .before .args in
     let lp = c .before .loop in
-    let cap = c .before .before .capped in
-    let e : lp .i ≡ cap .result = omega arith in
-    nodes-atoms (take (lp .m) (lp .seen)) (lp .inv .5) ∙ rw (← cap .ensures .1 (a .t1 .nodes) (lp .inv .3), ← e) (ap (map atom) (lp .inv .6))
+    let e : lp .i ≡ c .before .before .before .before .args .n = omega arith in
+    (omega arith, nodes-atoms (take (lp .m) (lp .out)) (lp .inv .6) ∙ ap (map atom) (rw e at (lp .inv .7)))
 
 pub loads-spec : {M : Type 1} → statement M
 loads-spec =
@@ -73,13 +69,12 @@ loads-spec =
     (tie.spec
     Inv-loop
     μ-loop
-    capped-requires
     loop-holds
     mul-w
-    element-copy-out-w
-    slice-aggregate-note-load
+    shared-slice-read-w
     note-load-requires
     add-i
     loop-less
     loop-again
+    same-length
     returns)

@@ -1,31 +1,86 @@
 -- `numbering::renumber` meets its contract. Assumes nothing.
-use mathlib.Core.Path.{_≡_, sym, ap, _∙_}
+use mathlib.Core.Path.{_≡_, refl, _∙_}
+use Prim.Native.Nat.{_-_, _≤_, _<_}
 use native.Mathlib.Omega.{arith}
-use lib.ListN.{length}
+use lib.ListN.{length, length-set}
 use borrow.Author.Needs.{needs}
-use Rattle.model.specs.Conjunct.{renumber}
-use Rattle.node.specs.Word.{nodesOf}
+use Rattle.numbering.proofs.Renumbered.{Numbering, numbering-none, numbering-next}
 use Rattle.numbering.proofs.renumber.Statement.{statement}
 use Rattle.numbering.proofs.renumber.Tie as tie
 
-capped-requires : tie.Need-capped-requires
-capped-requires c κs = search needs
+abbrev Inv-loop : tie.InvT-loop
+Inv-loop words₀ n seen₀ m₀ i₀ words seen m i = (i ≤ n) × (n ≤ 120) × (n ≤ length words₀) × (length words ≡ length words₀) × (120 ≤ length seen₀) × (length seen ≡ length seen₀) × Numbering words words₀ seen m i
 
-slice-aggregate-renumber-words : tie.Need-slice-aggregate-renumber-words
-slice-aggregate-renumber-words c = search needs
+abbrev μ-loop : tie.MeasureT-loop
+μ-loop words₀ n seen₀ m₀ i₀ words seen m i = n - i
 
-renumber-words-requires : tie.Need-renumber-words-requires
-renumber-words-requires c κs =
-    let h : length (c .before .before .before .args .e .nodes) ≡ 120 = search needs in
-    (search needs, omega arith)
+loop-holds : tie.Need-loop-holds Inv-loop μ-loop
+loop-holds c = let a = c .before .before .args in (search needs, search needs, search needs, refl, search needs, refl, numbering-none (a .words .now) (a .seen .now))
 
-returns : tie.Need-returns
+mul-w : tie.Need-mul-w Inv-loop μ-loop
+mul-w c = search needs
+
+slice-read-w : tie.Need-slice-read-w Inv-loop μ-loop
+slice-read-w c = search needs
+
+note-requires : tie.Need-note-requires Inv-loop μ-loop
+note-requires c κs = let lp = c .before .before .before .loop in (omega arith, omega arith, lp .inv .6 .all)
+
+mul-words : tie.Need-mul-words Inv-loop μ-loop
+mul-words c = search needs
+
+slice-write-words : tie.Need-slice-write-words Inv-loop μ-loop
+slice-write-words c = search needs
+
+add-i : tie.Need-add-i Inv-loop μ-loop
+add-i c = search needs
+
+loop-less : tie.Need-loop-less Inv-loop μ-loop
+loop-less c = search needs
+
+loop-again : tie.Need-loop-again Inv-loop μ-loop
+loop-again c =
+    let l₀ = c .before .before .before .before .before .before .before .before .before .args .words .now in
+    let lp = c .before .before .before .before .before .before .loop in
+    let p = c .before .before .note in
+    let h : lp .i < length (lp .words) = omega arith in
+    let k : lp .i < length l₀ = omega arith in (
+      omega arith,
+      lp .inv .1,
+      lp .inv .2,
+      length-set (lp .words) (lp .i) (p .result .word) ∙ lp .inv .3,
+      lp .inv .4,
+      p .kept .0 ∙ lp .inv .5,
+      numbering-next (lp .words) l₀ (lp .seen) (lp .m) (lp .i) h k (lp .inv .6) (p .last .0) (p .result) (p .ensures),
+    )
+
+same-length : tie.Need-same-length Inv-loop μ-loop
+same-length c = search needs
+
+same-length-2 : tie.Need-same-length-2 Inv-loop μ-loop
+same-length-2 c = search needs
+
+returns : tie.Need-returns Inv-loop μ-loop
 returns c =
-    let e = c .before .before .before .before .before .args .e in
-    let h : length (e .nodes) ≡ 120 = search needs in
-    let cap = c .before .before .before .before .capped .ensures .1 in
-    let q = c .before .renumber-words in
-    rw (← cap (q .last .0) (q .kept .0 ∙ h), ← cap (e .nodes) h) (q .ensures)
+    let lp = c .before .loop in
+    let e : lp .i ≡ c .before .before .before .before .args .n = omega arith in
+    rw e at (lp .inv .6 .done)
 
 pub renumber-spec : {M : Type 1} → statement M
-renumber-spec = tie.close (tie.spec capped-requires slice-aggregate-renumber-words renumber-words-requires returns)
+renumber-spec =
+    tie.close
+    (tie.spec
+    Inv-loop
+    μ-loop
+    loop-holds
+    mul-w
+    slice-read-w
+    note-requires
+    mul-words
+    slice-write-words
+    add-i
+    loop-less
+    loop-again
+    same-length
+    same-length-2
+    returns)

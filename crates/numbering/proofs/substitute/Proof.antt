@@ -12,13 +12,10 @@ use Rattle.numbering.proofs.substitute.Statement.{statement}
 use Rattle.numbering.proofs.substitute.Tie as tie
 
 abbrev Inv-loop : tie.InvT-loop
-Inv-loop x r e n k out₀ m₀ i₀ out m i = (i ≤ n) × (n ≤ 120) × (m ≤ 120) × (length (e .nodes) ≡ 120) × (length out ≡ 120) × (take m out ≡ flatMap (pieceOf x (rightWords r)) (take i (e .nodes)))
+Inv-loop e n x r out₀ seen k m₀ i₀ out m i = (i ≤ n) × (n ≤ length e) × (m ≤ 120) × (120 ≤ length out₀) × (length out ≡ length out₀) × (take m out ≡ flatMap (pieceOf x (rightWords r)) (take i e))
 
 abbrev μ-loop : tie.MeasureT-loop
-μ-loop x r e n k out₀ m₀ i₀ out m i = n - i
-
-capped-requires : tie.Need-capped-requires Inv-loop μ-loop
-capped-requires c κs = search needs
+μ-loop e n x r out₀ seen k m₀ i₀ out m i = n - i
 
 loop-holds : tie.Need-loop-holds Inv-loop μ-loop
 unfolding flatMap
@@ -27,8 +24,8 @@ loop-holds c = (search needs, search needs, search needs, search needs, refl, re
 mul-w : tie.Need-mul-w Inv-loop μ-loop
 mul-w c = search needs
 
-element-copy-out-w : tie.Need-element-copy-out-w Inv-loop μ-loop
-element-copy-out-w c = search needs
+shared-slice-read-w : tie.Need-shared-slice-read-w Inv-loop μ-loop
+shared-slice-read-w c = search needs
 
 is-variable-requires : tie.Need-is-variable-requires Inv-loop μ-loop
 is-variable-requires c κs = search needs
@@ -36,19 +33,18 @@ is-variable-requires c κs = search needs
 add-if2 : tie.Need-add-if2 Inv-loop μ-loop
 add-if2 c = search needs
 
+same-length : tie.Need-same-length Inv-loop μ-loop
+same-length c = search needs
+
 returns : tie.Need-returns Inv-loop μ-loop
 returns c =
-    let a = c .before .before .before .before .before .before .before .args in
-    let p = c .before .before .before .before .before .before .before .pre in
-    let cap = c .before .before .before .before .before .before .capped in
+    let a = c .before .before .before .before .before .before .before .before .before .args in
+    let p = c .before .before .before .before .before .before .before .before .before .pre in
     let lp = c .before .before .before .before .before .loop in
     let three : length (a .r .nodes) ≡ 3 = search needs in
     let v = sym (c .before .before .is-variable .ensures) ∙ c .before .if1 .taken in
-    replaced-over (a .t1) (a .x) (a .r) (p .1) (p .2) (lp .i) (cap .result) (lp .m) (a .r .len) (lp .out) (cap .ensures .1 (a .t1 .nodes) (lp .inv .3)) (omega arith) (omega arith) (omega arith) (lp .inv .5)
-    (ap length (piece-there (a .x) (rightWords (a .r)) (getD (a .t1 .nodes) (lp .i) 0) v) ∙ length-take-le (a .r .len) (a .r .nodes) (omega (arith, three))) (omega arith)
-
-slice-aggregate-put : tie.Need-slice-aggregate-put Inv-loop μ-loop
-slice-aggregate-put c = search needs
+    replaced-over (a .e .now) (a .n) (a .x) (a .r) (p .1) (p .5) (p .6) (lp .i) (lp .m) (a .r .len) (lp .out) (omega arith) (omega arith) (lp .inv .5)
+    (ap length (piece-there (a .x) (rightWords (a .r)) (getD (a .e .now) (lp .i) 0) v) ∙ length-take-le (a .r .len) (a .r .nodes) (omega (arith, three))) (omega arith)
 
 put-requires : tie.Need-put-requires Inv-loop μ-loop
 put-requires c κs = search needs
@@ -64,33 +60,35 @@ loop-less c = search needs
 
 loop-again : tie.Need-loop-again Inv-loop μ-loop
 loop-again c =
-    let a = c .before .before .before .before .before .before .before .before .before .before .args in
-    let lp = c .before .before .before .before .before .before .before .before .loop in
-    let v = sym (c .before .before .before .before .before .is-variable .ensures) ∙ c .before .before .before .before .if1 .taken in
-    let q = c .before .put in (
+    let a = c .before .before .before .before .before .before .before .before .before .before .before .before .before .args in
+    let lp = c .before .before .before .before .before .before .before .before .before .loop in
+    let v = sym (c .before .before .before .before .before .before .is-variable .ensures) ∙ c .before .before .before .before .before .if1 .taken in
+    let q = c .before .before .put in (
       omega arith,
       lp .inv .1,
       omega arith,
       lp .inv .3,
       q .kept .0 ∙ lp .inv .4,
-      q .ensures ∙ rw (lp .inv .5) (sym (more-there (a .x) (rightWords (a .r)) (a .t1 .nodes) (lp .i) (omega arith) v)),
+      q .ensures ∙ rw (lp .inv .5) (sym (more-there (a .x) (rightWords (a .r)) (a .e .now) (lp .i) (omega arith) v)),
     )
+
+same-length-2 : tie.Need-same-length-2 Inv-loop μ-loop
+same-length-2 c = search needs
 
 returns-2 : tie.Need-returns-2 Inv-loop μ-loop
 returns-2 c =
-    let a = c .before .before .before .before .before .before .before .args in
-    let p = c .before .before .before .before .before .before .before .pre in
-    let cap = c .before .before .before .before .before .before .capped in
+    let a = c .before .before .before .before .before .before .before .before .before .args in
+    let p = c .before .before .before .before .before .before .before .before .before .pre in
     let lp = c .before .before .before .before .before .loop in
     let v = sym (c .before .before .is-variable .ensures) ∙ c .before .if1 .left in
-    replaced-over (a .t1) (a .x) (a .r) (p .1) (p .2) (lp .i) (cap .result) (lp .m) 1 (lp .out) (cap .ensures .1 (a .t1 .nodes) (lp .inv .3)) (omega arith) (omega arith) (omega arith) (lp .inv .5)
-    (ap length (piece-other (a .x) (rightWords (a .r)) (getD (a .t1 .nodes) (lp .i) 0) v)) (omega arith)
+    replaced-over (a .e .now) (a .n) (a .x) (a .r) (p .1) (p .5) (p .6) (lp .i) (lp .m) 1 (lp .out) (omega arith) (omega arith) (lp .inv .5)
+    (ap length (piece-other (a .x) (rightWords (a .r)) (getD (a .e .now) (lp .i) 0) v)) (omega arith)
 
 mul-out : tie.Need-mul-out Inv-loop μ-loop
 mul-out c = search needs
 
-array-write-out : tie.Need-array-write-out Inv-loop μ-loop
-array-write-out c = search needs
+slice-write-out : tie.Need-slice-write-out Inv-loop μ-loop
+slice-write-out c = search needs
 
 add-m-2 : tie.Need-add-m-2 Inv-loop μ-loop
 add-m-2 c = search needs
@@ -103,32 +101,34 @@ loop-less-2 c = search needs
 
 loop-again-2 : tie.Need-loop-again-2 Inv-loop μ-loop
 loop-again-2 c =
-    let a = c .before .before .before .before .before .before .before .args in
+    let a = c .before .before .before .before .before .before .before .before .before .args in
     let lp = c .before .before .before .before .before .loop in
     let v = sym (c .before .before .is-variable .ensures) ∙ c .before .if1 .left in (
       omega arith,
       lp .inv .1,
       omega arith,
       lp .inv .3,
-      length-set (lp .out) (lp .m) (getD (a .t1 .nodes) (lp .i) 0) ∙ lp .inv .4,
-      more-other (a .x) (rightWords (a .r)) (a .t1 .nodes) (lp .i) (omega arith) (lp .out) (lp .m) (omega arith) (lp .inv .5) v,
+      length-set (lp .out) (lp .m) (getD (a .e .now) (lp .i) 0) ∙ lp .inv .4,
+      more-other (a .x) (rightWords (a .r)) (a .e .now) (lp .i) (omega arith) (lp .out) (lp .m) (omega arith) (lp .inv .5) v,
     )
 
-slice-aggregate-renumber-words : tie.Need-slice-aggregate-renumber-words Inv-loop μ-loop
-slice-aggregate-renumber-words c = search needs
+renumber-requires : tie.Need-renumber-requires Inv-loop μ-loop
+renumber-requires c κs = search needs
 
-renumber-words-requires : tie.Need-renumber-words-requires Inv-loop μ-loop
-renumber-words-requires c κs = search needs
+same-length-3 : tie.Need-same-length-3 Inv-loop μ-loop
+same-length-3 c = search needs
+
+same-length-4 : tie.Need-same-length-4 Inv-loop μ-loop
+same-length-4 c = search needs
 
 returns-3 : tie.Need-returns-3 Inv-loop μ-loop
 returns-3 c =
-    let a = c .before .before .before .before .before .before .args in
-    let p = c .before .before .before .before .before .before .pre in
-    let cap = c .before .before .before .before .before .capped in
-    let lp = c .before .before .before .before .loop in
-    let q = c .before .renumber-words in
-    let e : lp .i ≡ cap .result = omega arith in
-    replaced-done (a .t1) (a .x) (a .r) (p .1) (p .2) (cap .result) (lp .m) (lp .out) (cap .ensures .1 (a .t1 .nodes) (lp .inv .3)) (lp .inv .2) (omega arith) (rw e at (lp .inv .5)) (record { len = lp .m; nodes = q .last .0 }) (q .ensures)
+    let a = c .before .before .before .before .before .before .before .before .before .before .before .before .args in
+    let p = c .before .before .before .before .before .before .before .before .before .before .before .before .pre in
+    let lp = c .before .before .before .before .before .before .before .before .loop in
+    let q = c .before .before .before .before .renumber in
+    let e : lp .i ≡ a .n = omega arith in
+    (lp .inv .2, replaced-done (a .e .now) (a .n) (a .x) (a .r) (p .1) (p .5) (p .6) (lp .m) (lp .out) (q .last .0) (rw e at (lp .inv .5)) (q .ensures))
 
 pub substitute-spec : {M : Type 1} → statement M
 substitute-spec =
@@ -136,26 +136,27 @@ substitute-spec =
     (tie.spec
     Inv-loop
     μ-loop
-    capped-requires
     loop-holds
     mul-w
-    element-copy-out-w
+    shared-slice-read-w
     is-variable-requires
     add-if2
+    same-length
     returns
-    slice-aggregate-put
     put-requires
     add-m
     add-i
     loop-less
     loop-again
+    same-length-2
     returns-2
     mul-out
-    array-write-out
+    slice-write-out
     add-m-2
     add-i-2
     loop-less-2
     loop-again-2
-    slice-aggregate-renumber-words
-    renumber-words-requires
+    renumber-requires
+    same-length-3
+    same-length-4
     returns-3)

@@ -14,11 +14,25 @@ insert-requires c κs = search needs
 same-length : tie.Need-same-length
 same-length c = search needs
 
+same-length-2 : tie.Need-same-length-2
+same-length-2 c = search needs
+
+same-length-3 : tie.Need-same-length-3
+same-length-3 c = search needs
+
 returns : tie.Need-returns
 returns c =
+    let a = c .before .before .before .before .before .before .before .before .before .before .before .before .before .before .before .args in
     let i = c .before .before .insert in
-    let g = c .before .before .before .before .before .before in
-    (subst (λ x. Inserted (i .result) (g .args .room) x (g .args .s .now) (i .last .0)) (c .before .before .before .before .renumber .ensures) (i .ensures .0), i .ensures .1)
+    (subst (λ x. Inserted (i .result) (a .room) x (a .s .now) (i .last .0)) (c .before .before .before .before .before .before .before .before .before .renumber .ensures) (i .ensures .0), i .ensures .1)
 
 pub add-spec : {M : Type 1} → statement M
-add-spec = tie.close (tie.spec renumber-requires insert-requires same-length returns)
+add-spec =
+    tie.close
+    (tie.spec
+    renumber-requires
+    insert-requires
+    same-length
+    same-length-2
+    same-length-3
+    returns)

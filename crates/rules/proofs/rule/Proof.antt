@@ -21,8 +21,8 @@ add-room c = search needs
 clear-requires : tie.Need-clear-requires
 clear-requires c κs = search needs
 
-gather-requires : tie.Need-gather-requires
-gather-requires c κs =
+gather-all-requires : tie.Need-gather-all-requires
+gather-all-requires c κs =
     let g = c .before .before .before .before .before .before in
     let a = g .args in
     let u = c .before .before .before .clear in
@@ -36,7 +36,7 @@ copy-requires : tie.Need-copy-requires
 copy-requires c κs =
     let g = c .before .before .before .before .before .before .before .before .before .before .before .before in
     let u = c .before .before .before .before .before .before .before .before .before .clear in
-    let t = c .before .before .before .before .before .gather in
+    let t = c .before .before .before .before .before .gather-all in
     (omega (arith, u .kept .0, t .kept .0), omega (arith, u .kept .0, t .kept .0), inl (omega arith))
 
 enum-known-answer : tie.Need-enum-known-answer
@@ -51,7 +51,7 @@ returns c =
     let a = g .args in
     let u = c .before .before .before .before .before .before .before .before .before .before .before .before .clear in
     let same : setOf (u .last .0) (a .b) ≡ setOf (a .s .now) (a .b) = frame (a .s .now) (u .last .0) (a .b + 7745) (a .b) (u .kept .0) (omega arith) (inr (omega arith)) (u .ensures .1) in
-    let t = c .before .before .before .before .before .before .before .before .gather in
+    let t = c .before .before .before .before .before .before .before .before .gather-all in
     let v = c .before .before .copy in
     let done : back (a .label) (instrOf (a .d)) (setOf (u .last .0) (a .b)) ≡ ok (setOf (t .last .0) (a .b + 7745)) = t .ensures .0 ∙ ap (λ r. answered r (setOf (t .last .0) (a .b + 7745))) (c .before .before .before .before .enum-told .given .1) in
     (ap (back (a .label) (instrOf (a .d))) (sym same) ∙ done ∙ ap ok (sym (v .ensures .0)), λ i h. v .ensures .1 i (inl h) ∙ t .ensures .1 i (inl (omega arith)) ∙ u .ensures .1 i (inl (omega arith)))
@@ -65,7 +65,7 @@ returns-2 c =
     let a = g .args in
     let u = c .before .before .before .before .before .before .before .before .before .clear in
     let same : setOf (u .last .0) (a .b) ≡ setOf (a .s .now) (a .b) = frame (a .s .now) (u .last .0) (a .b + 7745) (a .b) (u .kept .0) (omega arith) (inr (omega arith)) (u .ensures .1) in
-    let t = c .before .before .before .before .before .gather in
+    let t = c .before .before .before .before .before .gather-all in
     (ap (back (a .label) (instrOf (a .d))) (sym same) ∙ t .ensures .0 ∙ ap (λ r. answered r (setOf (t .last .0) (a .b + 7745))) (c .before .answer .given .1), λ i h. t .ensures .1 i (inl (omega arith)) ∙ u .ensures .1 i (inl (omega arith)))
 
 pub rule-spec : {M : Type 1} → statement M
@@ -74,7 +74,7 @@ rule-spec =
     (tie.spec
     add-room
     clear-requires
-    gather-requires
+    gather-all-requires
     enum-told
     copy-requires
     enum-known-answer

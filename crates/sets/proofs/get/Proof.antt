@@ -28,15 +28,19 @@ add-read-slot-2 c = search needs
 read-slot-requires : tie.Need-read-slot-requires
 read-slot-requires c κs = search needs
 
+same-length : tie.Need-same-length
+same-length c = search needs
+
 returns : tie.Need-returns
 returns c =
-    let a = c .before .before .before .before .before .args in
-    ap nodesOf (c .read-slot .ensures) ∙ sym (set-at (a .s .now) (a .base) (a .i) (omega arith))
+    let a = c .before .before .before .before .before .before .before .before .before .args in
+    let read = c .before .before .read-slot .ensures in
+    (read .0, ap nodesOf (read .1) ∙ sym (set-at (a .s .now) (a .base) (a .i) (omega arith)))
 
 returns-2 : tie.Need-returns-2
 returns-2 c =
-    let a = c .before .before .before .before .args in
-    sym (set-past (a .s .now) (a .base) (a .i) (omega arith))
+    let a = c .before .before .before .before .before .args in
+    (omega arith, sym (set-past (a .s .now) (a .base) (a .i) (omega arith)))
 
 pub get-spec : {M : Type 1} → statement M
 get-spec =
@@ -49,5 +53,6 @@ get-spec =
     mul-read-slot
     add-read-slot-2
     read-slot-requires
+    same-length
     returns
     returns-2)

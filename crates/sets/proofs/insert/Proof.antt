@@ -1,11 +1,10 @@
 -- `sets::insert` meets its contract. Assumes nothing.
 use mathlib.Core.List.{_∷_, _++_}
-use mathlib.Core.Path.{_≡_, refl, sym, ap, _∙_}
-use Prim.Native.Nat.{_+_}
+use mathlib.Core.Path.{refl, sym, ap, _∙_}
 use native.Mathlib.Omega.{arith}
-use lib.ListN.{length, take, drop}
+use lib.ListN.{take, drop}
 use borrow.Author.Needs.{needs}
-use Rattle.conjunct.specs.Value.{wordsOf, conjOf}
+use Rattle.conjunct.specs.Value.{conjOf}
 use Rattle.sets.proofs.Inserting.{spotted, grown}
 use Rattle.sets.proofs.Rows.{set-length, set-rows}
 use Rattle.sets.specs.Region.{setOf, Spotted}
@@ -22,9 +21,6 @@ slice-read-at-most c = search needs
 at-most-requires : tie.Need-at-most-requires
 at-most-requires c κs = search needs
 
-capped-requires : tie.Need-capped-requires
-capped-requires c κs = search needs
-
 find-requires : tie.Need-find-requires
 find-requires c κs = search needs
 
@@ -39,41 +35,36 @@ same-length c = search needs
 
 returns : tie.Need-returns
 returns c =
-    let a = c .before .before .before .before .before .before .before .before .before .before .before .before .before .args in
-    let n = c .before .before .before .before .before .before .before .before .before .before .at-most in
-    let m = c .before .before .before .before .before .before .before .before .before .capped in
+    let a = c .before .before .before .before .before .before .before .before .before .before .args in
+    let n = c .before .before .before .before .before .before .at-most in
     let f = c .before .before .before .before .find in
-    let l = a .t3 .nodes in
-    let h : length l ≡ 120 = search needs in
-    let sp : Spotted (Before (c .before .before .spot .given .0 .0)) (conjOf (a .t3)) (setOf (a .s .now) (a .base)) =
-    spotted (f .result) (Before (c .before .before .spot .given .0 .0)) (c .before .before .spot .given .1) (a .s .now) l (wordsOf (a .t3)) (a .base) (n .result) (m .result) (n .ensures .0) (m .ensures .1 l h) (f .ensures) in
-    ((refl, omega (arith, grown (conjOf (a .t3)) (setOf (a .s .now) (a .base)) (c .before .before .spot .given .0 .0) (sp .0) (sp .1), set-length (a .s .now) (a .base))), λ i g. refl)
+    let given = c .before .before .spot .given in
+    let i = given .0 .0 in
+    let d = conjOf (a .w .now) (a .m) in
+    let S = setOf (a .s .now) (a .base) in
+    let sp : Spotted (Before i) d S = spotted (f .result) (Before i) (given .1) (a .s .now) (a .base) (n .result) d (n .ensures .0) (f .ensures) in
+    ((refl, omega (arith, grown d S i (sp .0) (sp .1), set-length (a .s .now) (a .base))), λ i g. refl)
 
 place-at-requires : tie.Need-place-at-requires
 place-at-requires c κs =
-    let a = c .before .before .before .before .before .before .before .before .before .before .before .before .before .before .args in
-    let n = c .before .before .before .before .before .before .before .before .before .before .before .at-most in
-    let m = c .before .before .before .before .before .before .before .before .before .before .capped in
+    let a = c .before .before .before .before .before .before .before .before .before .before .before .args in
+    let p = c .before .before .before .before .before .before .before .before .before .before .before .pre in
+    let n = c .before .before .before .before .before .before .before .at-most in
     let f = c .before .before .before .before .before .find in
-    let l = a .t3 .nodes in
-    let h : length l ≡ 120 = search needs in
-    let sp : Spotted (Before (c .before .before .before .spot .given .0 .0)) (conjOf (a .t3)) (setOf (a .s .now) (a .base)) =
-    spotted (f .result) (Before (c .before .before .before .spot .given .0 .0)) (c .before .before .before .spot .given .1) (a .s .now) l (wordsOf (a .t3)) (a .base) (n .result) (m .result) (n .ensures .0) (m .ensures .1 l h) (f .ensures) in
-    (omega arith, omega (arith, sp .0, set-length (a .s .now) (a .base)), omega arith)
+    let given = c .before .before .before .spot .given in
+    let i = given .0 .0 in
+    let sp : Spotted (Before i) (conjOf (a .w .now) (a .m)) (setOf (a .s .now) (a .base)) = spotted (f .result) (Before i) (given .1) (a .s .now) (a .base) (n .result) (conjOf (a .w .now) (a .m)) (n .ensures .0) (f .ensures) in
+    (omega arith, omega (arith, sp .0, set-length (a .s .now) (a .base)), p .0, p .1, p .2)
 
 same-length-2 : tie.Need-same-length-2
 same-length-2 c = search needs
 
 returns-2 : tie.Need-returns-2
 returns-2 c =
-    let a = c .before .before .before .before .before .before .before .before .before .before .before .args in
-    let n = c .before .before .before .before .before .before .before .before .at-most in
-    let m = c .before .before .before .before .before .before .before .capped in
+    let a = c .before .before .before .before .before .before .before .before .args in
+    let n = c .before .before .before .before .at-most in
     let f = c .before .before .find in
-    let l = a .t3 .nodes in
-    let h : length l ≡ 120 = search needs in
-    let sp : Spotted Here (conjOf (a .t3)) (setOf (a .s .now) (a .base)) =
-    spotted (f .result) Here (c .enum-told .given .1) (a .s .now) l (wordsOf (a .t3)) (a .base) (n .result) (m .result) (n .ensures .0) (m .ensures .1 l h) (f .ensures) in
+    let sp : Spotted Here (conjOf (a .w .now) (a .m)) (setOf (a .s .now) (a .base)) = spotted (f .result) Here (c .enum-told .given .1) (a .s .now) (a .base) (n .result) (conjOf (a .w .now) (a .m)) (n .ensures .0) (f .ensures) in
     (sym sp, λ i g. refl)
 
 same-length-3 : tie.Need-same-length-3
@@ -81,17 +72,15 @@ same-length-3 c = search needs
 
 returns-3 : tie.Need-returns-3
 returns-3 c =
-    let a = c .before .before .before .before .before .before .before .before .before .before .before .before .before .before .before .before .before .args in
-    let n = c .before .before .before .before .before .before .before .before .before .before .before .before .before .before .at-most in
-    let m = c .before .before .before .before .before .before .before .before .before .before .before .before .before .capped in
+    let a = c .before .before .before .before .before .before .before .before .before .before .before .before .before .before .args in
+    let n = c .before .before .before .before .before .before .before .before .before .before .at-most in
     let f = c .before .before .before .before .before .before .before .before .find in
-    let l = a .t3 .nodes in
-    let h : length l ≡ 120 = search needs in
-    let sp : Spotted (Before (c .before .before .before .before .before .before .spot .given .0 .0)) (conjOf (a .t3)) (setOf (a .s .now) (a .base)) =
-    spotted (f .result) (Before (c .before .before .before .before .before .before .spot .given .0 .0)) (c .before .before .before .before .before .before .spot .given .1) (a .s .now) l (wordsOf (a .t3)) (a .base) (n .result) (m .result) (n .ensures .0) (m .ensures .1 l h) (f .ensures) in
+    let given = c .before .before .before .before .before .before .spot .given in
+    let i = given .0 .0 in
+    let d = conjOf (a .w .now) (a .m) in
+    let sp : Spotted (Before i) d (setOf (a .s .now) (a .base)) = spotted (f .result) (Before i) (given .1) (a .s .now) (a .base) (n .result) d (n .ensures .0) (f .ensures) in
     let q = c .before .before .place-at in
-    let i = c .before .before .before .before .before .before .spot .given .0 .0 in
-    (q .ensures .0 ∙ ap (λ S. take i S ++ (conjOf (a .t3) ∷ drop i S)) (sym (set-rows (a .s .now) (a .base) (n .result) (n .ensures .0))) ∙ sym (sp .1), q .ensures .1)
+    (q .ensures .0 ∙ ap (λ S. take i S ++ (d ∷ drop i S)) (sym (set-rows (a .s .now) (a .base) (n .result) (n .ensures .0))) ∙ sym (sp .1), q .ensures .1)
 
 pub insert-spec : {M : Type 1} → statement M
 insert-spec =
@@ -100,7 +89,6 @@ insert-spec =
     mul-at-most
     slice-read-at-most
     at-most-requires
-    capped-requires
     find-requires
     enum-told
     enum-known-spot

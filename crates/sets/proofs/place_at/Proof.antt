@@ -1,14 +1,13 @@
 -- `sets::place_at` meets its contract. Assumes nothing.
 use mathlib.Core.List.{_∷_}
-use mathlib.Core.Path.{_≡_, ap, _∙_}
-use Prim.Native.Nat.{_+_, _-_, _*_, _≤_}
+use mathlib.Core.Path.{_≡_, sym, ap, _∙_}
+use Prim.Native.Nat.{_+_, _-_, _*_}
 use native.Mathlib.Omega.{arith}
 use lib.ListN.{length, take, drop, set, length-set}
+use lib.Seq.{length-take-le}
 use borrow.Author.Needs.{needs}
 use Rattle.bytes_le.specs.Overlay.{overlay}
-use Rattle.conjunct.specs.Value.{wordsOf}
 use Rattle.sets.proofs.Placed.{placed}
-use Rattle.sets.proofs.Rows.{take-short}
 use Rattle.sets.proofs.place_at.Statement.{statement}
 use Rattle.sets.proofs.place_at.Tie as tie
 
@@ -44,20 +43,21 @@ slice-write-s c = search needs
 
 same-length : tie.Need-same-length
 same-length c =
-    let a = c .before .before .before .before .before .before .before .before .before .args in
+    let a = c .before .before .before .before .before .before .before .before .before .before .args in
     length-set (c .before .before .write-slot .last .0) (a .base) (a .n + 1) ∙ c .before .before .write-slot .kept .0 ∙ c .before .before .before .before .before .before .shift .kept .0
 
 returns : tie.Need-returns
 returns c =
-    let a = c .before .before .before .before .before .before .before .before .before .args in
-    let p = c .before .before .before .before .before .before .before .before .before .pre in
-    let ws = wordsOf (a .e) in
-    let h : length (a .e .nodes) ≡ 120 = search needs in
-    let short : length ws ≤ 120 = omega (arith, take-short (a .e .len) (a .e .nodes)) in
+    let a = c .before .before .before .before .before .before .before .before .before .before .args in
+    let p = c .before .before .before .before .before .before .before .before .before .before .pre in
+    let ws = take (a .m) (a .w .now) in
+    let count : length ws ≡ a .m = length-take-le (a .m) (a .w .now) (p .4) in
     let A = a .base + 1 + 121 * a .i in
-    let e : c .before .before .write-slot .last .0 ≡ overlay (overlay (a .s .now) (A + 121) (take (121 * (a .n - a .i)) (drop A (a .s .now)))) A (length ws ∷ ws) =
-    c .before .before .write-slot .ensures ∙ ap (λ l. overlay l A (length ws ∷ ws)) (c .before .before .before .before .before .before .shift .ensures) in
-    placed (a .s .now) (a .base) (a .n) (a .i) ws (p .0) (p .1) (p .2) short (set (c .before .before .write-slot .last .0) (a .base) (a .n + 1)) (ap (λ l. set l (a .base) (a .n + 1)) e)
+    let after = c .before .before .write-slot .last .0 in
+    let moved = overlay (a .s .now) (A + 121) (take (121 * (a .n - a .i)) (drop A (a .s .now))) in
+    let e : after ≡ overlay moved A (length ws ∷ ws) =
+    c .before .before .write-slot .ensures ∙ ap (λ l. overlay l A (a .m ∷ ws)) (c .before .before .before .before .before .before .shift .ensures) ∙ ap (λ k. overlay moved A (k ∷ ws)) (sym count) in
+    placed (a .s .now) (a .base) (a .n) (a .i) ws (p .0) (p .1) (p .2) (omega arith) (set after (a .base) (a .n + 1)) (ap (λ l. set l (a .base) (a .n + 1)) e)
 
 pub place-at-spec : {M : Type 1} → statement M
 place-at-spec =

@@ -1,10 +1,8 @@
 -- `sets::write_slot` meets its contract. Assumes nothing.
-use mathlib.Core.List.{_∷_}
-use mathlib.Core.Path.{_≡_, refl, sym, ap, _∙_}
+use mathlib.Core.Path.{_≡_, refl, ap, _∙_}
 use Prim.Native.Nat.{_+_, _-_, _≤_}
 use native.Mathlib.Omega.{arith}
 use lib.ListN.{length, take, getD, set, length-set}
-use lib.Seq.{length-take-le}
 use borrow.Author.Needs.{needs}
 use Rattle.bytes_le.proofs.Overlays.{overlay-more}
 use Rattle.bytes_le.specs.Overlay.{overlay}
@@ -13,13 +11,10 @@ use Rattle.sets.proofs.write_slot.Statement.{statement}
 use Rattle.sets.proofs.write_slot.Tie as tie
 
 abbrev Inv-loop : tie.InvT-loop
-Inv-loop s₀ a e n j₀ s j = (j ≤ n) × (n ≤ 120) × (length s ≡ length s₀) × (length (e .nodes) ≡ 120) × (s ≡ overlay s₀ (a + 1) (take j (e .nodes))) × (a + 121 ≤ length s)
+Inv-loop s₀ a w n j₀ s j = (j ≤ n) × (length s ≡ length s₀) × (s ≡ overlay s₀ (a + 1) (take j w)) × (a + 121 ≤ length s)
 
 abbrev μ-loop : tie.MeasureT-loop
-μ-loop s₀ a e n j₀ s j = n - j
-
-capped-requires : tie.Need-capped-requires Inv-loop μ-loop
-capped-requires c κs = search needs
+μ-loop s₀ a w n j₀ s j = n - j
 
 mul-s : tie.Need-mul-s Inv-loop μ-loop
 mul-s c = search needs
@@ -30,15 +25,15 @@ slice-write-s c = search needs
 loop-holds : tie.Need-loop-holds Inv-loop μ-loop
 unfolding overlay
 loop-holds c =
-    let a = c .before .before .args in
-    let h = length-set (a .s .now) (a .a) (c .capped .result) in
-    (search needs, search needs, refl, search needs, refl, omega arith)
+    let a = c .args in
+    let h = length-set (a .s .now) (a .a) (a .n) in
+    (search needs, refl, refl, omega arith)
 
 mul-s-2 : tie.Need-mul-s-2 Inv-loop μ-loop
 mul-s-2 c = search needs
 
-element-copy-out-s : tie.Need-element-copy-out-s Inv-loop μ-loop
-element-copy-out-s c = search needs
+shared-slice-read-s : tie.Need-shared-slice-read-s Inv-loop μ-loop
+shared-slice-read-s c = search needs
 
 add-s : tie.Need-add-s Inv-loop μ-loop
 add-s c = search needs
@@ -60,34 +55,27 @@ loop-less c = search needs
 
 loop-again : tie.Need-loop-again Inv-loop μ-loop
 loop-again c =
-    let a = c .before .before .before .before .before .args in
-    let cap = c .before .before .before .capped in
+    let a = c .before .before .before .args in
     let lp = c .before .before .loop in
-    let v = getD (a .t3 .nodes) (lp .j) 0 in
+    let v = getD (a .w .now) (lp .j) 0 in
     let h = length-set (lp .s) (a .a + 1 + lp .j) v in (
       omega arith,
-      lp .inv .1,
-      h ∙ lp .inv .2,
-      lp .inv .3,
-      ap (λ l. set l (a .a + 1 + lp .j) v) (lp .inv .4) ∙ overlay-more (set (a .s .now) (a .a) (cap .result)) (a .a + 1) (a .t3 .nodes) (lp .j) (omega arith),
+      h ∙ lp .inv .1,
+      ap (λ l. set l (a .a + 1 + lp .j) v) (lp .inv .2) ∙ overlay-more (set (a .s .now) (a .a) (a .n)) (a .a + 1) (a .w .now) (lp .j) (omega arith),
       omega arith,
     )
 
 same-length : tie.Need-same-length Inv-loop μ-loop
 same-length c =
-    let a = c .before .before .before .before .args in
-    c .before .loop .inv .2 ∙ length-set (a .s .now) (a .a) (c .before .before .capped .result)
+    let a = c .before .before .args in
+    c .before .loop .inv .1 ∙ length-set (a .s .now) (a .a) (a .n)
 
 returns : tie.Need-returns Inv-loop μ-loop
 returns c =
-    let a = c .before .before .before .before .args in
-    let cap = c .before .before .capped in
+    let a = c .before .before .args in
     let lp = c .before .loop in
-    let e : lp .j ≡ cap .result = omega arith in
-    let l = a .t3 .nodes in
-    let w : take (cap .result) l ≡ take (a .t3 .len) l = cap .ensures .1 l (lp .inv .3) in
-    let n : cap .result ≡ length (take (a .t3 .len) l) = sym (length-take-le (cap .result) l (omega arith)) ∙ ap length w in
-    (rw e at (lp .inv .4)) ∙ written (a .s .now) (take (cap .result) l) (a .a) (cap .result) ∙ ap (λ x. overlay (a .s .now) (a .a) (cap .result ∷ x)) w ∙ ap (λ x. overlay (a .s .now) (a .a) (x ∷ take (a .t3 .len) l)) n
+    let e : lp .j ≡ a .n = omega arith in
+    (rw e at (lp .inv .2)) ∙ written (a .s .now) (take (a .n) (a .w .now)) (a .a) (a .n)
 
 pub write-slot-spec : {M : Type 1} → statement M
 write-slot-spec =
@@ -95,12 +83,11 @@ write-slot-spec =
     (tie.spec
     Inv-loop
     μ-loop
-    capped-requires
     mul-s
     slice-write-s
     loop-holds
     mul-s-2
-    element-copy-out-s
+    shared-slice-read-s
     add-s
     add-s-2
     mul-s-3

@@ -19,10 +19,10 @@ use Rattle.writer.proofs.put_conjuncts.Statement.{statement}
 use Rattle.writer.proofs.put_conjuncts.Tie as tie
 
 abbrev Inv-loop : tie.InvT-loop
-Inv-loop out₀ a s b count place₀ i₀ out place i = (i ≤ count) × (count ≤ 64) × (count ≡ length (setOf s b)) × (length out ≡ length out₀) × (a + 61440 ≤ length out₀) × (place ≤ a + 960 * i) × (place ≡ a + 8 * size (take i (setOf s b))) × ((types : List ℕ) → All (All (FileNode types)) (setOf s b) → out ≡ overlay out₀ a (flatMap conjunctBytes (take i (setOf s b))))
+Inv-loop out₀ a s b words₀ count place₀ i₀ out words place i = (i ≤ count) × (count ≤ 64) × (count ≡ length (setOf s b)) × (length out ≡ length out₀) × (length words ≡ length words₀) × (a + 61440 ≤ length out₀) × (place ≤ a + 960 * i) × (place ≡ a + 8 * size (take i (setOf s b))) × ((types : List ℕ) → All (All (FileNode types)) (setOf s b) → out ≡ overlay out₀ a (flatMap conjunctBytes (take i (setOf s b))))
 
 abbrev μ-loop : tie.MeasureT-loop
-μ-loop out₀ a s b count place₀ i₀ out place i = count - i
+μ-loop out₀ a s b words₀ count place₀ i₀ out words place i = count - i
 
 size-requires : tie.Need-size-requires Inv-loop μ-loop
 size-requires c κs = search needs
@@ -30,8 +30,8 @@ size-requires c κs = search needs
 loop-holds : tie.Need-loop-holds Inv-loop μ-loop
 unfolding flatMap
 loop-holds c =
-    let a = c .before .before .before .args in
-    (search needs, search needs, search needs, search needs, search needs, search needs, search needs, λ types f. stored-none (a .out .now) (a .a))
+    let a = c .before .before .before .before .args in
+    (search needs, search needs, search needs, search needs, search needs, search needs, search needs, search needs, λ types f. stored-none (a .out .now) (a .a))
 
 get-requires : tie.Need-get-requires Inv-loop μ-loop
 get-requires c κs = search needs
@@ -47,34 +47,39 @@ loop-less c = search needs
 
 loop-again : tie.Need-loop-again Inv-loop μ-loop
 loop-again c =
-    let a = c .before .before .before .before .before .before .before .before .before .before .args in
-    let lp = c .before .before .before .before .before .before .loop in
-    let got = c .before .before .before .get in
+    let a = c .before .before .before .before .before .before .before .before .before .before .before .before .before .before .before .args in
+    let lp = c .before .before .before .before .before .before .before .before .before .before .loop in
+    let got = c .before .before .before .before .before .before .before .get in
     let put = c .before .before .put-conjunct in
     let S = setOf (a .s .now) (a .b) in
+    let d = conjOf (got .last .1 .1 .1 .0) (got .result) in
     let inside : lp .i < length S = omega arith in
-    let nodes = ap length (got .ensures) in
+    let nodes : length d ≡ length (getD S (lp .i) []) = ap length (got .ensures .1) in
     let more : size (take (lp .i + 1) S) ≡ size (take (lp .i) S) + length (getD S (lp .i) []) = rw (add-one (lp .i)) (size-more S (lp .i) inside) in (
       omega arith,
       lp .inv .1,
       lp .inv .2,
       put .kept .0 ∙ lp .inv .3,
-      lp .inv .4,
+      got .kept .1 .1 .1 .0 ∙ lp .inv .4,
+      lp .inv .5,
       omega arith,
       omega arith,
-      λ types f. conjuncts-more types S f (a .out .now) (lp .out) (put .last .0) (a .a) (lp .i) (lp .place) inside (conjOf (got .result)) (got .ensures) (lp .inv .6) (lp .inv .7 types f) (put .ensures .2 types),
+      λ types f. conjuncts-more types S f (a .out .now) (lp .out) (put .last .0) (a .a) (lp .i) (lp .place) inside d (got .ensures .1) (lp .inv .7) (lp .inv .8 types f) (put .ensures .2 types),
     )
 
 same-length : tie.Need-same-length Inv-loop μ-loop
 same-length c = c .before .loop .inv .3
 
+same-length-2 : tie.Need-same-length-2 Inv-loop μ-loop
+same-length-2 c = c .before .loop .inv .4
+
 returns : tie.Need-returns Inv-loop μ-loop
 returns c =
-    let a = c .before .before .before .before .before .args in
+    let a = c .before .before .before .before .before .before .args in
     let lp = c .before .loop in
     let S = setOf (a .s .now) (a .b) in
     let all = take-all (lp .i) S (omega arith) in
-    (lp .inv .6 ∙ ap (λ R. a .a + 8 * size R) all, omega arith, λ types f. lp .inv .7 types f ∙ ap (λ R. overlay (a .out .now) (a .a) (flatMap conjunctBytes R)) all)
+    (lp .inv .7 ∙ ap (λ R. a .a + 8 * size R) all, omega arith, λ types f. lp .inv .8 types f ∙ ap (λ R. overlay (a .out .now) (a .a) (flatMap conjunctBytes R)) all)
 
 pub put-conjuncts-spec : {M : Type 1} → statement M
 put-conjuncts-spec =
@@ -90,4 +95,5 @@ put-conjuncts-spec =
     loop-less
     loop-again
     same-length
+    same-length-2
     returns)

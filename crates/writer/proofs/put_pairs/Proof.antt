@@ -1,10 +1,9 @@
 -- `writer::put_pairs` meets its contract. Assumes nothing.
-use mathlib.Core.List.{[]}
 use mathlib.Core.Path.{_≡_, ap, _∙_}
 use Prim.Native.Nat.{_+_, _-_, _*_, _<_, _≤_}
 use native.Mathlib.Numerals.{add-one}
 use native.Mathlib.Omega.{arith}
-use lib.ListN.{length, take, getD}
+use lib.ListN.{length, take}
 use lib.Seq.{take-all}
 use borrow.Author.Needs.{needs}
 use Rattle.model.proofs.FileBytes.{size}
@@ -29,9 +28,6 @@ unfolding pairBytes
 loop-holds c =
     let a = c .before .before .before .args in
     (search needs, search needs, search needs, search needs, search needs, search needs, search needs, search needs, stored-none (a .out .now) (a .a))
-
-get-requires : tie.Need-get-requires Inv-loop μ-loop
-get-requires c κs = search needs
 
 node-count-requires : tie.Need-node-count-requires Inv-loop μ-loop
 node-count-requires c κs = search needs
@@ -59,14 +55,13 @@ loop-less c = search needs
 
 loop-again : tie.Need-loop-again Inv-loop μ-loop
 loop-again c =
-    let a = c .before .before .before .before .before .before .before .before .before .before .before .args in
-    let lp = c .before .before .before .before .before .before .before .loop in
+    let a = c .before .before .before .before .before .before .before .before .before .before .args in
+    let lp = c .before .before .before .before .before .before .loop in
     let n = c .before .before .before .before .node-count in
     let put = c .before .before .put-pair in
     let S = setOf (a .s .now) (a .b) in
     let inside : lp .i < length S = omega arith in
-    let nodes : n .result ≡ length (getD S (lp .i) []) = n .ensures .0 ∙ ap length (c .before .before .before .before .before .get .ensures) in
-    let more : size (take (lp .i + 1) S) ≡ size (take (lp .i) S) + n .result = rw (add-one (lp .i), nodes) (size-more S (lp .i) inside) in (
+    let more : size (take (lp .i + 1) S) ≡ size (take (lp .i) S) + n .result = rw (add-one (lp .i), n .ensures .1) (size-more S (lp .i) inside) in (
       omega arith,
       lp .inv .1,
       lp .inv .2,
@@ -75,7 +70,7 @@ loop-again c =
       lp .inv .5,
       omega arith,
       omega arith,
-      pairs-more S (a .out .now) (lp .out) (put .last .0) (a .a) (a .begin) (lp .i) (lp .place) (n .result) inside (lp .inv .7) nodes (lp .inv .8) (put .ensures),
+      pairs-more S (a .out .now) (lp .out) (put .last .0) (a .a) (a .begin) (lp .i) (lp .place) (n .result) inside (lp .inv .7) (n .ensures .1) (lp .inv .8) (put .ensures),
     )
 
 same-length : tie.Need-same-length Inv-loop μ-loop
@@ -95,7 +90,6 @@ put-pairs-spec =
     μ-loop
     size-requires
     loop-holds
-    get-requires
     node-count-requires
     mul-put-pair
     add-put-pair

@@ -53,32 +53,35 @@ put-pairs-requires c κs =
     let types = ap length (c .before .before .before .before .before .before .before .before .before .before .before .before .before .before .field-types .ensures) in
     omega (arith, c .before .before .before .before .before .before .before .before .before)
 
+slice-aggregate-put-conjuncts : tie.Need-slice-aggregate-put-conjuncts
+slice-aggregate-put-conjuncts c = search needs
+
 put-conjuncts-requires : tie.Need-put-conjuncts-requires
 put-conjuncts-requires c κs =
-    let a = c .before .before .before .before .before .before .before .before .before .before .before .before .before .before .before .before .before .before .before .before .before .before .args in
-    let few = fields-few (a .program .now) (a .layout) (c .before .before .before .before .before .before .before .before .before .before .before .before .before .before .before .before .before .before .before .before .before .before .pre .0) in
-    let types = ap length (c .before .before .before .before .before .before .before .before .before .before .before .before .before .before .before .before .before .before .field-types .ensures) in
-    omega (arith, c .before .before .before .before .before .before .before .before .before .before .before .before .before)
+    let a = c .before .before .before .before .before .before .before .before .before .before .before .before .before .before .before .before .before .before .before .before .before .before .before .args in
+    let few = fields-few (a .program .now) (a .layout) (c .before .before .before .before .before .before .before .before .before .before .before .before .before .before .before .before .before .before .before .before .before .before .before .pre .0) in
+    let types = ap length (c .before .before .before .before .before .before .before .before .before .before .before .before .before .before .before .before .before .before .before .field-types .ensures) in
+    omega (arith, c .before .before .before .before .before .before .before .before .before .before .before .before .before .before)
 
 same-length : tie.Need-same-length
 same-length c = search needs
 
 returns : tie.Need-returns
 returns c =
-    let a = c .before .before .before .before .before .before .before .before .before .before .before .before .before .before .before .before .before .before .before .before .before .before .before .before .before .args in
+    let a = c .before .before .before .before .before .before .before .before .before .before .before .before .before .before .before .before .before .before .before .before .before .before .before .before .before .before .before .args in
     let types = tablesOf (a .program .now) .fields in
     let S = setOf (a .s .now) (a .b) in
-    let formed = c .before .before .before .before .before .before .before .before .before .before .before .before .before .before .before .before .before .before .before .before .before .before .before .before .before .pre .3 in
-    let few = fields-few (a .program .now) (a .layout) (c .before .before .before .before .before .before .before .before .before .before .before .before .before .before .before .before .before .before .before .before .before .before .before .before .before .pre .0) in
-    let copied = c .before .before .before .before .before .before .before .before .before .before .before .before .before .before .before .before .before .before .before .before .before .field-types in
-    let count = c .before .before .before .before .before .before .before .before .before .before .before .before .before .before .before .before .before .before .before .before .size in
-    let put = c .before .before .put-conjuncts in
+    let formed = c .before .before .before .before .before .before .before .before .before .before .before .before .before .before .before .before .before .before .before .before .before .before .before .before .before .before .before .pre .3 in
+    let few = fields-few (a .program .now) (a .layout) (c .before .before .before .before .before .before .before .before .before .before .before .before .before .before .before .before .before .before .before .before .before .before .before .before .before .before .before .pre .0) in
+    let copied = c .before .before .before .before .before .before .before .before .before .before .before .before .before .before .before .before .before .before .before .before .before .before .before .field-types in
+    let count = c .before .before .before .before .before .before .before .before .before .before .before .before .before .before .before .before .before .before .before .before .before .before .size in
+    let put = c .before .before .before .put-conjuncts in
     let fields : length (copied .result .now) ≡ length types = ap length (copied .ensures) in
     let last : put .result ≡ 8 + length types + 8 * length S + 8 * size S = omega (arith, put .ensures .0, count .ensures .0) in (
       file-length types S formed (put .result) last,
       omega (arith, put .ensures .1, count .ensures .1),
       file-stored types S (copied .result .now) (count .result) (copied .ensures) (count .ensures .0) (a .out .now) _ _ _ _ (put .last .0)
-          (c .before .before .before .before .before .before .before .before .before .before .before .before .before .before .before .before .before .before .put-u32 .ensures) (c .before .before .before .before .before .before .before .before .before .before .before .before .before .before .put-u322 .ensures) (c .before .before .before .before .before .before .before .before .before .before .put-types .ensures) (c .before .before .before .before .before .before .put-pairs .ensures) (put .ensures .2 types (nodes-of-file types S formed)),
+          (c .before .before .before .before .before .before .before .before .before .before .before .before .before .before .before .before .before .before .before .before .put-u32 .ensures) (c .before .before .before .before .before .before .before .before .before .before .before .before .before .before .before .before .put-u322 .ensures) (c .before .before .before .before .before .before .before .before .before .before .before .before .put-types .ensures) (c .before .before .before .before .before .before .before .before .put-pairs .ensures) (put .ensures .2 types (nodes-of-file types S formed)),
     )
 
 pub write-spec : {M : Type 1} → statement M
@@ -95,6 +98,7 @@ write-spec =
     put-types-requires
     add-put-pairs
     put-pairs-requires
+    slice-aggregate-put-conjuncts
     put-conjuncts-requires
     same-length
     returns)

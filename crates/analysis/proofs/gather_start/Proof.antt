@@ -1,0 +1,102 @@
+-- `analysis::gather_start` meets its contract. Assumes nothing.
+use mathlib.Core.List.{map}
+use mathlib.Core.Path.{_≡_, refl, sym, ap, _∙_}
+use Prim.Native.Nat.{_-_, _≤_}
+use native.Mathlib.Omega.{arith}
+use lib.ListN.{length, drop}
+use borrow.Author.Needs.{needs}
+use Rattle.model.specs.Conjunct.{renumber}
+use Rattle.model.specs.Walk.{zeroed}
+use Rattle.conjunct.specs.Value.{conjOf}
+use Rattle.sets.specs.Region.{setOf, Within}
+use Rattle.sets.proofs.Rows.{within-trans}
+use Rattle.analysis.proofs.Starting.{started, started-none, started-more, start-done}
+use Rattle.analysis.proofs.gather_start.Statement.{statement}
+use Rattle.analysis.proofs.gather_start.Tie as tie
+
+abbrev Inv-loop : tie.InvT-loop
+Inv-loop s₀ b room e₀ seen₀ k₀ s e seen k =
+    (k ≤ length (setOf s₀ b)) × (length s ≡ length s₀) × (length e ≡ length e₀) × (length seen ≡ length seen₀) × Within room s₀ s × (setOf s room ≡ started (drop k (setOf s₀ b)))
+
+abbrev μ-loop : tie.MeasureT-loop
+μ-loop s₀ b room e₀ seen₀ k₀ s e seen k = k
+
+size-requires : tie.Need-size-requires Inv-loop μ-loop
+size-requires c κs = search needs
+
+loop-holds : tie.Need-loop-holds Inv-loop μ-loop
+loop-holds c =
+    let g = c .before .before .before .before .before in
+    let a = g .args in
+    (omega (arith, c .size .ensures .0), refl, refl, refl, λ i h. refl, g .pre .2 ∙ sym (started-none (setOf (a .s .now) (a .b)) (c .size .result) (c .size .ensures .0)))
+
+sub-k : tie.Need-sub-k Inv-loop μ-loop
+sub-k c = search needs
+
+get-requires : tie.Need-get-requires Inv-loop μ-loop
+get-requires c κs = search needs
+
+at-start-requires : tie.Need-at-start-requires Inv-loop μ-loop
+at-start-requires c κs = search needs
+
+renumber-requires : tie.Need-renumber-requires Inv-loop μ-loop
+renumber-requires c κs = search needs
+
+insert-requires : tie.Need-insert-requires Inv-loop μ-loop
+insert-requires c κs = search needs
+
+loop-less : tie.Need-loop-less Inv-loop μ-loop
+loop-less c = search needs
+
+loop-again : tie.Need-loop-again Inv-loop μ-loop
+loop-again c =
+    let g = c .before .before .before .before .before .before .before .before .before .before .before .before .before .before .before .before .before .before .before .before .before .before .before .before .before .before .before .before in
+    let a = g .args in
+    let lp = c .before .before .before .before .before .before .before .before .before .before .before .before .before .before .before .before .before .before .before .before .before .before .loop in
+    let e = c .before .before .before .before .before .before .before .before .before .before .before .before .before .before .before .before .before .before .get in
+    let z = c .before .before .before .before .before .before .before .before .before .before .before .before .before .before .at-start in
+    let r = c .before .before .before .before .before .before .before .before .before .renumber in
+    let t = c .before .before .insert in
+    let this = r .ensures ∙ ap renumber (z .ensures ∙ ap (map zeroed) (e .ensures .1)) in (
+      omega (arith, lp .inv .0),
+      t .kept .0 ∙ lp .inv .1,
+      r .kept .0 ∙ z .kept .0 ∙ e .kept .1 .1 .1 .0 ∙ lp .inv .2,
+      r .kept .1 .1 .0 ∙ lp .inv .3,
+      within-trans (a .room) (a .s .now) (lp .s) (t .last .0) (lp .inv .4) (t .ensures .1),
+      started-more (a .s .now) (a .b) (a .room) (g .pre .0) (g .pre .1) (lp .s) (t .last .0) (lp .k) (lp .k - 1) (conjOf (r .last .0) (e .result)) (t .result) (lp .inv .1) (lp .inv .4) (omega (arith, c .before .before .before .before .before .before .before .before .before .before .before .before .before .before .before .before .before .before .before .before .before .loop-test .taken)) (lp .inv .0) this (lp .inv .5) (t .ensures .0),
+    )
+
+same-length : tie.Need-same-length Inv-loop μ-loop
+same-length c = search needs
+
+same-length-2 : tie.Need-same-length-2 Inv-loop μ-loop
+same-length-2 c = search needs
+
+same-length-3 : tie.Need-same-length-3 Inv-loop μ-loop
+same-length-3 c = search needs
+
+returns : tie.Need-returns Inv-loop μ-loop
+returns c =
+    let a = c .before .before .before .before .before .before .before .args in
+    let lp = c .before .loop in
+    (start-done (a .s .now) (a .b) (lp .s) (a .room) (lp .k) (omega arith) (lp .inv .5), lp .inv .4)
+
+pub gather-start-spec : {M : Type 1} → statement M
+gather-start-spec =
+    tie.close
+    (tie.spec
+    Inv-loop
+    μ-loop
+    size-requires
+    loop-holds
+    sub-k
+    get-requires
+    at-start-requires
+    renumber-requires
+    insert-requires
+    loop-less
+    loop-again
+    same-length
+    same-length-2
+    same-length-3
+    returns)

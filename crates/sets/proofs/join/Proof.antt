@@ -1,0 +1,102 @@
+-- `sets::join` meets its contract. Assumes nothing.
+use mathlib.Core.Path.{_≡_, refl, _∙_}
+use Prim.Native.Nat.{_-_, _≤_}
+use native.Mathlib.Omega.{arith}
+use lib.ListN.{length, drop}
+use borrow.Author.Needs.{needs}
+use borrow.Author.Tests.{not-true, not-false}
+use Rattle.model.specs.Conjunct.{union}
+use Rattle.conjunct.specs.Value.{conjOf}
+use Rattle.sets.proofs.Inserting.{turn-over, turn-done, union-none}
+use Rattle.sets.proofs.Rows.{within-trans}
+use Rattle.sets.specs.Region.{setOf, Within}
+use Rattle.sets.proofs.join.Statement.{statement}
+use Rattle.sets.proofs.join.Tie as tie
+
+abbrev Inv-loop : tie.InvT-loop
+Inv-loop s₀ to from words₀ k₀ s words k = (k ≤ k₀) × (k₀ ≡ length (setOf s₀ from)) × (length s ≡ length s₀) × (length words ≡ length words₀) × Within to s₀ s × (setOf s to ≡ union (drop k (setOf s₀ from)) (setOf s₀ to))
+
+abbrev μ-loop : tie.MeasureT-loop
+μ-loop s₀ to from words₀ k₀ s words k = k
+
+size-requires : tie.Need-size-requires Inv-loop μ-loop
+size-requires c κs = search needs
+
+loop-holds : tie.Need-loop-holds Inv-loop μ-loop
+loop-holds c =
+    let a = c .before .before .before .before .args in
+    (search needs, c .size .ensures .0, refl, refl, λ i h. refl, union-none (setOf (a .s .now) (a .from)) (setOf (a .s .now) (a .to)) (c .size .result) (c .size .ensures .0))
+
+sub-k : tie.Need-sub-k Inv-loop μ-loop
+sub-k c = search needs
+
+get-requires : tie.Need-get-requires Inv-loop μ-loop
+get-requires c κs = search needs
+
+insert-requires : tie.Need-insert-requires Inv-loop μ-loop
+insert-requires c κs = search needs
+
+same-length : tie.Need-same-length Inv-loop μ-loop
+same-length c = search needs
+
+same-length-2 : tie.Need-same-length-2 Inv-loop μ-loop
+same-length-2 c = search needs
+
+returns : tie.Need-returns Inv-loop μ-loop
+returns c =
+    let a = c .before .before .before .before .before .before .before .before .before .before .before .before .before .before .before .before .before .args in
+    let p = c .before .before .before .before .before .before .before .before .before .before .before .before .before .before .before .before .before .pre in
+    let lp = c .before .before .before .before .before .before .before .before .before .before .before .before .loop in
+    let got = c .before .before .before .before .before .before .before .before .get in
+    let t = c .before .before .before .insert in
+    let d = conjOf (got .last .1 .1 .1 .0) (got .result) in
+    let r = turn-over (a .s .now) (lp .s) (t .last .0) (a .to) (a .from) (lp .k) (lp .k - 1) d (p .1) (p .2) (lp .inv .2) (lp .inv .4) (omega arith) (omega arith) (got .ensures .1) (lp .inv .5) (t .result) (not-true _ (c .if1 .taken)) (t .ensures .0) in
+    let w = within-trans (a .to) (a .s .now) (lp .s) (t .last .0) (lp .inv .4) (t .ensures .1) in
+    (r, w)
+
+loop-less : tie.Need-loop-less Inv-loop μ-loop
+loop-less c = search needs
+
+loop-again : tie.Need-loop-again Inv-loop μ-loop
+loop-again c =
+    let a = c .before .before .before .before .before .before .before .before .before .before .before .before .before .before .before .before .before .args in
+    let p = c .before .before .before .before .before .before .before .before .before .before .before .before .before .before .before .before .before .pre in
+    let lp = c .before .before .before .before .before .before .before .before .before .before .before .before .loop in
+    let got = c .before .before .before .before .before .before .before .before .get in
+    let t = c .before .before .before .insert in
+    let d = conjOf (got .last .1 .1 .1 .0) (got .result) in
+    let r = turn-done (a .s .now) (lp .s) (t .last .0) (a .to) (a .from) (lp .k) (lp .k - 1) d (p .1) (p .2) (lp .inv .2) (lp .inv .4) (omega arith) (omega arith) (got .ensures .1) (lp .inv .5) (t .result) (not-false _ (c .if1 .left)) (t .ensures .0) in
+    let w = within-trans (a .to) (a .s .now) (lp .s) (t .last .0) (lp .inv .4) (t .ensures .1) in
+    (omega arith, lp .inv .1, t .kept .0 ∙ lp .inv .2, got .kept .1 .1 .1 .0 ∙ lp .inv .3, w, r)
+
+same-length-3 : tie.Need-same-length-3 Inv-loop μ-loop
+same-length-3 c = search needs
+
+same-length-4 : tie.Need-same-length-4 Inv-loop μ-loop
+same-length-4 c = search needs
+
+returns-2 : tie.Need-returns-2 Inv-loop μ-loop
+returns-2 c =
+    let lp = c .before .loop in
+    let z : lp .k ≡ 0 = omega arith in
+    (rw z at (lp .inv .5), lp .inv .4)
+
+pub join-spec : {M : Type 1} → statement M
+join-spec =
+    tie.close
+    (tie.spec
+    Inv-loop
+    μ-loop
+    size-requires
+    loop-holds
+    sub-k
+    get-requires
+    insert-requires
+    same-length
+    same-length-2
+    returns
+    loop-less
+    loop-again
+    same-length-3
+    same-length-4
+    returns-2)
