@@ -10,7 +10,9 @@ pub mod Operands
 pub mod Filling
 pub mod Stretches
 pub mod Turns
+pub mod Wide
 pub mod Counting
 pub mod Answers
 pub mod Parts
 pub mod Calls
+pub mod Columns

@@ -3,3 +3,4 @@ pub mod Readings
 pub mod Slots
 pub mod Explored
 pub mod Plan
+pub mod Columns

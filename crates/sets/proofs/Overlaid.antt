@@ -1,11 +1,11 @@
 -- Single words of a list after others were stored over a part of it.
 -- Assumes nothing.
 use mathlib.Core.List.{List, [], _∷_}
-use mathlib.Core.Path.{_≡_, refl, ap, _∙_}
+use mathlib.Core.Path.{_≡_, refl, _∙_}
 use Prim.Native.Nat.{ℕ, zero, suc, _+_, _<_, _≤_}
 use native.Mathlib.Omega.{arith}
 use lib.ListN.{length, getD, set, length-set}
-use lib.Seq.{getD-set-same, getD-set-other, set-comm}
+use lib.Seq.{getD-set-same, getD-set-other}
 use Rattle.bytes_le.specs.Overlay.{overlay}
 
 pub overlay-before : (vs l : List ℕ) (i j : ℕ) → j < i → getD (overlay l i vs) j 0 ≡ getD l j 0
@@ -28,10 +28,3 @@ overlay-inside (v ∷ vs) l i (suc x) h k =
     let e : i + suc x ≡ suc i + x = omega arith in
     let f = length-set l i v in
     rw e (overlay-inside vs (set l i v) (suc i) x (omega arith) (omega arith))
-
--- a word before it can be stored first
-pub set-overlay : (vs l : List ℕ) (i j v : ℕ) → i < j → set (overlay l j vs) i v ≡ overlay (set l i v) j vs
-unfolding overlay
-set-overlay [] l i j v h = refl
-set-overlay (u ∷ vs) l i j v h =
-    set-overlay vs (set l j u) i (suc j) v (omega arith) ∙ ap (λ m. overlay m (suc j) vs) (set-comm l j i u v (λ e. omega arith))

@@ -12,9 +12,9 @@ use Rattle.bytes_le.specs.Overlay.{overlay}
 use Rattle.node.proofs.WordOrder.{Tri, less, equal, more, tri}
 use Rattle.node.specs.Word.{nodesOf}
 use Rattle.conjunct.proofs.Words.{map-join}
-use Rattle.sets.proofs.Overlaid.{overlay-before, overlay-beyond, overlay-inside}
+use Rattle.sets.proofs.Overlaid.{overlay-before, overlay-beyond}
 use Rattle.sets.proofs.Rows.{few-is, slot-same, rows-length, rows-at}
-use Rattle.sets.specs.Region.{slotAt, rowsFrom, rowsOf, setOf, Within}
+use Rattle.sets.specs.Region.{slotAt, rowsFrom, rowsOf, setOf, Outside, Within}
 
 map-take : {A B : Type 0} (f : A → B) (n : ℕ) (xs : List A) → map f (take n xs) ≡ take n (map f xs)
 map-take f zero xs = refl
@@ -26,30 +26,17 @@ map-drop f zero xs = refl
 map-drop f (suc n) [] = refl
 map-drop f (suc n) (x ∷ xs) = map-drop f n xs
 
-module _ (s : List ℕ) (b n i : ℕ) (ws : List ℕ) (few′ : n < 64) (in′ : i ≤ n) (fits : b + 7745 ≤ length s) (short : length ws ≤ 120) where
-  -- where the slot goes, how many words move, and the region after each step
+module _ (s u : List ℕ) (b n i : ℕ) (ws : List ℕ) (few′ : n < 64) (in′ : i ≤ n) (fits : b + 7745 ≤ length s) (short : length ws ≤ 120) (u-length : length u ≡ length s)
+    (moved : rowsFrom u (b + 1 + 121 * i + 121) (n - i) ≡ rowsFrom s (b + 1 + 121 * i) (n - i)) (kept : Outside (b + 1 + 121 * i + 121) (121 * (n - i)) s u) where
+  -- where the slot goes, and the region after each step once the slots from there on have moved
   a : ℕ
   a = b + 1 + 121 * i
-
-  m : ℕ
-  m = 121 * (n - i)
-
-  u : List ℕ
-  u = overlay s (a + 121) (take m (drop a s))
 
   v : List ℕ
   v = overlay u a (length ws ∷ ws)
 
   t : List ℕ
   t = set v b (n + 1)
-
-  moved-length : length (take m (drop a s)) ≡ m
-  unfolding a m
-  moved-length = length-take-le m (drop a s) (rw length-drop (omega arith))
-
-  u-length : length u ≡ length s
-  unfolding u
-  u-length = length-overlay (take m (drop a s)) s (a + 121)
 
   v-length : length v ≡ length s
   unfolding v
@@ -61,25 +48,27 @@ module _ (s : List ℕ) (b n i : ℕ) (ws : List ℕ) (few′ : n < 64) (in′ :
 
   -- words before the slot
   low : (x : ℕ) → x < a → (x ≡ b → ⊥) → getD t x 0 ≡ getD s x 0
-  unfolding t v u
-  low x h d =
-      getD-set-other v b x (n + 1) 0 d ∙ overlay-before (length ws ∷ ws) u a x h ∙ overlay-before (take m (drop a s)) s (a + 121) x (omega arith)
+  unfolding t v a
+  low x h d = getD-set-other v b x (n + 1) 0 d ∙ overlay-before (length ws ∷ ws) u a x h ∙ kept x (inl (omega arith))
 
-  -- the words that have moved
-  high : (y : ℕ) → y < m → getD t (a + 121 + y) 0 ≡ getD s (a + y) 0
-  unfolding t v u a m
-  high y h =
-      getD-set-other v b (a + 121 + y) (n + 1) 0 (λ e. omega arith)
-      ∙ overlay-beyond (length ws ∷ ws) u a (a + 121 + y) (omega arith)
-      ∙ overlay-inside (take m (drop a s)) s (a + 121) y (omega (arith, moved-length)) (omega (arith, moved-length))
-      ∙ getD-take m (drop a s) y 0 h
-      ∙ getD-drop a s y 0
+  -- words behind it
+  behind : (x : ℕ) → a + 121 ≤ x → getD t x 0 ≡ getD u x 0
+  unfolding t v a
+  behind x h = getD-set-other v b x (n + 1) 0 (λ e. omega arith) ∙ overlay-beyond (length ws ∷ ws) u a x (omega arith)
+
+  -- the slots that have moved
+  high : (k : ℕ) → k < n - i → slotAt t (a + 121 + 121 * k) ≡ slotAt s (a + 121 * k)
+  unfolding a
+  high k h =
+      slot-same u t (a + 121 + 121 * k) (a + 121 + 121 * k) (omega (arith, u-length)) (omega (arith, t-length)) (λ x g. behind (a + 121 + 121 * k + x) (omega arith))
+      ∙ sym (rows-at (n - i) u (a + 121) k h)
+      ∙ ap (λ r. getD r k []) moved
+      ∙ rows-at (n - i) s a k h
 
   -- words beyond
   beyond : (x : ℕ) → b + 7745 ≤ x → getD t x 0 ≡ getD s x 0
-  unfolding t v u a m
-  beyond x h =
-      getD-set-other v b x (n + 1) 0 (λ e. omega arith) ∙ overlay-beyond (length ws ∷ ws) u a x (omega arith) ∙ overlay-beyond (take m (drop a s)) s (a + 121) x (omega (arith, moved-length))
+  unfolding a
+  beyond x h = behind x (omega arith) ∙ kept x (inr (omega arith))
 
   -- the slot itself
   slot : slotAt t a ≡ ws
@@ -109,7 +98,7 @@ module _ (s : List ℕ) (b n i : ℕ) (ws : List ℕ) (few′ : n < 64) (in′ :
   R = rowsFrom s (b + 1) n
 
   slots : (j : ℕ) → j < n + 1 → slotAt t (b + 1 + 121 * j) ≡ getD (take i R ++ (ws ∷ drop i R)) j []
-  unfolding R a m
+  unfolding R a
   slots j h = go (tri j i)
     where
       len : length (take i R) ≡ i
@@ -125,10 +114,7 @@ module _ (s : List ℕ) (b n i : ℕ) (ws : List ℕ) (few′ : n < 64) (in′ :
           let e : b + 1 + 121 * j ≡ a + 121 + 121 * k = omega arith in
           let f : j ≡ length (take i R) + suc k = omega (arith, len) in
           ap (slotAt t) e
-          ∙ slot-same s t (a + 121 * k) (a + 121 + 121 * k) (omega arith) (omega (arith, t-length)) (λ x g.
-          let q : a + 121 + 121 * k + x ≡ a + 121 + (121 * k + x) = omega arith in
-          let r : a + (121 * k + x) ≡ a + 121 * k + x = omega arith in
-          ap (λ y. getD t y 0) q ∙ high (121 * k + x) (omega arith) ∙ ap (λ y. getD s y 0) r)
+          ∙ high k (omega arith)
           ∙ ap (slotAt s) (slotted k)
           ∙ sym (ap (λ y. getD (take i R ++ (ws ∷ drop i R)) y []) f ∙ getD-append-add (take i R) (ws ∷ drop i R) (suc k) [] ∙ getD-drop i R k [] ∙ rows-at n s (b + 1) (i + k) (omega arith))
         where
@@ -154,7 +140,7 @@ module _ (s : List ℕ) (b n i : ℕ) (ws : List ℕ) (few′ : n < 64) (in′ :
   placed-set =
       rw (placed-count, few-is (n + 1) (omega arith), placed-rows, map-join nodesOf (take i R) (ws ∷ drop i R), map-take nodesOf i R, map-drop nodesOf i R)
 
-  pub placed : (after : List ℕ) → after ≡ set (overlay (overlay s (b + 1 + 121 * i + 121) (take (121 * (n - i)) (drop (b + 1 + 121 * i) s))) (b + 1 + 121 * i) (length ws ∷ ws)) b (n + 1)
+  pub placed : (after : List ℕ) → after ≡ set (overlay u (b + 1 + 121 * i) (length ws ∷ ws)) b (n + 1)
       → (setOf after b ≡ take i (map nodesOf (rowsFrom s (b + 1) n)) ++ (nodesOf ws ∷ drop i (map nodesOf (rowsFrom s (b + 1) n)))) × Within b s after
-  unfolding t v u a m R
+  unfolding t v a R
   placed after e = (ap (λ l. setOf l b) e ∙ placed-set, λ x h. ap (λ l. getD l x 0) e ∙ placed-within x h)

@@ -12,7 +12,7 @@ use lib.Seq.{ext-getD, getD-take, getD-drop, length-take-le, getD-set-same, getD
 use borrow.Author.Tests.{ltb-true}
 use Rattle.model.proofs.Tests.{case}
 use Rattle.node.specs.Word.{nodesOf}
-use Rattle.sets.specs.Region.{few, slotAt, rowsFrom, rowsOf, setOf, Within, Apart}
+use Rattle.sets.specs.Region.{few, slotAt, rowsFrom, rowsOf, setOf, Outside, Within, Apart}
 
 pub few-most : (c : ℕ) → few c ≤ 64
 unfolding few
@@ -27,7 +27,7 @@ few-is c h = case (ltb c 64) (λ z. cond z c 64 ≡ c) (λ p. refl) (λ p. omega
 part-length : (s : List ℕ) (a n : ℕ) → a + n ≤ length s → length (take n (drop a s)) ≡ n
 part-length s a n h = length-take-le n (drop a s) (rw length-drop (omega arith))
 
-part-same : (s t : List ℕ) (a b n : ℕ) → a + n ≤ length s → b + n ≤ length t → ((x : ℕ) → x < n → getD t (b + x) 0 ≡ getD s (a + x) 0) → take n (drop b t) ≡ take n (drop a s)
+pub part-same : (s t : List ℕ) (a b n : ℕ) → a + n ≤ length s → b + n ≤ length t → ((x : ℕ) → x < n → getD t (b + x) 0 ≡ getD s (a + x) 0) → take n (drop b t) ≡ take n (drop a s)
 part-same s t a b n h k f =
     ext-getD 0 (take n (drop b t)) (take n (drop a s)) (part-length t b n k ∙ sym (part-length s a n h)) (λ i g.
     let l : i < n = omega (arith, part-length t b n k) in
@@ -43,6 +43,14 @@ slot-same s t a b h k f =
     let u : a + (x + 1) ≡ a + 1 + x = omega arith in
     let v : b + (x + 1) ≡ b + 1 + x = omega arith in
     ap (λ i. getD t i 0) (sym v) ∙ f (x + 1) (omega arith) ∙ ap (λ i. getD s i 0) u))
+
+-- a slot beside the n words from b on, where nothing else differs
+pub slot-kept : (s t : List ℕ) (b n a : ℕ) → length t ≡ length s → a + 121 ≤ length s → Outside b n s t → (a + 121 ≤ b) ⊎ (b + n ≤ a) → slotAt t a ≡ slotAt s a
+slot-kept s t b n a e h o d = slot-same s t a a h (omega arith) (λ x g. o (a + x) (side d x g))
+  where
+    side : (a + 121 ≤ b) ⊎ (b + n ≤ a) → (x : ℕ) → x < 121 → (a + x < b) ⊎ (b + n ≤ a + x)
+    side (inl p) x g = inl (omega arith)
+    side (inr p) x g = inr (omega arith)
 
 -- ---- rows
 

@@ -1,17 +1,16 @@
--- The loops over the words of slots: read, written, moved up.
+-- The loops over the words of slots: read, written.
 -- Assumes nothing.
-use mathlib.Core.List.{List, [], _∷_}
+use mathlib.Core.List.{List, _∷_}
 use mathlib.Core.Path.{_≡_, sym, ap, ap₂, _∙_}
-use Prim.Native.Nat.{ℕ, suc, _+_, _-_, _<_, _≤_, compare}
+use Prim.Native.Nat.{ℕ, _+_, _<_, _≤_, compare}
 use native.Mathlib.Numerals.{add-one}
 use native.Mathlib.Omega.{arith}
 use lib.ListN.{length, getD, take, drop, set, length-drop}
-use lib.Seq.{take-suc, take-suc-set, drop-cons, getD-drop, getD-take, length-take-le, take-take, drop-length}
+use lib.Seq.{take-suc, take-suc-set, getD-drop, length-take-le, take-take}
 use Rattle.model.specs.Conjunct.{_then_, orderNumbers, order}
 use Rattle.bytes_le.specs.Overlay.{overlay}
 use Rattle.node.proofs.Lists.{conjunct-order}
 use Rattle.node.specs.Word.{nodesOf}
-use Rattle.sets.proofs.Overlaid.{overlay-before, set-overlay}
 use Rattle.sets.specs.Region.{slotAt}
 
 -- ---- read
@@ -45,35 +44,3 @@ slot-order w s m a n g h k f =
 pub written : (s l : List ℕ) (a n : ℕ) → overlay (set s a n) (a + 1) l ≡ overlay s a (n ∷ l)
 unfolding overlay
 written s l a n = rw (add-one a)
-
--- ---- moved up
-
--- the words from k on stand one slot higher
-pub Moved : List ℕ → List ℕ → (a n k : ℕ) → Type 0
-Moved s s₀ a n k = s ≡ overlay s₀ (a + 121 + k) (drop k (take n (drop a s₀)))
-
-part : (s : List ℕ) (a n : ℕ) → a + n ≤ length s → length (take n (drop a s)) ≡ n
-part s a n h = length-take-le n (drop a s) (rw length-drop (omega arith))
-
-pub moved-none : (s : List ℕ) (a n : ℕ) → a + n ≤ length s → Moved s s a n n
-unfolding Moved overlay
-moved-none s a n h =
-    let e : drop n (take n (drop a s)) ≡ [] = ap (λ j. drop j (take n (drop a s))) (sym (part s a n h)) ∙ drop-length (take n (drop a s)) in
-    rw e
-
-pub moved-more : (s s₀ : List ℕ) (a n k j : ℕ) → a + n + 121 ≤ length s₀ → k ≤ n → j + 1 ≡ k → Moved s s₀ a n k → Moved (set s (a + 121 + j) (getD s (a + j) 0)) s₀ a n j
-unfolding Moved overlay
-moved-more s s₀ a n k j h g e m =
-    let P = take n (drop a s₀) in
-    let len : length P ≡ n = part s₀ a n (omega arith) in
-    let next : suc j ≡ k = omega arith in
-    let at : a + 121 + k ≡ suc (a + 121 + j) = omega arith in
-    let word : getD s (a + j) 0 ≡ getD P j 0 =
-    ap (λ x. getD x (a + j) 0) m ∙ overlay-before (drop k P) s₀ (a + 121 + k) (a + j) (omega arith) ∙ sym (getD-take n (drop a s₀) j 0 (omega arith) ∙ getD-drop a s₀ j 0) in
-    let one : drop j P ≡ getD P j 0 ∷ drop k P = drop-cons P j 0 (omega arith) ∙ ap (λ i. getD P j 0 ∷ drop i P) next in
-    rw (word, m, one)
-    (set-overlay (drop k P) s₀ (a + 121 + j) (a + 121 + k) (getD P j 0) (omega arith) ∙ ap (λ i. overlay (set s₀ (a + 121 + j) (getD P j 0)) i (drop k P)) at)
-
-pub moved-all : (s s₀ : List ℕ) (a n : ℕ) → Moved s s₀ a n 0 → s ≡ overlay s₀ (a + 121) (take n (drop a s₀))
-unfolding Moved
-moved-all s s₀ a n m = let e : a + 121 + 0 ≡ a + 121 = omega arith in rw e at m

@@ -34,9 +34,13 @@ rowsOf s b = rowsFrom s (b + 1) (few (getD s b 0))
 unfoldable pub setOf : List ℕ → ℕ → Cond
 setOf s b = map nodesOf (rowsOf s b)
 
+-- nothing outside of the n words from b on differs
+abbrev pub Outside : ℕ → ℕ → List ℕ → List ℕ → Type 0
+Outside b n s t = (i : ℕ) → (i < b) ⊎ (b + n ≤ i) → getD t i 0 ≡ getD s i 0
+
 -- nothing outside of the region at b differs
 abbrev pub Within : ℕ → List ℕ → List ℕ → Type 0
-Within b s t = (i : ℕ) → (i < b) ⊎ (b + 7745 ≤ i) → getD t i 0 ≡ getD s i 0
+Within b s t = Outside b 7745 s t
 
 -- two regions have no word in common
 abbrev pub Apart : ℕ → ℕ → Type 0

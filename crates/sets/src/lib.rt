@@ -2,6 +2,7 @@
 // operation leaves what lies outside of the region that it names. Assumes nothing.
 ghost use mathlib.Core.Path.{_≡_};
 ghost use mathlib.Core.List.{[], _∷_, _++_, map};
+ghost use mathlib.Core.Logic.{_⊎_};
 ghost use Prim.Native.Nat.{_+_, _*_, _<_, _≤_};
 ghost use lib.Dec.{isEq};
 ghost use lib.ListN.{length, getD, take, drop};
@@ -9,7 +10,7 @@ ghost use Rattle.model.specs.Conjunct.{order, orderNodes, same};
 ghost use Rattle.bytes_le.specs.Overlay.{overlay};
 ghost use Rattle.node.specs.Word.{nodesOf};
 ghost use Rattle.conjunct.specs.Value.{conjOf, orderingOf};
-ghost use Rattle.sets.specs.Region.{few, slotAt, rowsFrom, setOf, Within, Apart, Spotted, Inserted, Joined};
+ghost use Rattle.sets.specs.Region.{few, slotAt, rowsFrom, setOf, Outside, Within, Apart, Spotted, Inserted, Joined};
 use conjunct::Order;
 
 // where a conjunct goes: it is there, or before a place
@@ -53,6 +54,19 @@ fn write_slot(s: &mut [u64], a: usize, w: &[u64], n: usize)
     let mut j: usize = 0;
     while j < n {
         s[a + 1 + j] = w[j];
+        j += 1;
+    }
+}
+
+// the conjunct of the slot at `from` to the slot at `to`
+fn copy_slot(s: &mut [u64], to: usize, from: usize)
+    requires { ⌜ (to + 121 ≤ length (now s)) × (from + 121 ≤ length (now s)) × ((to + 121 ≤ from) ⊎ (from + 121 ≤ to)) ⌝ }
+    ensures { λ _. ⌜ (slotAt (now (s .exit)) to ≡ slotAt (now (s .entry)) from) × Outside to 121 (now (s .entry)) (now (s .exit)) ⌝ }
+{
+    let n = 1 + conjunct::capped(s[from] as usize);
+    let mut j: usize = 0;
+    while j < n {
+        s[to + j] = s[from + j];
         j += 1;
     }
 }
@@ -107,15 +121,15 @@ pub fn clear(s: &mut [u64], base: usize)
     s[base] = 0;
 }
 
-// n words from a on moved up by one slot
+// n slots from a on moved up by one slot
 fn shift(s: &mut [u64], a: usize, n: usize)
-    requires { ⌜ a + n + 121 ≤ length (now s) ⌝ }
-    ensures { λ _. ⌜ now (s .exit) ≡ overlay (now (s .entry)) (a + 121) (take n (drop a (now (s .entry)))) ⌝ }
+    requires { ⌜ a + 121 * n + 121 ≤ length (now s) ⌝ }
+    ensures { λ _. ⌜ (rowsFrom (now (s .exit)) (a + 121) n ≡ rowsFrom (now (s .entry)) a n) × Outside (a + 121) (121 * n) (now (s .entry)) (now (s .exit)) ⌝ }
 {
     let mut k = n;
     while k > 0 {
         k -= 1;
-        s[a + 121 + k] = s[a + k];
+        copy_slot(s, a + 121 * k + 121, a + 121 * k);
     }
 }
 
@@ -143,7 +157,7 @@ fn place_at(s: &mut [u64], base: usize, n: usize, i: usize, w: &[u64], m: usize)
     ensures { λ _. ⌜ (setOf (now (s .exit)) base ≡ take i (map nodesOf (rowsFrom (now (s .entry)) (base + 1) n)) ++ (conjOf (now (w .entry)) m ∷ drop i (map nodesOf (rowsFrom (now (s .entry)) (base + 1) n)))) × Within base (now (s .entry)) (now (s .exit)) ⌝ }
 {
     let a = base + 1 + 121 * i;
-    shift(s, a, 121 * (n - i));
+    shift(s, a, n - i);
     write_slot(s, a, w, m);
     s[base] = (n + 1) as u64;
 }
@@ -172,12 +186,13 @@ pub fn copy(s: &mut [u64], to: usize, from: usize)
     requires { ⌜ (to + 7745 ≤ length (now s)) × (from + 7745 ≤ length (now s)) × Apart to from ⌝ }
     ensures { λ _. ⌜ (setOf (now (s .exit)) to ≡ setOf (now (s .entry)) from) × Within to (now (s .entry)) (now (s .exit)) ⌝ }
 {
-    let n = 1 + 121 * at_most(s[from]);
+    let n = at_most(s[from]);
     let mut i: usize = 0;
     while i < n {
-        s[to + i] = s[from + i];
+        copy_slot(s, to + 1 + 121 * i, from + 1 + 121 * i);
         i += 1;
     }
+    s[to] = n as u64;
 }
 
 // with all conjuncts of another region; false where the set would have over 64. `words` is room to

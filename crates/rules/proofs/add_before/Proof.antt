@@ -49,7 +49,7 @@ returns-2 c =
 assign-one-requires : tie.Need-assign-one-requires
 assign-one-requires c κs =
     let g = c .before .before .before .before .before .before .before .before .before .before in
-    (g .pre .0 .0, g .pre .1 (λ e. omega (arith, c .before .before .before .if3 .taken)), g .pre .2, g .pre .3, g .pre .4, g .pre .5, c .before .before .before .if3 .taken, g .pre .7, g .pre .8)
+    (g .pre .0 .0, g .pre .1 (λ e. omega (arith, c .before .before .before .if3 .taken)), g .pre .2, g .pre .3, g .pre .4, g .pre .5, omega (arith, c .before .before .before .if3 .taken), g .pre .7, g .pre .8)
 
 same-length-3 : tie.Need-same-length-3
 same-length-3 c = search needs

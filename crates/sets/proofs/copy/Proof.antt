@@ -1,17 +1,16 @@
 -- `sets::copy` meets its contract. Assumes nothing.
-use mathlib.Core.Path.{_≡_, refl, ap, _∙_}
+use mathlib.Core.Path.{_≡_, refl, _∙_}
 use Prim.Native.Nat.{_+_, _-_, _*_, _≤_}
 use native.Mathlib.Omega.{arith}
-use lib.ListN.{length, take, drop, getD, length-set}
+use lib.ListN.{length, getD, length-set}
 use borrow.Author.Needs.{needs}
-use Rattle.bytes_le.specs.Overlay.{overlay}
-use Rattle.sets.proofs.Copied.{copied-more, copied}
+use Rattle.sets.proofs.Copied.{Copied, copied-none, copied-next, region-copied, slots-apart, slots-before}
 use Rattle.sets.specs.Region.{few}
 use Rattle.sets.proofs.copy.Statement.{statement}
 use Rattle.sets.proofs.copy.Tie as tie
 
 abbrev Inv-loop : tie.InvT-loop
-Inv-loop s₀ to from n i₀ s i = (i ≤ n) × (n ≡ 1 + 121 * few (getD s₀ from 0)) × (length s ≡ length s₀) × (n ≤ 7745) × (s ≡ overlay s₀ to (take i (drop from s₀)))
+Inv-loop s₀ to from n i₀ s i = (i ≤ n) × (n ≡ few (getD s₀ from 0)) × (n ≤ 64) × (length s ≡ length s₀) × Copied s s₀ (to + 1) (from + 1) 0 i
 
 abbrev μ-loop : tie.MeasureT-loop
 μ-loop s₀ to from n i₀ s i = n - i
@@ -25,36 +24,36 @@ slice-read-at-most c = search needs
 at-most-requires : tie.Need-at-most-requires Inv-loop μ-loop
 at-most-requires c κs = search needs
 
-mul-n : tie.Need-mul-n Inv-loop μ-loop
-mul-n c = search needs
-
-add-n : tie.Need-add-n Inv-loop μ-loop
-add-n c = search needs
-
 loop-holds : tie.Need-loop-holds Inv-loop μ-loop
-unfolding overlay
 loop-holds c =
     let a = c .before .before .before .args in
     let e = c .at-most .ensures in
-    (omega arith, ap (λ k. 1 + 121 * k) (e .0), refl, omega arith, refl)
+    (omega arith, e .0, e .1, refl, copied-none (a .s .now) (a .to + 1) (a .from + 1) 0 0 (omega arith))
 
-add-s : tie.Need-add-s Inv-loop μ-loop
-add-s c = search needs
+add-copy-slot : tie.Need-add-copy-slot Inv-loop μ-loop
+add-copy-slot c = search needs
 
-mul-s : tie.Need-mul-s Inv-loop μ-loop
-mul-s c = search needs
+mul-copy-slot : tie.Need-mul-copy-slot Inv-loop μ-loop
+mul-copy-slot c = search needs
 
-slice-read-s : tie.Need-slice-read-s Inv-loop μ-loop
-slice-read-s c = search needs
+add-copy-slot-2 : tie.Need-add-copy-slot-2 Inv-loop μ-loop
+add-copy-slot-2 c = search needs
 
-add-s-2 : tie.Need-add-s-2 Inv-loop μ-loop
-add-s-2 c = search needs
+add-copy-slot-3 : tie.Need-add-copy-slot-3 Inv-loop μ-loop
+add-copy-slot-3 c = search needs
 
-mul-s-2 : tie.Need-mul-s-2 Inv-loop μ-loop
-mul-s-2 c = search needs
+mul-copy-slot-2 : tie.Need-mul-copy-slot-2 Inv-loop μ-loop
+mul-copy-slot-2 c = search needs
 
-slice-write-s : tie.Need-slice-write-s Inv-loop μ-loop
-slice-write-s c = search needs
+add-copy-slot-4 : tie.Need-add-copy-slot-4 Inv-loop μ-loop
+add-copy-slot-4 c = search needs
+
+copy-slot-requires : tie.Need-copy-slot-requires Inv-loop μ-loop
+copy-slot-requires c κs =
+    let a = c .before .before .before .before .before .before .args in
+    let p = c .before .before .before .before .before .before .pre in
+    let lp = c .before .before .loop in
+    (omega arith, omega arith, slots-apart (a .to) (a .from) (lp .i) (omega arith) (p .2))
 
 add-i : tie.Need-add-i Inv-loop μ-loop
 add-i c = search needs
@@ -64,26 +63,35 @@ loop-less c = search needs
 
 loop-again : tie.Need-loop-again Inv-loop μ-loop
 loop-again c =
-    let a = c .before .before .before .before .before .before .args in
-    let p = c .before .before .before .before .before .before .pre in
-    let lp = c .before .before .loop in (
-      omega arith,
-      lp .inv .1,
-      length-set (lp .s) (a .to + lp .i) (getD (lp .s) (a .from + lp .i) 0) ∙ lp .inv .2,
-      lp .inv .3,
-      copied-more (a .s .now) (a .to) (a .from) (p .0) (p .1) (p .2) (lp .s) (lp .i) (omega arith) (lp .inv .4),
-    )
+    let a = c .before .before .before .before .before .before .before .before .before .args in
+    let p = c .before .before .before .before .before .before .before .before .before .pre in
+    let lp = c .before .before .before .before .before .loop in
+    let r = c .before .before .copy-slot in
+    let target = a .to + 1 + 121 * lp .i in
+    let source = a .from + 1 + 121 * lp .i in
+    let next = copied-next (a .s .now) (lp .s) (r .last .0) (a .to + 1) (a .from + 1) 0 (lp .i) 0 (lp .i + 1) (lp .i) (lp .inv .3) (r .kept .0) (omega arith) (omega arith) (omega arith) (omega arith) (omega arith) (omega arith)
+    (λ i x y. absurd (omega arith)) (λ i x y. (omega arith, y)) (lp .inv .4) (slots-before (a .to) (a .from) (lp .i) (omega arith) (p .2)) target source refl refl (r .ensures) in
+    (omega arith, lp .inv .1, lp .inv .2, r .kept .0 ∙ lp .inv .3, next)
+
+mul-s : tie.Need-mul-s Inv-loop μ-loop
+mul-s c = search needs
+
+slice-write-s : tie.Need-slice-write-s Inv-loop μ-loop
+slice-write-s c = search needs
 
 same-length : tie.Need-same-length Inv-loop μ-loop
-same-length c = search needs
+same-length c =
+    let lp = c .before .loop in
+    length-set (lp .s) (c .before .before .before .before .before .args .to) (c .before .before .at-most .result) ∙ lp .inv .3
 
 returns : tie.Need-returns Inv-loop μ-loop
 returns c =
     let a = c .before .before .before .before .before .args in
     let p = c .before .before .before .before .before .pre in
+    let n = c .before .before .at-most .result in
     let lp = c .before .loop in
-    let i : lp .i ≡ 1 + 121 * c .before .before .at-most .result = omega arith in
-    copied (a .s .now) (a .to) (a .from) (p .0) (p .1) (lp .s) (lp .i) (i ∙ lp .inv .1) (lp .inv .4)
+    let e : lp .i ≡ n = omega arith in
+    region-copied (a .s .now) (lp .s) (a .to) (a .from) n (lp .inv .3) (p .0) (lp .inv .1) (rw e at (lp .inv .4))
 
 pub copy-spec : {M : Type 1} → statement M
 copy-spec =
@@ -94,17 +102,18 @@ copy-spec =
     mul-at-most
     slice-read-at-most
     at-most-requires
-    mul-n
-    add-n
     loop-holds
-    add-s
-    mul-s
-    slice-read-s
-    add-s-2
-    mul-s-2
-    slice-write-s
+    add-copy-slot
+    mul-copy-slot
+    add-copy-slot-2
+    add-copy-slot-3
+    mul-copy-slot-2
+    add-copy-slot-4
+    copy-slot-requires
     add-i
     loop-less
     loop-again
+    mul-s
+    slice-write-s
     same-length
     returns)

@@ -1,9 +1,9 @@
 -- `sets::place_at` meets its contract. Assumes nothing.
 use mathlib.Core.List.{_∷_}
 use mathlib.Core.Path.{_≡_, sym, ap, _∙_}
-use Prim.Native.Nat.{_+_, _-_, _*_}
+use Prim.Native.Nat.{_+_, _*_}
 use native.Mathlib.Omega.{arith}
-use lib.ListN.{length, take, drop, set, length-set}
+use lib.ListN.{length, take, set, length-set}
 use lib.Seq.{length-take-le}
 use borrow.Author.Needs.{needs}
 use Rattle.bytes_le.specs.Overlay.{overlay}
@@ -22,9 +22,6 @@ add-a-2 c = search needs
 
 sub-shift : tie.Need-sub-shift
 sub-shift c = search needs
-
-mul-shift : tie.Need-mul-shift
-mul-shift c = search needs
 
 shift-requires : tie.Need-shift-requires
 shift-requires c κs = search needs
@@ -54,10 +51,10 @@ returns c =
     let count : length ws ≡ a .m = length-take-le (a .m) (a .w .now) (p .4) in
     let A = a .base + 1 + 121 * a .i in
     let after = c .before .before .write-slot .last .0 in
-    let moved = overlay (a .s .now) (A + 121) (take (121 * (a .n - a .i)) (drop A (a .s .now))) in
-    let e : after ≡ overlay moved A (length ws ∷ ws) =
-    c .before .before .write-slot .ensures ∙ ap (λ l. overlay l A (a .m ∷ ws)) (c .before .before .before .before .before .before .shift .ensures) ∙ ap (λ k. overlay moved A (k ∷ ws)) (sym count) in
-    placed (a .s .now) (a .base) (a .n) (a .i) ws (p .0) (p .1) (p .2) (omega arith) (set after (a .base) (a .n + 1)) (ap (λ l. set l (a .base) (a .n + 1)) e)
+    let moved = c .before .before .before .before .before .before .shift in
+    let u = moved .last .0 in
+    let e : after ≡ overlay u A (length ws ∷ ws) = c .before .before .write-slot .ensures ∙ ap (λ k. overlay u A (k ∷ ws)) (sym count) in
+    placed (a .s .now) u (a .base) (a .n) (a .i) ws (p .0) (p .1) (p .2) (omega arith) (moved .kept .0) (moved .ensures .0) (moved .ensures .1) (set after (a .base) (a .n + 1)) (ap (λ l. set l (a .base) (a .n + 1)) e)
 
 pub place-at-spec : {M : Type 1} → statement M
 place-at-spec =
@@ -67,7 +64,6 @@ place-at-spec =
     mul-a
     add-a-2
     sub-shift
-    mul-shift
     shift-requires
     write-slot-requires
     add-s

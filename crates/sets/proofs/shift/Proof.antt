@@ -1,67 +1,69 @@
 -- `sets::shift` meets its contract. Assumes nothing.
+use mathlib.Core.Logic.{inl, inr}
 use mathlib.Core.Path.{_≡_, refl, _∙_}
-use Prim.Native.Nat.{_+_, _-_, _≤_}
+use Prim.Native.Nat.{_+_, _-_, _*_, _≤_}
 use native.Mathlib.Omega.{arith}
-use lib.ListN.{length, getD, length-set}
+use lib.ListN.{length}
 use borrow.Author.Needs.{needs}
-use Rattle.sets.proofs.Slots.{Moved, moved-none, moved-more, moved-all}
+use Rattle.sets.proofs.Copied.{Copied, copied-none, copied-next, copied-rows}
 use Rattle.sets.proofs.shift.Statement.{statement}
 use Rattle.sets.proofs.shift.Tie as tie
 
 abbrev Inv-loop : tie.InvT-loop
-Inv-loop s₀ a n k₀ s k = (k ≤ n) × (length s ≡ length s₀) × Moved s s₀ a n k
+Inv-loop s₀ a n k₀ s k = (k ≤ n) × (length s ≡ length s₀) × Copied s s₀ (a + 121) a k n
 
 abbrev μ-loop : tie.MeasureT-loop
 μ-loop s₀ a n k₀ s k = k
 
 loop-holds : tie.Need-loop-holds Inv-loop μ-loop
-loop-holds c = (search needs, refl, moved-none (c .args .s .now) (c .args .a) (c .args .n) (omega arith))
+loop-holds c =
+    let a = c .before .args in
+    (search needs, refl, copied-none (a .s .now) (a .a + 121) (a .a) (a .n) (a .n) (omega arith))
 
 sub-k : tie.Need-sub-k Inv-loop μ-loop
 sub-k c = search needs
 
-add-s : tie.Need-add-s Inv-loop μ-loop
-add-s c = search needs
+mul-copy-slot : tie.Need-mul-copy-slot Inv-loop μ-loop
+mul-copy-slot c = search needs
 
-mul-s : tie.Need-mul-s Inv-loop μ-loop
-mul-s c = search needs
+add-copy-slot : tie.Need-add-copy-slot Inv-loop μ-loop
+add-copy-slot c = search needs
 
-slice-read-s : tie.Need-slice-read-s Inv-loop μ-loop
-slice-read-s c = search needs
+add-copy-slot-2 : tie.Need-add-copy-slot-2 Inv-loop μ-loop
+add-copy-slot-2 c = search needs
 
-add-s-2 : tie.Need-add-s-2 Inv-loop μ-loop
-add-s-2 c = search needs
+mul-copy-slot-2 : tie.Need-mul-copy-slot-2 Inv-loop μ-loop
+mul-copy-slot-2 c = search needs
 
-add-s-3 : tie.Need-add-s-3 Inv-loop μ-loop
-add-s-3 c = search needs
+add-copy-slot-3 : tie.Need-add-copy-slot-3 Inv-loop μ-loop
+add-copy-slot-3 c = search needs
 
-mul-s-2 : tie.Need-mul-s-2 Inv-loop μ-loop
-mul-s-2 c = search needs
-
-slice-write-s : tie.Need-slice-write-s Inv-loop μ-loop
-slice-write-s c = search needs
+copy-slot-requires : tie.Need-copy-slot-requires Inv-loop μ-loop
+copy-slot-requires c κs =
+    (omega arith, omega arith, inr (omega arith))
 
 loop-less : tie.Need-loop-less Inv-loop μ-loop
 loop-less c = search needs
 
 loop-again : tie.Need-loop-again Inv-loop μ-loop
 loop-again c =
-    let a = c .before .before .before .args in
-    let lp = c .before .before .loop in (
-      omega arith,
-      length-set (lp .s) (a .a + 121 + (lp .k - 1)) (getD (lp .s) (a .a + (lp .k - 1)) 0) ∙ lp .inv .1,
-      moved-more (lp .s) (a .s .now) (a .a) (a .n) (lp .k) (lp .k - 1) (omega arith) (omega arith) (omega arith) (lp .inv .2),
-    )
+    let a = c .before .before .before .before .before .before .before .args in
+    let lp = c .before .before .before .before .before .loop in
+    let r = c .before .before .copy-slot in
+    let k = lp .k - 1 in
+    let next = copied-next (a .s .now) (lp .s) (r .last .0) (a .a + 121) (a .a) (lp .k) (a .n) k (a .n) k (lp .inv .1) (r .kept .0) (omega arith) (omega arith) (omega arith) (omega arith) (omega arith) (omega arith)
+    (λ i x y. (omega arith, y)) (λ i x y. absurd (omega arith)) (lp .inv .2) (inl (omega arith)) (a .a + 121 * k + 121) (a .a + 121 * k) (omega arith) refl (r .ensures) in
+    (omega arith, r .kept .0 ∙ lp .inv .1, next)
 
 same-length : tie.Need-same-length Inv-loop μ-loop
 same-length c = search needs
 
 returns : tie.Need-returns Inv-loop μ-loop
 returns c =
-    let a = c .before .before .args in
+    let a = c .before .before .before .args in
     let lp = c .before .loop in
     let e : lp .k ≡ 0 = omega arith in
-    moved-all (lp .s) (a .s .now) (a .a) (a .n) (rw e at (lp .inv .2))
+    copied-rows (lp .s) (a .s .now) (a .a + 121) (a .a) (a .n) (rw e at (lp .inv .2))
 
 pub shift-spec : {M : Type 1} → statement M
 shift-spec =
@@ -71,13 +73,12 @@ shift-spec =
     μ-loop
     loop-holds
     sub-k
-    add-s
-    mul-s
-    slice-read-s
-    add-s-2
-    add-s-3
-    mul-s-2
-    slice-write-s
+    mul-copy-slot
+    add-copy-slot
+    add-copy-slot-2
+    mul-copy-slot-2
+    add-copy-slot-3
+    copy-slot-requires
     loop-less
     loop-again
     same-length

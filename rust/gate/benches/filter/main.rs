@@ -1,7 +1,8 @@
 //! The gate's check beside three evaluators in plain Rust, in one run: ns for each node of a conjunct and
-//! each of its combinations. Each conjunct has 119 nodes and 4 atoms with 32 readings each, 1,048,576
-//! combinations, and holds, so that all are evaluated. The plain ones go by slots and depth first
-//! likewise: in i128, by checked operations of 64 bits, and the independent implementation of the tests.
+//! each of its combinations. Each conjunct has 119 nodes and, if its line says nothing else, 4 atoms with
+//! 32 readings each: 1,048,576 combinations. It holds, so that all are evaluated. The plain ones go by
+//! slots and depth first likewise, one reading after the other: in i128, by checked operations of 64
+//! bits, and the independent implementation of the tests.
 //!
 //!     cargo bench --bench filter
 
@@ -43,12 +44,17 @@ fn width(ty: u8) -> usize {
     1 << (ty % 4)
 }
 
+/// One field with so many readings.
+fn field(ty: u8, count: i64, reading: impl Fn(i64) -> i64) -> Vec<u8> {
+    let mut file = 8u32.to_le_bytes().to_vec();
+    file.extend((count as u32 * width(ty) as u32).to_le_bytes());
+    (0..count).for_each(|i| file.extend(&reading(i).to_le_bytes()[..width(ty)]));
+    file
+}
+
 /// One field with 32 readings.
 fn sheet(ty: u8, reading: impl Fn(i64) -> i64) -> Vec<u8> {
-    let mut file = 8u32.to_le_bytes().to_vec();
-    file.extend((32 * width(ty) as u32).to_le_bytes());
-    (0..32).for_each(|i| file.extend(&reading(i).to_le_bytes()[..width(ty)]));
-    file
+    field(ty, 32, reading)
 }
 
 fn atom(ty: u8, n: u32) -> u64 {
@@ -63,12 +69,18 @@ fn constant(ty: u8, value: u32) -> u64 {
     node(0, ty, 0, value)
 }
 
-/// The sum of 4 atoms, which stand first, and a tail up to 119 nodes.
-fn tailed(ty: u8, tail: &[u64]) -> Vec<u64> {
-    let mut nodes: Vec<u64> = (1..=4).map(|n| atom(ty, n)).collect();
-    nodes.extend([op(2, ty); 3]);
-    nodes.extend(tail.iter().cycle().take(112));
+/// The sum of atoms, which stand first, and a tail up to 119 nodes.
+fn sum(ty: u8, atoms: u32, tail: &[u64]) -> Vec<u64> {
+    let mut nodes: Vec<u64> = (1..=atoms).map(|n| atom(ty, n)).collect();
+    (1..atoms).for_each(|_| nodes.push(op(2, ty)));
+    let rest = 119 - nodes.len();
+    nodes.extend(tail.iter().cycle().take(rest));
     nodes
+}
+
+/// The sum of 4 atoms and a tail.
+fn tailed(ty: u8, tail: &[u64]) -> Vec<u64> {
+    sum(ty, 4, tail)
 }
 
 /// Atoms 28 nodes apart: an atom, then 14 times a constant and an addition.
@@ -93,12 +105,8 @@ fn timed<T>(f: impl FnOnce() -> T) -> f64 {
 /// Runs the deepest conjunct, 20 atoms with 2 readings each, on a stack of so many bytes: a stack that
 /// is too short ends the process.
 fn on_stack(bytes: usize) {
-    let mut nodes: Vec<u64> = (1..=20).map(|n| atom(U32, n)).collect();
-    nodes.extend([op(2, U32); 19]);
-    let condition = write(&[U32], &[nodes]);
-    let mut file = 8u32.to_le_bytes().to_vec();
-    file.extend(8u32.to_le_bytes());
-    file.extend([1, 0, 0, 0, 2, 0, 0, 0]);
+    let condition = write(&[U32], &[sum(U32, 20, &[constant(U32, 1), op(2, U32)])]);
+    let file = field(U32, 2, |i| 1 + i);
     let run = move || proved(&condition, &file);
     let answer = std::thread::Builder::new()
         .stack_size(bytes)
@@ -184,6 +192,18 @@ fn main() {
             sheet(U32, small),
             U32,
         ),
+        (
+            "u32 + - x /, 10 atoms of 4 readings",
+            sum(U32, 10, &pair(U32, &mixed)),
+            field(U32, 4, small),
+            U32,
+        ),
+        (
+            "u32 + - x /, 20 atoms of 2 readings",
+            sum(U32, 20, &pair(U32, &mixed)),
+            field(U32, 2, small),
+            U32,
+        ),
     ];
     println!("| conjunct | proved | i128 | checked | independent | /i128 | /checked | /independent |");
     println!("|---|---|---|---|---|---|---|---|");
@@ -208,5 +228,5 @@ fn main() {
         let ratios = [p / i, p / c, p / o].map(|ratio| format!("{ratio:.2}")).join(" | ");
         println!("| {name} | {p:.2} | {i:.2} | {c:.2} | {o:.2} | {ratios} |");
     }
-    on_stack(65_536);
+    on_stack(262_144);
 }
