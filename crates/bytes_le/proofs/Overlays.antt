@@ -22,6 +22,10 @@ unfolding overlay
 length-overlay [] l i = refl
 length-overlay (v ∷ vs) l i = length-overlay vs (set l i v) (suc i) ∙ length-set l i v
 
+pub overlay-none : (l : List ℕ) (i : ℕ) → l ≡ overlay l i []
+unfolding overlay
+overlay-none l i = refl
+
 pub overlay-append : (xs l : List ℕ) (i : ℕ) (ys : List ℕ) → overlay l i (xs ++ ys) ≡ overlay (overlay l i xs) (i + length xs) ys
 unfolding overlay
 overlay-append [] l i ys = rw add-zero

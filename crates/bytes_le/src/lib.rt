@@ -3,7 +3,7 @@
 // byte changed. Assumes nothing.
 ghost use mathlib.Core.Path.{_≡_};
 ghost use Prim.Native.Nat.{_+_, _^_, _≤_, _<_};
-ghost use lib.ListN.{length};
+ghost use lib.ListN.{length, take};
 ghost use Rattle.model.specs.Bytes.{u16At, u32At, u64At, bytes2, bytes4, bytes8};
 ghost use Rattle.bytes_le.specs.Overlay.{overlay};
 
@@ -58,4 +58,16 @@ pub fn put_u64(out: &mut [u8], a: usize, v: u64)
 {
     put_u32(out, a, v % 4294967296);
     put_u32(out, a + 4, v / 4294967296);
+}
+
+// The first n bytes of a slice to the places from a on.
+pub fn put_bytes(out: &mut [u8], a: usize, from: &[u8], n: usize)
+    requires { ⌜ (n ≤ length (now from)) × (a + n ≤ length (now out)) ⌝ }
+    ensures { λ _. ⌜ now (out .exit) ≡ overlay (now (out .entry)) a (take n (now (from .entry))) ⌝ }
+{
+    let mut i: usize = 0;
+    while i < n {
+        out[a + i] = from[i];
+        i += 1;
+    }
 }

@@ -1,15 +1,13 @@
 -- What the answers of the three operations say together; and what the guard makes of them.
 -- Assumes nothing.
-use mathlib.Core.Path.{_≡_, refl, sym, ap, subst, _∙_}
+use mathlib.Core.Path.{_≡_, refl, sym, ap, _∙_}
 use mathlib.Core.Bool.{Bool, true, false, _&&_}
 use mathlib.Core.List.{List}
-use Prim.Native.Nat.{ℕ, _+_, _-_, _≤_, _<_}
+use Prim.Native.Nat.{ℕ, _-_, _≤_, _<_}
 use lib.Dec.{leb}
 use borrow.Author.Tests.{le-leb, lt-leb, leb-true}
-use lib.ListN.{length, take, drop, getD, set}
+use lib.ListN.{length, take, drop}
 use native.Mathlib.Omega.{arith}
-use Rattle.bytes_le.specs.Overlay.{overlay}
-use Rattle.bytes_le.proofs.Overlays.{overlay-more}
 use Rattle.model.specs.Refusals.{Out, ok, refused, _>>=_, mapped, check, lentTooShort}
 use Rattle.model.specs.Condition.{analysis}
 use Rattle.model.specs.Filter.{filter}
@@ -126,19 +124,3 @@ pub part-first : (s : List ℕ) (n : ℕ) → take (n - 0) (drop 0 s) ≡ take n
 part-first s n =
     let z : n - 0 ≡ n = omega arith in
     ap (λ (k : ℕ). take k s) z
-
--- ---- copying
-
--- nothing stored
-pub stored-none : (l : List ℕ) (i : ℕ) → l ≡ overlay l i (take 0 l)
-unfolding overlay
-stored-none l i = refl
-
-pub same-count : (i n : ℕ) → i ≤ n → n ≤ i → i ≡ n
-same-count i n h k = omega arith
-
--- one byte more stored from the start
-pub stored-more : (d s : List ℕ) (i : ℕ) → i < length s → set (overlay d 0 (take i s)) i (getD s i 0) ≡ overlay d 0 (take (i + 1) s)
-stored-more d s i h =
-    let z : 0 + i ≡ i = omega arith in
-    subst (λ (k : ℕ). set (overlay d 0 (take i s)) k (getD s i 0) ≡ overlay d 0 (take (i + 1) s)) z (overlay-more d 0 s i h)

@@ -3,7 +3,6 @@
 ghost use mathlib.Core.Path.{_≡_};
 ghost use Prim.Native.Nat.{_≤_};
 ghost use lib.ListN.{length, take};
-ghost use Rattle.bytes_le.specs.Overlay.{overlay};
 ghost use Rattle.model.specs.Filter.{filter};
 ghost use Rattle.filter.specs.Verdict.{verdictOf};
 ghost use Rattle.filter.specs.declared.Verdict.the-variants.{Pass};
@@ -18,18 +17,6 @@ pub enum Guarded {
     Ended { end: u8, steps: u64, records: u64 },
     Held,
     Refused(u8),
-}
-
-// The first n bytes of a file over the start of an output.
-fn put(file: &[u8], n: usize, out: &mut [u8])
-    requires { ⌜ (n ≤ length (now file)) × (n ≤ length (now out)) ⌝ }
-    ensures { λ _. ⌜ now (out .exit) ≡ overlay (now (out .entry)) 0 (take n (now (file .entry))) ⌝ }
-{
-    let mut i: usize = 0;
-    while i < n {
-        out[i] = file[i];
-        i += 1;
-    }
 }
 
 // An input that passed: the run, and then the condition file to its output.
@@ -55,7 +42,7 @@ fn run_passed(
             steps,
             records,
         } => {
-            put(file, n, condition);
+            bytes_le::put_bytes(condition, 0, file, n);
             Guarded::Ended {
                 end: end,
                 steps: steps,

@@ -29,10 +29,6 @@ use Rattle.node.specs.Word.{nodeOf, nodesOf, fileBytes}
 pub stored-then : (l m k xs ys : List ℕ) (i j : ℕ) → j ≡ i + length xs → m ≡ overlay l i xs → k ≡ overlay m j ys → k ≡ overlay l i (xs ++ ys)
 stored-then l m k xs ys i j e p q = q ∙ rw (p, e) (sym (overlay-append xs l i ys))
 
-pub stored-none : (l : List ℕ) (i : ℕ) → l ≡ overlay l i []
-unfolding overlay
-stored-none l i = refl
-
 pub stored-eight : (l : List ℕ) (a p q r s t u v w : ℕ)
     → set (set (set (set (set (set (set (set l a p) (a + 1) q) (a + 2) r) (a + 3) s) (a + 4) t) (a + 5) u) (a + 6) v) (a + 7) w
     ≡ overlay l a (p ∷ q ∷ r ∷ s ∷ t ∷ u ∷ v ∷ w ∷ [])

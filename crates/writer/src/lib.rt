@@ -85,17 +85,6 @@ fn put_conjuncts(out: &mut [u8], a: usize, s: &[u64], b: usize, words: &mut [u64
     place
 }
 
-fn put_types(out: &mut [u8], a: usize, types: &[u8])
-    requires { ⌜ a + length (now types) ≤ length (now out) ⌝ }
-    ensures { λ _. ⌜ now (out .exit) ≡ overlay (now (out .entry)) a (now (types .entry)) ⌝ }
-{
-    let mut i: usize = 0;
-    while i < types.len() {
-        out[a + i] = types[i];
-        i += 1;
-    }
-}
-
 // The condition file of the set in the region at b of s, with the types of the program's fields;
 // how many bytes it has.
 pub fn write(program: &[u8], layout: Layout, s: &[u64], b: usize, out: &mut [u8]) -> usize
@@ -108,7 +97,7 @@ pub fn write(program: &[u8], layout: Layout, s: &[u64], b: usize, out: &mut [u8]
     let begin = 8 + fields + 8 * count;
     bytes_le::put_u32(out, 0, count as u64);
     bytes_le::put_u32(out, 4, fields as u64);
-    put_types(out, 8, types);
+    bytes_le::put_bytes(out, 8, types, fields);
     put_pairs(out, 8 + fields, s, b, begin);
     let mut words: [u64; 120] = [0; 120];
     put_conjuncts(out, begin, s, b, &mut words)

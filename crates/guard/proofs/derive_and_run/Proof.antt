@@ -14,19 +14,15 @@ use Rattle.guard.proofs.derive_and_run.Lts as lts
 use Rattle.analysis.proofs.derive.Reads as derive-reads
 use Rattle.guard.proofs.filter_and_run.Reads as filter-and-run-reads
 
--- src/lib.rt:118:9
 derive-requires : tie.Need-derive-requires
 derive-requires c κs = search needs
 
--- src/lib.rt:120:26
 enum-known-derived : tie.Need-enum-known-derived
 enum-known-derived c = search needs
 
--- src/lib.rt:121:26
 enum-known-derived-2 : tie.Need-enum-known-derived-2
 enum-known-derived-2 c = search needs
 
--- src/lib.rt:122:13
 filter-and-run-requires : tie.Need-filter-and-run-requires
 filter-and-run-requires c κs =
     let a = c .before .before .before .before .before .before .before .before .before .before .before .before .before .before .before .before .before .before .before .before .before .args in
@@ -41,15 +37,12 @@ filter-and-run-requires c κs =
     let long : n ≤ length file = omega (arith, d .output .0, pre .0, c .before .before .before .before .before .before .before .before .before .before .before .derive .kept .1 .0) in
     (long, pre .1, d .output .0, omega (arith, words, c .before .before .before .before .before .before .before .before .before .before .before .derive .kept .1 .1 .0), is)
 
--- src/lib.rt:105:1
 same-length : tie.Need-same-length
 same-length c = search needs
 
--- src/lib.rt:105:1
 same-length-2 : tie.Need-same-length-2
 same-length-2 c = search needs
 
--- src/lib.rt:105:1
 returns : tie.Need-returns
 returns c =
     let a = c .before .before .before .before .before .before .before .before .before .before .before .before .before .before .before .before .before .args in
@@ -61,23 +54,18 @@ returns c =
     let d = subst (λ r. Derives (derivation (length (a .file .now)) (length (a .scratch .now)) program) r (a .file .now) file) told (c .before .before .before .before .before .before .before .derive .ensures) in
     (derived-refused program (a .input .now) (a .limit) (a .choices .now) (a .log .now) (length (a .file .now)) (length (a .condition .now)) (length (a .scratch .now)) (pre .0) (pre .1) n (d .answer), refl, refl)
 
--- src/lib.rt:105:1
 same-length-3 : tie.Need-same-length-3
 same-length-3 c = search needs
 
--- src/lib.rt:105:1
 same-length-4 : tie.Need-same-length-4
 same-length-4 c = search needs
 
--- src/lib.rt:105:1
 same-length-5 : tie.Need-same-length-5
 same-length-5 c = search needs
 
--- src/lib.rt:105:1
 same-length-6 : tie.Need-same-length-6
 same-length-6 c = search needs
 
--- src/lib.rt:105:1
 returns-2 : tie.Need-returns-2
 returns-2 c =
     let a = c .before .before .before .before .before .before .before .before .before .before .before .before .before .before .before .before .before .before .before .before .before .before .before .before .before .before .before .before .args in

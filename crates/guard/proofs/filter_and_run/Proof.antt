@@ -14,35 +14,27 @@ use Rattle.guard.proofs.filter_and_run.Lts as lts
 use Rattle.filter.proofs.check.Reads as check-reads
 use Rattle.guard.proofs.run_passed.Reads as run-passed-reads
 
--- src/lib.rt:110:33
 sub-check : tie.Need-sub-check
 sub-check c = search needs
 
--- src/lib.rt:110:33
 part-check-start : tie.Need-part-check-start
 part-check-start c = search needs
 
--- src/lib.rt:110:33
 part-check-end : tie.Need-part-check-end
 part-check-end c = search needs
 
--- src/lib.rt:110:9
 check-requires : tie.Need-check-requires
 check-requires c κs = search needs
 
--- src/lib.rt:112:26
 enum-known-verdict : tie.Need-enum-known-verdict
 enum-known-verdict c = search needs
 
--- src/lib.rt:113:26
 enum-told : tie.Need-enum-told
 enum-told c = search needs
 
--- src/lib.rt:114:69
 enum-told-2 : tie.Need-enum-told-2
 enum-told-2 c = search needs
 
--- src/lib.rt:114:26
 run-passed-requires : tie.Need-run-passed-requires
 run-passed-requires c κs =
     let g = c .before .before .before .before .before .before .before .before .before .before .before .before .before .before in
@@ -51,7 +43,6 @@ run-passed-requires c κs =
     let passes = sym (ap verdictOf (c .before .before .before .enum-told2 .given .1)) ∙ c .before .before .before .before .before .check .ensures ∙ ap (λ (C : List ℕ). filter C input) (part-first file (g .args .n)) in
     (g .pre .0, g .pre .1, g .pre .2, g .pre .3, g .pre .4, passes)
 
--- src/lib.rt:96:1
 returns : tie.Need-returns
 returns c =
     let g = c .before .before .before .before .before .before .before .before .before .before .before .before in
@@ -61,7 +52,6 @@ returns c =
     let f = sym (ap (λ (C : List ℕ). filter C input) (part-first file (g .args .n))) ∙ sym (c .before .before .before .check .ensures) ∙ ap verdictOf (c .before .verdict .given .1) in
     (not-filtered (g .args .program .now) input (g .args .limit) (g .args .choices .now) (g .args .log .now) (take (g .args .n) file) (derived-analysis (g .args .program .now) (g .args .n) file (g .pre .4)) n f, refl, refl)
 
--- src/lib.rt:96:1
 returns-2 : tie.Need-returns-2
 returns-2 c =
     let g = c .before .before .before .before .before .before .before .before .before .before .before in
@@ -70,19 +60,15 @@ returns-2 c =
     let f = sym (ap (λ (C : List ℕ). filter C input) (part-first file (g .args .n))) ∙ sym (c .before .before .check .ensures) ∙ ap verdictOf (c .enum-told .given .1) in
     (is-held (g .args .program .now) input (g .args .limit) (g .args .choices .now) (g .args .log .now) (take (g .args .n) file) (derived-analysis (g .args .program .now) (g .args .n) file (g .pre .4)) f, refl, refl)
 
--- src/lib.rt:96:1
 same-length : tie.Need-same-length
 same-length c = search needs
 
--- src/lib.rt:96:1
 same-length-2 : tie.Need-same-length-2
 same-length-2 c = search needs
 
--- src/lib.rt:96:1
 same-length-3 : tie.Need-same-length-3
 same-length-3 c = search needs
 
--- src/lib.rt:96:1
 returns-3 : tie.Need-returns-3
 returns-3 c = search needs
 

@@ -9,33 +9,26 @@ use Rattle.guard.proofs.run.Reads as reads
 use Rattle.guard.proofs.run.Lts as lts
 use Rattle.guard.proofs.derive_and_run.Reads as derive-and-run-reads
 
--- src/lib.rt:140:9
 returns : tie.Need-returns
 returns c =
     let a = c .before .before .before .before .before .before .before .args in
     (output-short (a .program .now) (a .input .now) (a .limit) (a .choices .now) (a .log .now) (length (a .condition .now)) (length (a .scratch .now)) (c .if1 .taken), refl, refl)
 
--- src/lib.rt:143:57
 slice-aggregate-derive-and-run : tie.Need-slice-aggregate-derive-and-run
 slice-aggregate-derive-and-run c = search needs
 
--- src/lib.rt:143:5
 derive-and-run-requires : tie.Need-derive-and-run-requires
 derive-and-run-requires c κs = search needs
 
--- src/lib.rt:128:1
 same-length : tie.Need-same-length
 same-length c = search needs
 
--- src/lib.rt:128:1
 same-length-2 : tie.Need-same-length-2
 same-length-2 c = search needs
 
--- src/lib.rt:128:1
 same-length-3 : tie.Need-same-length-3
 same-length-3 c = search needs
 
--- src/lib.rt:128:1
 returns-2 : tie.Need-returns-2
 returns-2 c = c .before .before .before .before .before .before .before .derive-and-run .ensures
 

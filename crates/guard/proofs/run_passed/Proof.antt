@@ -1,6 +1,5 @@
 -- `guard::run_passed` meets its contract. Assumes nothing.
-use mathlib.Core.Path.{_≡_, refl, sym, ap, subst, _∙_}
-use Prim.Native.Nat.{ℕ}
+use mathlib.Core.Path.{refl, sym, ap, subst, _∙_}
 use lib.ListN.{length, take}
 use borrow.Author.Needs.{needs}
 use Rattle.model.specs.Refusals.{ok, refused}
@@ -9,35 +8,25 @@ use Rattle.interpreter.specs.Answers.{answerOf, Kept}
 use Rattle.guard.proofs.Apart.{apart, derived-analysis, not-run, is-run, ran-lent}
 use Rattle.guard.proofs.run_passed.Statement.{statement}
 use Rattle.guard.proofs.run_passed.Tie as tie
-use Rattle.guard.proofs.run_passed.Reads as reads
-use Rattle.guard.proofs.run_passed.Lts as lts
-use Rattle.guard.proofs.put.Reads as put-reads
 
--- src/lib.rt:76:9
 run-requires : tie.Need-run-requires
 run-requires c κs = search needs
 
--- src/lib.rt:78:22
 enum-known-ran : tie.Need-enum-known-ran
 enum-known-ran c = search needs
 
--- src/lib.rt:80:13
 enum-known-ran-2 : tie.Need-enum-known-ran-2
 enum-known-ran-2 c = search needs
 
--- src/lib.rt:84:13
-put-requires : tie.Need-put-requires
-put-requires c κs = search needs
+put-bytes-requires : tie.Need-put-bytes-requires
+put-bytes-requires c κs = search needs
 
--- src/lib.rt:62:1
 same-length : tie.Need-same-length
 same-length c = search needs
 
--- src/lib.rt:62:1
 same-length-2 : tie.Need-same-length-2
 same-length-2 c = search needs
 
--- src/lib.rt:62:1
 returns : tie.Need-returns
 returns c =
     let a = c .before .before .before .before .before .before .before .before .before .before .before .before .before .before .before .before .before .args in
@@ -52,19 +41,15 @@ returns c =
     let r = ran-lent words program input (a .limit) (a .choices .now) (a .log .now) (refused n) (pre .3) (sym (ap (λ o. answerOf o log′) told) ∙ e .0) in
     (not-run program input (a .limit) (a .choices .now) (a .log .now) (take (a .n) (a .file .now)) (derived-analysis program (a .n) (a .file .now) (pre .4)) n (sym (pre .5)) r, refl, subst (λ o. Kept o (a .log .now) log′) told (e .1))
 
--- src/lib.rt:62:1
 same-length-3 : tie.Need-same-length-3
 same-length-3 c = search needs
 
--- src/lib.rt:62:1
 same-length-4 : tie.Need-same-length-4
 same-length-4 c = search needs
 
--- src/lib.rt:62:1
 same-length-5 : tie.Need-same-length-5
 same-length-5 c = search needs
 
--- src/lib.rt:62:1
 returns-2 : tie.Need-returns-2
 returns-2 c =
     let a = c .before .before .before .before .before .before .before .before .before .before .before .before .before .before .before .before .before .before .before .before .before .args in
@@ -79,7 +64,7 @@ returns-2 c =
     let e = c .before .before .before .before .before .before .before .before .before .before .before .run .ensures in
     let words = length (a .scratch .now) in
     let r = ran-lent words program input (a .limit) (a .choices .now) (a .log .now) (ok R) (pre .3) (sym (ap (λ o. answerOf o log′) told) ∙ e .0) in (
-      (C, is-run program input (a .limit) (a .choices .now) (a .log .now) C (derived-analysis program (a .n) (a .file .now) (pre .4)) R (sym (pre .5)) r, c .before .before .put .ensures),
+      (C, is-run program input (a .limit) (a .choices .now) (a .log .now) C (derived-analysis program (a .n) (a .file .now) (pre .4)) R (sym (pre .5)) r, c .before .before .put-bytes .ensures),
       apart program input (a .limit) (a .choices .now) (a .log .now) (pre .4 .output) (pre .4 .words) words (a .n) (pre .4 .before) (a .file .now) (R .end) (R .steps) (R .records) log′ (pre .4 .derives) (pre .5) (sym (ap (λ o. answerOf o log′) told) ∙ e .0),
     )
 
@@ -90,7 +75,7 @@ run-passed-spec =
     run-requires
     enum-known-ran
     enum-known-ran-2
-    put-requires
+    put-bytes-requires
     same-length
     same-length-2
     returns

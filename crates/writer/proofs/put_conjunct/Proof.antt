@@ -6,12 +6,13 @@ use native.Mathlib.Omega.{arith}
 use lib.ListN.{length, take, getD}
 use lib.Seq.{take-all}
 use borrow.Author.Needs.{needs}
+use Rattle.bytes_le.proofs.Overlays.{overlay-none}
 use Rattle.model.proofs.Formed.{FileNode}
 use Rattle.model.specs.Condition.{conjunctBytes}
 use Rattle.model.specs.Lists.{All}
 use Rattle.bytes_le.specs.Overlay.{overlay}
 use Rattle.conjunct.specs.Value.{conjOf}
-use Rattle.writer.proofs.Written.{stored-none, word-at, words-count, conjunct-more}
+use Rattle.writer.proofs.Written.{word-at, words-count, conjunct-more}
 use Rattle.writer.proofs.put_conjunct.Statement.{statement}
 use Rattle.writer.proofs.put_conjunct.Tie as tie
 
@@ -25,7 +26,7 @@ loop-holds : tie.Need-loop-holds Inv-loop μ-loop
 unfolding conjunctBytes flatMap
 loop-holds c =
     let a = c .before .before .args in
-    (search needs, search needs, λ types f. stored-none (a .out .now) (a .a))
+    (search needs, search needs, λ types f. overlay-none (a .out .now) (a .a))
 
 mul-put-high-first : tie.Need-mul-put-high-first Inv-loop μ-loop
 mul-put-high-first c = search needs

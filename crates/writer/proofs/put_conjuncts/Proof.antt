@@ -7,6 +7,7 @@ use native.Mathlib.Omega.{arith}
 use lib.ListN.{length, take, getD}
 use lib.Seq.{take-all}
 use borrow.Author.Needs.{needs}
+use Rattle.bytes_le.proofs.Overlays.{overlay-none}
 use Rattle.model.proofs.FileBytes.{size}
 use Rattle.model.proofs.Formed.{FileNode}
 use Rattle.model.specs.Condition.{conjunctBytes}
@@ -14,7 +15,7 @@ use Rattle.model.specs.Lists.{All}
 use Rattle.bytes_le.specs.Overlay.{overlay}
 use Rattle.conjunct.specs.Value.{conjOf}
 use Rattle.sets.specs.Region.{setOf}
-use Rattle.writer.proofs.Written.{stored-none, size-more, conjuncts-more}
+use Rattle.writer.proofs.Written.{size-more, conjuncts-more}
 use Rattle.writer.proofs.put_conjuncts.Statement.{statement}
 use Rattle.writer.proofs.put_conjuncts.Tie as tie
 
@@ -31,7 +32,7 @@ loop-holds : tie.Need-loop-holds Inv-loop μ-loop
 unfolding flatMap
 loop-holds c =
     let a = c .before .before .before .before .args in
-    (search needs, search needs, search needs, search needs, search needs, search needs, search needs, search needs, λ types f. stored-none (a .out .now) (a .a))
+    (search needs, search needs, search needs, search needs, search needs, search needs, search needs, search needs, λ types f. overlay-none (a .out .now) (a .a))
 
 get-requires : tie.Need-get-requires Inv-loop μ-loop
 get-requires c κs = search needs

@@ -6,11 +6,12 @@ use native.Mathlib.Omega.{arith}
 use lib.ListN.{length, take}
 use lib.Seq.{take-all}
 use borrow.Author.Needs.{needs}
+use Rattle.bytes_le.proofs.Overlays.{overlay-none}
 use Rattle.model.proofs.FileBytes.{size}
 use Rattle.model.specs.Condition.{pairBytes}
 use Rattle.bytes_le.specs.Overlay.{overlay}
 use Rattle.sets.specs.Region.{setOf}
-use Rattle.writer.proofs.Written.{stored-none, size-more, pairs-more}
+use Rattle.writer.proofs.Written.{size-more, pairs-more}
 use Rattle.writer.proofs.put_pairs.Statement.{statement}
 use Rattle.writer.proofs.put_pairs.Tie as tie
 
@@ -27,7 +28,7 @@ loop-holds : tie.Need-loop-holds Inv-loop μ-loop
 unfolding pairBytes
 loop-holds c =
     let a = c .before .before .before .args in
-    (search needs, search needs, search needs, search needs, search needs, search needs, search needs, search needs, stored-none (a .out .now) (a .a))
+    (search needs, search needs, search needs, search needs, search needs, search needs, search needs, search needs, overlay-none (a .out .now) (a .a))
 
 node-count-requires : tie.Need-node-count-requires Inv-loop μ-loop
 node-count-requires c κs = search needs

@@ -1,9 +1,11 @@
 -- `writer::write` meets its contract. Assumes nothing.
-use mathlib.Core.Path.{_≡_, ap}
+use mathlib.Core.Path.{_≡_, ap, _∙_}
 use Prim.Native.Nat.{_+_, _*_}
 use native.Mathlib.Omega.{arith}
 use lib.ListN.{length}
+use lib.Seq.{take-all}
 use borrow.Author.Needs.{needs}
+use Rattle.bytes_le.specs.Overlay.{overlay}
 use Rattle.model.proofs.FileBytes.{size}
 use Rattle.program.specs.Reading.{tablesOf}
 use Rattle.sets.specs.Region.{setOf}
@@ -36,12 +38,12 @@ put-u32-requires-2 c κs =
     let types = ap length (c .before .before .before .before .before .before .field-types .ensures) in
     omega arith
 
-put-types-requires : tie.Need-put-types-requires
-put-types-requires c κs =
+put-bytes-requires : tie.Need-put-bytes-requires
+put-bytes-requires c κs =
     let a = c .before .before .before .before .before .before .before .before .before .before .before .before .before .before .args in
     let few = fields-few (a .program .now) (a .layout) (c .before .before .before .before .before .before .before .before .before .before .before .before .before .before .pre .0) in
     let types = ap length (c .before .before .before .before .before .before .before .before .before .before .field-types .ensures) in
-    omega arith
+    (omega arith, omega arith)
 
 add-put-pairs : tie.Need-add-put-pairs
 add-put-pairs c = search needs
@@ -81,7 +83,7 @@ returns c =
       file-length types S formed (put .result) last,
       omega (arith, put .ensures .1, count .ensures .1),
       file-stored types S (copied .result .now) (count .result) (copied .ensures) (count .ensures .0) (a .out .now) _ _ _ _ (put .last .0)
-          (c .before .before .before .before .before .before .before .before .before .before .before .before .before .before .before .before .before .before .before .before .put-u32 .ensures) (c .before .before .before .before .before .before .before .before .before .before .before .before .before .before .before .before .put-u322 .ensures) (c .before .before .before .before .before .before .before .before .before .before .before .before .put-types .ensures) (c .before .before .before .before .before .before .before .before .put-pairs .ensures) (put .ensures .2 types (nodes-of-file types S formed)),
+          (c .before .before .before .before .before .before .before .before .before .before .before .before .before .before .before .before .before .before .before .before .put-u32 .ensures) (c .before .before .before .before .before .before .before .before .before .before .before .before .before .before .before .before .put-u322 .ensures) (c .before .before .before .before .before .before .before .before .before .before .before .before .put-bytes .ensures ∙ ap (overlay _ 8) (take-all (length (copied .result .now)) (copied .result .now) (omega arith))) (c .before .before .before .before .before .before .before .before .put-pairs .ensures) (put .ensures .2 types (nodes-of-file types S formed)),
     )
 
 pub write-spec : {M : Type 1} → statement M
@@ -95,7 +97,7 @@ write-spec =
     add-begin-2
     put-u32-requires
     put-u32-requires-2
-    put-types-requires
+    put-bytes-requires
     add-put-pairs
     put-pairs-requires
     slice-aggregate-put-conjuncts

@@ -1,24 +1,25 @@
--- `writer::put_types` meets its contract. Assumes nothing.
+-- `bytes_le::put_bytes` meets its contract. Assumes nothing.
 use mathlib.Core.Path.{_≡_, ap, _∙_}
-use Prim.Native.Nat.{_+_, _-_, _≤_}
+use Prim.Native.Nat.{ℕ, _+_, _-_, _≤_}
 use native.Mathlib.Omega.{arith}
 use lib.ListN.{length, take, getD, set, length-set}
-use lib.Seq.{take-all}
 use borrow.Author.Needs.{needs}
-use Rattle.bytes_le.proofs.Overlays.{overlay-more}
+use Rattle.bytes_le.proofs.Overlays.{overlay-none, overlay-more}
 use Rattle.bytes_le.specs.Overlay.{overlay}
-use Rattle.writer.proofs.Written.{stored-none}
-use Rattle.writer.proofs.put_types.Statement.{statement}
-use Rattle.writer.proofs.put_types.Tie as tie
+use Rattle.bytes_le.proofs.put_bytes.Statement.{statement}
+use Rattle.bytes_le.proofs.put_bytes.Tie as tie
+
+same-count : (i n : ℕ) → i ≤ n → n ≤ i → i ≡ n
+same-count i n h k = omega arith
 
 abbrev Inv-loop : tie.InvT-loop
-Inv-loop out₀ a types i₀ out i = (i ≤ length types) × (length out ≡ length out₀) × (out ≡ overlay out₀ a (take i types)) × (a + length types ≤ length out₀)
+Inv-loop out₀ a from n i₀ out i = (i ≤ n) × (length out ≡ length out₀) × (out ≡ overlay out₀ a (take i from)) × (n ≤ length from) × (a + n ≤ length out₀)
 
 abbrev μ-loop : tie.MeasureT-loop
-μ-loop out₀ a types i₀ out i = length types - i
+μ-loop out₀ a from n i₀ out i = n - i
 
 loop-holds : tie.Need-loop-holds Inv-loop μ-loop
-loop-holds c = (search needs, search needs, stored-none (c .args .out .now) (c .args .a), search needs)
+loop-holds c = (search needs, search needs, overlay-none (c .args .out .now) (c .args .a), search needs, search needs)
 
 shared-slice-read-out : tie.Need-shared-slice-read-out Inv-loop μ-loop
 shared-slice-read-out c = search needs
@@ -39,11 +40,12 @@ loop-again : tie.Need-loop-again Inv-loop μ-loop
 loop-again c =
     let a = c .before .before .before .args in
     let lp = c .before .before .loop in
-    let v = getD (a .types .now) (lp .i) 0 in (
+    let v = getD (a .from .now) (lp .i) 0 in (
       omega arith,
       length-set (lp .out) (a .a + lp .i) v ∙ lp .inv .1,
-      ap (λ l. set l (a .a + lp .i) v) (lp .inv .2) ∙ overlay-more (a .out .now) (a .a) (a .types .now) (lp .i) (omega arith),
+      ap (λ l. set l (a .a + lp .i) v) (lp .inv .2) ∙ overlay-more (a .out .now) (a .a) (a .from .now) (lp .i) (omega arith),
       lp .inv .3,
+      lp .inv .4,
     )
 
 same-length : tie.Need-same-length Inv-loop μ-loop
@@ -53,10 +55,10 @@ returns : tie.Need-returns Inv-loop μ-loop
 returns c =
     let a = c .before .before .args in
     let lp = c .before .loop in
-    lp .inv .2 ∙ ap (overlay (a .out .now) (a .a)) (take-all (lp .i) (a .types .now) (omega arith))
+    lp .inv .2 ∙ ap (λ k. overlay (a .out .now) (a .a) (take k (a .from .now))) (same-count (lp .i) (a .n) (lp .inv .0) (omega arith))
 
-pub put-types-spec : {M : Type 1} → statement M
-put-types-spec =
+pub put-bytes-spec : {M : Type 1} → statement M
+put-bytes-spec =
     tie.close
     (tie.spec
     Inv-loop
