@@ -26,7 +26,7 @@ fn refusal(n: u8) -> u64
 pub extern "C" fn gate_scratch() -> u64
     ensures { λ r. ⌜ r ≡ 85195 ⌝ }
 {
-    85195
+    analysis::SCRATCH as u64
 }
 
 // The condition of a recipe: the file's length.
