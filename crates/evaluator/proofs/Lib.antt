@@ -10,9 +10,14 @@ pub mod Operands
 pub mod Filling
 pub mod Stretches
 pub mod Turns
-pub mod Wide
 pub mod Counting
 pub mod Answers
 pub mod Parts
 pub mod Calls
+pub mod Runs
 pub mod Columns
+pub mod Rows
+pub mod Lending
+pub mod Loans
+pub mod Abreast
+pub mod Coming

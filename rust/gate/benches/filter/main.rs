@@ -44,12 +44,21 @@ fn width(ty: u8) -> usize {
     1 << (ty % 4)
 }
 
+/// Fields of one type, each with so many readings.
+fn fields(ty: u8, counts: &[i64], reading: impl Fn(i64) -> i64) -> Vec<u8> {
+    let (mut table, mut body): (Vec<u8>, Vec<u8>) = (Vec::new(), Vec::new());
+    for &count in counts {
+        table.extend((8 * counts.len() as u32 + body.len() as u32).to_le_bytes());
+        table.extend((count as u32 * width(ty) as u32).to_le_bytes());
+        (0..count).for_each(|i| body.extend(&reading(i).to_le_bytes()[..width(ty)]));
+    }
+    table.extend(body);
+    table
+}
+
 /// One field with so many readings.
 fn field(ty: u8, count: i64, reading: impl Fn(i64) -> i64) -> Vec<u8> {
-    let mut file = 8u32.to_le_bytes().to_vec();
-    file.extend((count as u32 * width(ty) as u32).to_le_bytes());
-    (0..count).for_each(|i| file.extend(&reading(i).to_le_bytes()[..width(ty)]));
-    file
+    fields(ty, &[count], reading)
 }
 
 /// One field with 32 readings.
@@ -70,12 +79,17 @@ fn constant(ty: u8, value: u32) -> u64 {
 }
 
 /// The sum of atoms, which stand first, and a tail up to 119 nodes.
-fn sum(ty: u8, atoms: u32, tail: &[u64]) -> Vec<u64> {
-    let mut nodes: Vec<u64> = (1..=atoms).map(|n| atom(ty, n)).collect();
-    (1..atoms).for_each(|_| nodes.push(op(2, ty)));
+fn sum_of(ty: u8, atoms: impl Iterator<Item = u64>, tail: &[u64]) -> Vec<u64> {
+    let mut nodes: Vec<u64> = atoms.collect();
+    (1..nodes.len()).for_each(|_| nodes.push(op(2, ty)));
     let rest = 119 - nodes.len();
     nodes.extend(tail.iter().cycle().take(rest));
     nodes
+}
+
+/// The same with so many atoms of one field.
+fn sum(ty: u8, atoms: u32, tail: &[u64]) -> Vec<u64> {
+    sum_of(ty, (1..=atoms).map(|n| atom(ty, n)), tail)
 }
 
 /// The sum of 4 atoms and a tail.
@@ -83,12 +97,12 @@ fn tailed(ty: u8, tail: &[u64]) -> Vec<u64> {
     sum(ty, 4, tail)
 }
 
-/// Atoms 28 nodes apart: an atom, then 14 times a constant and an addition.
-fn spread(ty: u8) -> Vec<u64> {
+/// The sum of atoms that stand apart: an atom, then so many times a constant and an addition.
+fn spread(ty: u8, atoms: u32, pairs: usize) -> Vec<u64> {
     let mut nodes = Vec::new();
-    for n in 1..=4 {
+    for n in 1..=atoms {
         nodes.push(atom(ty, n));
-        (0..14).for_each(|_| nodes.extend([constant(ty, 1), op(2, ty)]));
+        (0..pairs).for_each(|_| nodes.extend([constant(ty, 1), op(2, ty)]));
         if n > 1 {
             nodes.push(op(2, ty));
         }
@@ -188,7 +202,7 @@ fn main() {
         ),
         (
             "u32 additions, atoms 29 nodes apart",
-            spread(U32),
+            spread(U32, 4, 14),
             sheet(U32, small),
             U32,
         ),
@@ -204,11 +218,24 @@ fn main() {
             field(U32, 2, small),
             U32,
         ),
+        (
+            "u32 additions, 20 atoms of 2 readings 6 nodes apart",
+            spread(U32, 20, 2),
+            field(U32, 2, small),
+            U32,
+        ),
+        (
+            "u32 + - x /, fields of 64, 64, 128 and 2 readings",
+            sum_of(U32, (0..4).map(|f| node(1, U32, f, 1)), &pair(U32, &mixed)),
+            fields(U32, &[64, 64, 128, 2], small),
+            U32,
+        ),
     ];
     println!("| conjunct | proved | i128 | checked | independent | /i128 | /checked | /independent |");
     println!("|---|---|---|---|---|---|---|---|");
     for (name, nodes, sheet, ty) in cases.into_iter() {
-        let condition = write(&[ty], &[nodes.clone()]);
+        let fields = u32::from_le_bytes(sheet[..4].try_into().unwrap()) / 8;
+        let condition = write(&vec![ty; fields as usize], &[nodes.clone()]);
         assert!(proved(&condition, &sheet), "{name}");
         assert!(plain::wide(&condition, &sheet), "{name}");
         assert!(plain::checked(&condition, &sheet), "{name}");
