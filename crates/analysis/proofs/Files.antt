@@ -9,7 +9,7 @@ use lib.ListN.{length, take}
 use lib.Seq.{take-take}
 use borrow.Author.Tests.{le-leb, lt-leb}
 use Rattle.model.specs.Condition.{encode, analysis}
-use Rattle.model.specs.Conjunct.{Cond}
+use Rattle.model.specs.Conjunct.{Conjuncts}
 use Rattle.model.specs.Lists.{All}
 use Rattle.model.specs.Program.{Program, Tables, layoutOf, readProgram}
 use Rattle.model.specs.Refusals.{Out, ok, refused, _>>=_, mapped}
@@ -18,7 +18,7 @@ use Rattle.model.proofs.Derives.{derived-formed}
 use Rattle.model.proofs.Formed.{Formed}
 use Rattle.bytes_le.specs.Overlay.{overlay}
 use Rattle.bytes_le.proofs.Overlays.{overlay-read}
-use Rattle.program.specs.Reading.{answerOf, tablesOf}
+use Rattle.program.specs.Reading.{programAnswer, tablesOf}
 use Rattle.program.specs.declared.ProgramRead.{ProgramRead}
 use Rattle.program.specs.declared.ProgramRead.the-variants.{Refused as NotRead}
 use Rattle.program.proofs.Known.{tables-read}
@@ -42,7 +42,7 @@ module _ (s : List ℕ) (P : Program) (e : readProgram s ≡ ok P) where
   pub derives-refusal : (k : ℕ) (out : List ℕ) → derived (P .code) ≡ refused k → Derives (analysis s) (Refused k) out out
   derives-refusal k out d = record { answer = then-derived ∙ ap (_>>= λ S. ok (encode (P .tables .fields) S)) d; output = refl }
 
-  module _ (S : Cond) (d : derived (P .code) ≡ ok S) where
+  module _ (S : Conjuncts) (d : derived (P .code) ≡ ok S) where
     pub set-formed : All (Formed (tablesOf s .fields)) S
     set-formed = subst (λ (T : Tables). All (Formed (T .fields)) S) (tables-read s P e) (derived-formed s P S e d)
 
@@ -65,10 +65,10 @@ not-read : {A B : Type 0} (f : A → B) (o : Out A) (k : ℕ) → refused k ≡ 
 not-read f (ok a) k e = let z : true ≡ false = cc in absurd (true≢false z)
 not-read f (refused m) k e = cc
 
-unread-refusal : (s : List ℕ) (r : ProgramRead) (k : ℕ) (out : List ℕ) → answerOf r ≡ mapped (λ P. layoutOf s) (readProgram s) → r ≡ NotRead k → Derives (analysis s) (Refused k) out out
+unread-refusal : (s : List ℕ) (r : ProgramRead) (k : ℕ) (out : List ℕ) → programAnswer r ≡ mapped (λ P. layoutOf s) (readProgram s) → r ≡ NotRead k → Derives (analysis s) (Refused k) out out
 unfolding analysis
 unread-refusal s r k out h e =
-    let n = not-read (λ P. layoutOf s) (readProgram s) k (sym (ap answerOf e) ∙ h) in
+    let n = not-read (λ P. layoutOf s) (readProgram s) k (sym (ap programAnswer e) ∙ h) in
     record { answer = ap (λ o. o >>= λ Q. derived (Q .code) >>= λ S. ok (encode (Q .tables .fields) S)) n; output = refl }
 
 -- ---- what is lent
@@ -86,6 +86,6 @@ module _ (output scratch : ℕ) (s : List ℕ) where
   unfolding derivation
   enough k h = rw (le-leb 61992 output k, le-leb 85195 scratch h)
 
-  pub unread-refused : 61992 ≤ output → 85195 ≤ scratch → (r : ProgramRead) (k : ℕ) (out : List ℕ) → answerOf r ≡ mapped (λ P. layoutOf s) (readProgram s) → r ≡ NotRead k
+  pub unread-refused : 61992 ≤ output → 85195 ≤ scratch → (r : ProgramRead) (k : ℕ) (out : List ℕ) → programAnswer r ≡ mapped (λ P. layoutOf s) (readProgram s) → r ≡ NotRead k
       → Derives (derivation output scratch s) (Refused k) out out
   unread-refused m h r k out e d = subst (λ o. Derives o (Refused k) out out) (enough m h) (unread-refusal s r k out e d)

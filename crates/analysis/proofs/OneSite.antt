@@ -7,7 +7,7 @@ use Prim.Native.Nat.{ℕ, _≤_, _<_}
 use native.Mathlib.Omega.{arith}
 use lib.ListN.{length}
 use Rattle.model.specs.Code.{site, done, step}
-use Rattle.model.specs.Conjunct.{Cond, Node, var}
+use Rattle.model.specs.Conjunct.{Conjuncts, Node, var}
 use Rattle.model.specs.Refusals.{refused, _>>=_}
 use Rattle.model.specs.Walk.{here, sites}
 use Rattle.model.proofs.Tidied.{sites-tidy}
@@ -17,7 +17,7 @@ use Rattle.sets.proofs.Rows.{frame}
 use Rattle.rules.specs.Answers.{answered, Below}
 use Rattle.rules.specs.declared.Answer.{Answer}
 use Rattle.rules.specs.declared.Answer.the-variants.{Done, Refused}
-use Rattle.climb.specs.Ways.{WayIn, risen, Climbs}
+use Rattle.enclosing.specs.Enclosing.{EnclosedIn, walkedOut, WalksOut}
 use Rattle.analysis.specs.Joining.{joinedTo, Sited}
 use Rattle.analysis.proofs.Uniting.{region-below}
 
@@ -31,16 +31,16 @@ region-tidy x ty v t e only = subst Tidy (sym (only ∙ ap (λ z. (z ∷ []) ∷
 
 module _ (program table : List ℕ) (n i x ty : ℕ) (v : Node) (s t u : List ℕ) (a : Answer) (fits : 85195 ≤ length s) (node : v ≡ var x ty) (only : setOf t 7745 ≡ (v ∷ []) ∷ [])
     (t-length : length t ≡ length s) (in-next : Within 7745 s t) (u-length : length u ≡ length t) (below : Below 7745 t u)
-    (climbs : Climbs program table n i (setOf t 7745) a (setOf u 7745)) where
+    (walks : WalksOut program table n i (setOf t 7745) a (setOf u 7745)) where
   pub union-stays : setOf u 0 ≡ setOf s 0
   union-stays = region-below t u 0 7745 u-length (omega arith) (omega arith) below ∙ frame s t 7745 0 t-length (omega arith) (inr (omega arith)) in-next
 
-  climbed : (q : ℕ) (w : WayIn program table n i q) → i < q → risen program table n i q w ((var x ty ∷ []) ∷ []) ≡ answered a (setOf u 7745)
-  climbed q w b = ap (risen program table n i q w) (sym (only ∙ ap (λ z. (z ∷ []) ∷ []) node)) ∙ climbs q w b
+  walked : (q : ℕ) (w : EnclosedIn program table n i q) → i < q → walkedOut program table n i q w ((var x ty ∷ []) ∷ []) ≡ answered a (setOf u 7745)
+  walked q w b = ap (walkedOut program table n i q w) (sym (only ∙ ap (λ z. (z ∷ []) ∷ []) node)) ∙ walks q w b
 
-  pub sited-refused : (k : ℕ) → a ≡ Refused k → (q : ℕ) (w : WayIn program table n i q) → i < q → (risen program table n i q w ((var x ty ∷ []) ∷ []) >>= joinedTo (setOf s 0)) ≡ refused k
-  sited-refused k e q w b = ap (_>>= joinedTo (setOf s 0)) (climbed q w b ∙ ap (λ z. answered z (setOf u 7745)) e)
+  pub sited-refused : (k : ℕ) → a ≡ Refused k → (q : ℕ) (w : EnclosedIn program table n i q) → i < q → (walkedOut program table n i q w ((var x ty ∷ []) ∷ []) >>= joinedTo (setOf s 0)) ≡ refused k
+  sited-refused k e q w b = ap (_>>= joinedTo (setOf s 0)) (walked q w b ∙ ap (λ z. answered z (setOf u 7745)) e)
 
-  pub sited-done : a ≡ Done → (d : Answer) (Q : Cond) → joinedTo (setOf u 0) (setOf u 7745) ≡ answered d Q → Sited program table n i x ty (setOf s 0) d Q
+  pub sited-done : a ≡ Done → (d : Answer) (Q : Conjuncts) → joinedTo (setOf u 0) (setOf u 7745) ≡ answered d Q → Sited program table n i x ty (setOf s 0) d Q
   sited-done e d Q h q w b =
-      ap (_>>= joinedTo (setOf s 0)) (climbed q w b ∙ ap (λ z. answered z (setOf u 7745)) e) ∙ ap (λ R. joinedTo R (setOf u 7745)) (sym union-stays) ∙ h
+      ap (_>>= joinedTo (setOf s 0)) (walked q w b ∙ ap (λ z. answered z (setOf u 7745)) e) ∙ ap (λ R. joinedTo R (setOf u 7745)) (sym union-stays) ∙ h

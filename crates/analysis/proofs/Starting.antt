@@ -9,7 +9,7 @@ use native.Mathlib.Omega.{arith}
 use lib.ListN.{length, getD, take, drop, length-map, length-drop}
 use lib.Seq.{drop-cons, drop-length}
 use borrow.Author.Tests.{le-ltb}
-use Rattle.model.specs.Conjunct.{Conj, Cond, insert, union, long, atom, atoms, renamed, onAtom, renumber}
+use Rattle.model.specs.Conjunct.{Conj, Conjuncts, withConjunct, unionOf, long, atom, atoms, renamed, onAtom, renumber}
 use Rattle.model.specs.Lists.{All}
 use Rattle.model.specs.Refusals.{ok}
 use Rattle.model.specs.Walk.{zeroed, gather, start}
@@ -27,7 +27,7 @@ use Rattle.sets.proofs.Rows.{few-most, set-length, take-short, frame}
 abbrev pub Short : Conj → Type 0
 Short e = length e ≤ 120
 
-pub short-long : (S : Cond) → All Short S → long S ≡ false
+pub short-long : (S : Conjuncts) → All Short S → long S ≡ false
 unfolding long
 short-long [] h = refl
 short-long (e ∷ S) h = rw (le-ltb 120 (length e) (h .0)) (short-long S (h .1))
@@ -59,21 +59,21 @@ abbrev pub atStart : Conj → List Conj
 atStart e = map zeroed e ∷ []
 
 -- those of a set
-abbrev pub started : Cond → Cond
+abbrev pub started : Conjuncts → Conjuncts
 started S = gather atStart S
 
-pub started-none : (S : Cond) (k : ℕ) → k ≡ length S → started (drop k S) ≡ []
+pub started-none : (S : Conjuncts) (k : ℕ) → k ≡ length S → started (drop k S) ≡ []
 unfolding gather
 started-none S k e = ap (λ T. started T) (ap (λ j. drop j S) e ∙ drop-length S)
 
-pub started-next : (S : Cond) (k j : ℕ) → j + 1 ≡ k → k ≤ length S → started (drop j S) ≡ insert (renumber (map zeroed (getD S j []))) (started (drop k S))
-unfolding gather union
+pub started-next : (S : Conjuncts) (k j : ℕ) → j + 1 ≡ k → k ≤ length S → started (drop j S) ≡ withConjunct (renumber (map zeroed (getD S j []))) (started (drop k S))
+unfolding gather unionOf
 started-next S k j e h =
     let f : suc j ≡ k = omega arith in
     ap (λ T. started T) (drop-cons S j [] (omega arith) ∙ ap (λ i. getD S j [] ∷ drop i S) f)
 
-pub started-length : (S : Cond) → length (started S) ≤ length S
-unfolding gather union
+pub started-length : (S : Conjuncts) → length (started S) ≤ length S
+unfolding gather unionOf
 started-length [] = omega arith
 started-length (e ∷ S) = omega (arith, insert-length (renumber (map zeroed e)) (started S), started-length S)
 
@@ -104,8 +104,8 @@ module _ (s₀ : List ℕ) (b room : ℕ) (fit : b + 7745 ≤ room) (inside : ro
       → setOf t room ≡ started (drop j (setOf s₀ b))
   started-more s t k j d r len within e h p so = go r
     where
-      next : insert d (setOf s room) ≡ started (drop j (setOf s₀ b))
-      next = ap₂ insert (p ∙ ap (λ R. renumber (map zeroed (getD R j []))) (kept s len within)) so ∙ sym (started-next (setOf s₀ b) k j e h)
+      next : withConjunct d (setOf s room) ≡ started (drop j (setOf s₀ b))
+      next = ap₂ withConjunct (p ∙ ap (λ R. renumber (map zeroed (getD R j []))) (kept s len within)) so ∙ sym (started-next (setOf s₀ b) k j e h)
 
       go : (q : Bool) → Inserted q room d s t → setOf t room ≡ started (drop j (setOf s₀ b))
       go true i = i ∙ next

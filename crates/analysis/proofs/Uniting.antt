@@ -7,7 +7,7 @@ use Prim.Native.Nat.{ℕ, _+_, _≤_, _<_}
 use native.Mathlib.Omega.{arith}
 use lib.ListN.{length, getD}
 use borrow.Author.Tests.{lt-ltb}
-use Rattle.model.specs.Conjunct.{Conj, Cond, insert, union, long, limits}
+use Rattle.model.specs.Conjunct.{Conj, Conjuncts, withConjunct, unionOf, long, limits}
 use Rattle.model.specs.Refusals.{ok, refused, _>>=_}
 use Rattle.model.specs.Walk.{start}
 use Rattle.model.proofs.Canonical.{union-every}
@@ -24,9 +24,9 @@ use Rattle.analysis.proofs.Starting.{Short, short-long, region-short, r
 
 -- the first conjunct of an empty region
 pub inserted-first : (r : Bool) (s t : List ℕ) (b : ℕ) (d : Conj) → setOf s b ≡ [] → Inserted r b d s t → setOf t b ≡ d ∷ []
-unfolding insert
-inserted-first true s t b d e h = h ∙ ap (insert d) e
-inserted-first false s t b d e h = absurd (omega (arith, h .1, ap (λ S. length (insert d S)) e))
+unfolding withConjunct
+inserted-first true s t b d e h = h ∙ ap (withConjunct d) e
+inserted-first false s t b d e h = absurd (omega (arith, h .1, ap (λ S. length (withConjunct d S)) e))
 
 -- a region below what has changed
 pub region-below : (s t : List ℕ) (b n : ℕ) → length t ≡ length s → b + 7745 ≤ n → b + 7745 ≤ length s → Below n s t → setOf t b ≡ setOf s b
@@ -35,8 +35,8 @@ region-below s t b n e h k f = set-same s t b b k (omega arith) (λ x g. f (b + 
 -- ---- unions of what regions hold
 
 module _ (s : List ℕ) (a b : ℕ) where
-  abbrev both : Cond
-  both = union (setOf s a) (setOf s b)
+  abbrev both : Conjuncts
+  both = unionOf (setOf s a) (setOf s b)
 
   both-short : long both ≡ false
   both-short = short-long both (union-every Short (setOf s a) (setOf s b) (region-short s a) (region-short s b))
@@ -54,8 +54,8 @@ module _ (s t : List ℕ) (b : ℕ) (len : length t ≡ length s) (fits : b + 77
     (at-start : start (setOf s (b + 7745)) ≡ ok (setOf t (b + 7745))) where
   started : joinedTo (setOf s b) (setOf s (b + 7745)) ≡ limits (both t b (b + 7745))
   started =
-      ap (λ o. o >>= λ Z. limits (union (setOf s b) Z)) at-start
-      ∙ ap (λ R. limits (union R (setOf t (b + 7745)))) (sym (region-below s t b (b + 7745) len (omega arith) fits below))
+      ap (λ o. o >>= λ Z. limits (unionOf (setOf s b) Z)) at-start
+      ∙ ap (λ R. limits (unionOf R (setOf t (b + 7745)))) (sym (region-below s t b (b + 7745) len (omega arith) fits below))
 
   pub joined-over : (u : List ℕ) (r : Bool) → r ≡ false → Joined r b (b + 7745) t u → joinedTo (setOf s b) (setOf s (b + 7745)) ≡ refused 10
   joined-over u true e h = absurd (true→T (sym e))
@@ -79,5 +79,5 @@ module _ (s t : List ℕ) (b : ℕ) (len : length t ≡ length s) (fits : b + 77
         let S = setOf s (b + 7745) in
         let Z = setOf t (b + 7745) in
         let z : Tidy Z = gives-ok Tidy (start S) Z at-start (start-tidy S) in
-        let over : limits (union R Z) ≡ ok (setOf v b) = ap (λ o. o >>= λ X. limits (union R X)) (sym at-start) ∙ joined-done in
-        gives-ok Tidy (limits (union R Z)) (setOf v b) over (union-tidy R Z h z)
+        let over : limits (unionOf R Z) ≡ ok (setOf v b) = ap (λ o. o >>= λ X. limits (unionOf R X)) (sym at-start) ∙ joined-done in
+        gives-ok Tidy (limits (unionOf R Z)) (setOf v b) over (union-tidy R Z h z)

@@ -5,7 +5,7 @@ ghost use mathlib.Core.List.{List, [], _∷_};
 ghost use Prim.Native.Nat.{_+_, _≤_, _<_};
 ghost use lib.ListN.{length};
 ghost use Rattle.model.specs.Code.{Code};
-ghost use Rattle.model.specs.Conjunct.{Cond};
+ghost use Rattle.model.specs.Conjunct.{Conjuncts};
 ghost use Rattle.model.specs.Refusals.{Out, ok};
 ghost use Rattle.model.specs.Walk.{start, derived};
 ghost use Rattle.model.specs.Condition.{encode, analysis};
@@ -13,15 +13,15 @@ ghost use Rattle.model.specs.Lists.{All};
 ghost use Rattle.model.proofs.Depth.{Nested};
 ghost use Rattle.model.proofs.Formed.{Formed};
 ghost use Rattle.model.proofs.TidySets.{Tidy};
-ghost use Rattle.program.specs.Reading.{IsRead, tablesOf};
+ghost use Rattle.program.specs.Reading.{ProgramIsRead, tablesOf};
 ghost use Rattle.node.specs.Word.{nodeOf};
 ghost use Rattle.sets.specs.Region.{setOf, Within};
 ghost use Rattle.rules.specs.Answers.{answered, Below};
 ghost use Rattle.rules.specs.declared.Answer.the-variants.{Done};
 ghost use Rattle.walk.specs.Piece.{Lies, Piece};
-ghost use Rattle.climb.specs.Ways.{Leads};
+ghost use Rattle.enclosing.specs.Enclosing.{Enclosed};
 ghost use Rattle.analysis.specs.Deriving.{derivation, Filed, Derives};
-ghost use Rattle.analysis.specs.Joining.{joinedTo, SitesFrom, Sited, Passed};
+ghost use Rattle.analysis.specs.Joining.{joinedTo, SitesFrom, Sited, PassedLabel};
 use program::Layout;
 use program::ProgramRead;
 use rules::Answer;
@@ -94,12 +94,12 @@ fn site(
     x: u8,
     ty: u8,
 ) -> Answer
-    requires { ⌜ IsRead (now program) layout × (layout .statements ≤ length (now table)) × (85195 ≤ length (now s)) × Tidy (setOf (now s) 0) × Leads (now program) (now table) (layout .statements) i ⌝ }
+    requires { ⌜ ProgramIsRead (now program) layout × (layout .statements ≤ length (now table)) × (85195 ≤ length (now s)) × Tidy (setOf (now s) 0) × Enclosed (now program) (now table) (layout .statements) i ⌝ }
     ensures { λ a. ⌜ Sited (now (program .entry)) (now (table .entry)) (layout .statements) i x ty (setOf (now (s .entry)) 0) a (setOf (now (s .exit)) 0) × (a ≡ Done → Tidy (setOf (now (s .exit)) 0)) ⌝ }
 {
     let w = node::variable(x as u64, ty as u64);
     single(s, 7745, w);
-    let a = climb::climb(program, layout, table, s, 7745, i);
+    let a = enclosing::walk_out(program, layout, table, s, 7745, i);
     match a {
         Answer::Refused(n) => Answer::Refused(n),
         Answer::Done => join_next(s, 0),
@@ -110,8 +110,8 @@ fn site(
 
 // The statement with the label i, if it is a site.
 fn pass(program: &[u8], layout: Layout, table: &[u64], s: &mut [u64], i: usize) -> Answer
-    requires { ⌜ IsRead (now program) layout × (layout .statements ≤ length (now table)) × (85195 ≤ length (now s)) × Tidy (setOf (now s) 0) × (i < layout .statements) × ((L : List (Out Cond)) × SitesFrom (now program) (now table) (layout .statements) i L) ⌝ }
-    ensures { λ a. ⌜ Passed (now (program .entry)) (now (table .entry)) (layout .statements) i (setOf (now (s .entry)) 0) a (setOf (now (s .exit)) 0) × (a ≡ Done → Tidy (setOf (now (s .exit)) 0)) ⌝ }
+    requires { ⌜ ProgramIsRead (now program) layout × (layout .statements ≤ length (now table)) × (85195 ≤ length (now s)) × Tidy (setOf (now s) 0) × (i < layout .statements) × ((L : List (Out Conjuncts)) × SitesFrom (now program) (now table) (layout .statements) i L) ⌝ }
+    ensures { λ a. ⌜ PassedLabel (now (program .entry)) (now (table .entry)) (layout .statements) i (setOf (now (s .entry)) 0) a (setOf (now (s .exit)) 0) × (a ≡ Done → Tidy (setOf (now (s .exit)) 0)) ⌝ }
 {
     let q = program::statement(program, layout, i);
     let kind = q.kind;
@@ -125,7 +125,7 @@ fn pass(program: &[u8], layout: Layout, table: &[u64], s: &mut [u64], i: usize) 
 
 // The set that the analysis derives from the program, in region 0.
 fn sites(program: &[u8], layout: Layout, table: &[u64], s: &mut [u64]) -> Answer
-    requires { ⌜ IsRead (now program) layout × (layout .statements ≤ length (now table)) × (85195 ≤ length (now s)) × Piece (now program) (now table) 4 0 (layout .statements) ⌝ }
+    requires { ⌜ ProgramIsRead (now program) layout × (layout .statements ≤ length (now table)) × (85195 ≤ length (now s)) × Piece (now program) (now table) 4 0 (layout .statements) ⌝ }
     ensures { λ a. ⌜ ((c : Code) → Lies (now (program .entry)) (now (table .entry)) c 0 (layout .statements) → Nested 4 c → derived c ≡ answered a (setOf (now (s .exit)) 0)) ⌝ }
 {
     sets::clear(s, 0);
@@ -156,7 +156,7 @@ pub enum Derived {
 
 // The file of the set in region 0, at the start of the output.
 fn write_file(program: &[u8], layout: Layout, s: &[u64], condition: &mut [u8]) -> Derived
-    requires { ⌜ IsRead (now program) layout × (7745 ≤ length (now s)) × (61992 ≤ length (now condition)) × All (Formed (tablesOf (now program) .fields)) (setOf (now s) 0) ⌝ }
+    requires { ⌜ ProgramIsRead (now program) layout × (7745 ≤ length (now s)) × (61992 ≤ length (now condition)) × All (Formed (tablesOf (now program) .fields)) (setOf (now s) 0) ⌝ }
     ensures { λ r. ⌜ Filed (encode (tablesOf (now (program .entry)) .fields) (setOf (now (s .entry)) 0)) r (now (condition .entry)) (now (condition .exit)) ⌝ }
 {
     let n = writer::write(program, layout, s, 0, condition);
@@ -165,7 +165,7 @@ fn write_file(program: &[u8], layout: Layout, s: &[u64], condition: &mut [u8]) -
 
 // Of a program that is read.
 fn derive_read(program: &[u8], layout: Layout, condition: &mut [u8], scratch: &mut [u64]) -> Derived
-    requires { ⌜ IsRead (now program) layout × (61992 ≤ length (now condition)) × (85195 ≤ length (now scratch)) ⌝ }
+    requires { ⌜ ProgramIsRead (now program) layout × (61992 ≤ length (now condition)) × (85195 ≤ length (now scratch)) ⌝ }
     ensures { λ r. ⌜ Derives (analysis (now (program .entry))) r (now (condition .entry)) (now (condition .exit)) ⌝ }
 {
     let mut table: [u64; 1024] = [0; 1024];

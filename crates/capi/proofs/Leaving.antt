@@ -17,7 +17,7 @@ use Rattle.analysis.specs.declared.Derived.the-variants.{Written, Refused as No
 use Rattle.filter.specs.Verdict.{verdictOf}
 use Rattle.filter.specs.declared.Verdict.{Verdict}
 use Rattle.filter.specs.declared.Verdict.the-variants.{Pass, Held, Refused as NotFiltered}
-use Rattle.interpreter.specs.Answers.{answerOf, Kept}
+use Rattle.interpreter.specs.Answers.{runAnswer, Kept}
 use Rattle.interpreter.specs.Progress.{scratchWords}
 use Rattle.interpreter.specs.declared.Ran.{Ran}
 use Rattle.interpreter.specs.declared.Ran.the-variants.{Ended, Refused as NotRun}
@@ -64,11 +64,11 @@ abbrev pub ranRecords : Ran → ℕ → ℕ
 ranRecords (Ended e s k) before = k
 ranRecords (NotRun n) before = before
 
-pub ran-ends : (o : Out ModelRan) (r : Ran) (l′ : List ℕ) (w : ℕ) → answerOf r l′ ≡ o → w ≡ ranWord r → Ends o w
+pub ran-ends : (o : Out ModelRan) (r : Ran) (l′ : List ℕ) (w : ℕ) → runAnswer r l′ ≡ o → w ≡ ranWord r → Ends o w
 ran-ends o (Ended e s k) l′ w h q = q ∙ ap (λ x. wordOf (mapped (λ R. R .end) x)) h
 ran-ends o (NotRun n) l′ w h q = q ∙ ap (λ x. wordOf (mapped (λ R. R .end) x)) h
 
-pub ran-leaves : (o : Out ModelRan) (r : Ran) (l l′ : List ℕ) (s s′ k k′ : ℕ) → answerOf r l′ ≡ o → Kept r l l′ → s′ ≡ ranSteps r s → k′ ≡ ranRecords r k
+pub ran-leaves : (o : Out ModelRan) (r : Ran) (l l′ : List ℕ) (s s′ k k′ : ℕ) → runAnswer r l′ ≡ o → Kept r l l′ → s′ ≡ ranSteps r s → k′ ≡ ranRecords r k
     → Leaves o l l′ s s′ k k′
 ran-leaves o (Ended e m n) l l′ s s′ k k′ h q p₁ p₂ =
     record { log = ap (λ x. logLeft x l) h; steps = p₁ ∙ ap (λ x. stepsLeft x s) h; records = p₂ ∙ ap (λ x. recordsLeft x k) h }

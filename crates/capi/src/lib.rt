@@ -6,7 +6,7 @@ ghost use mathlib.Core.Path.{_≡_};
 ghost use Prim.Native.Nat.{_*_};
 ghost use lib.ListN.{length};
 ghost use Rattle.model.specs.Refusals.{mapped};
-ghost use Rattle.model.specs.Filter.{filter};
+ghost use Rattle.model.specs.Filter.{filterInput};
 ghost use Rattle.analysis.specs.Deriving.{derivation};
 ghost use Rattle.guard.specs.Answers.{guarding};
 ghost use Rattle.capi.specs.Words.{wordOf, verdict, running, ranOf, Derives, Ends, Leaves, Guards};
@@ -44,7 +44,7 @@ pub extern "C" fn gate_derive(recipe: &[u8], condition: &mut [u8], scratch: &mut
 // The verdict on a sheet: 0 pass, 1 held.
 #[no_mangle]
 pub extern "C" fn gate_check(condition: &[u8], sheet: &[u8]) -> u64
-    ensures { λ r. ⌜ r ≡ wordOf (mapped verdict (filter (now (condition .entry)) (now (sheet .entry)))) ⌝ }
+    ensures { λ r. ⌜ r ≡ wordOf (mapped verdict (filterInput (now (condition .entry)) (now (sheet .entry)))) ⌝ }
 {
     let v = filter::check(condition, sheet);
     match v {

@@ -5,7 +5,7 @@ use mathlib.Core.List.{List}
 use Prim.Native.Nat.{ℕ, _+_, _*_}
 use borrow.Author.Tests.{eq-eqb, ne-eqb}
 use Rattle.model.specs.Bytes.{byteAt, u32At}
-use Rattle.choice_file.specs.Limit.{limitOf}
+use Rattle.choice_file.specs.Limit.{limitIn}
 
 module _ (s : List ℕ) (a b c d : ℕ) (ea : a ≡ byteAt s 0) (eb : b ≡ byteAt s 1) (ec : c ≡ byteAt s 2) (ed : d ≡ byteAt s 3) where
   abbrev n : ℕ
@@ -14,10 +14,10 @@ module _ (s : List ℕ) (a b c d : ℕ) (ea : a ≡ byteAt s 0) (eb : b ≡ byte
   number-is : n ≡ u32At s 0
   number-is = λ i. ea i + 256 * (eb i + 256 * (ec i + 256 * ed i))
 
-  pub limit-none : n ≡ 0 → 10000 ≡ limitOf s
-  unfolding limitOf
+  pub limit-none : n ≡ 0 → 10000 ≡ limitIn s
+  unfolding limitIn
   limit-none e = rw (eq-eqb (u32At s 0) 0 (sym number-is ∙ e))
 
-  pub limit-some : (n ≡ 0 → ⊥) → n ≡ limitOf s
-  unfolding limitOf
+  pub limit-some : (n ≡ 0 → ⊥) → n ≡ limitIn s
+  unfolding limitIn
   limit-some e = rw (ne-eqb (u32At s 0) 0 (λ z. e (number-is ∙ z))) number-is

@@ -4,7 +4,7 @@ ghost use mathlib.Core.Path.{_≡_};
 ghost use Prim.Native.Nat.{_<_};
 ghost use lib.ListN.{drop};
 ghost use Rattle.model.specs.Bytes.{byteAt};
-ghost use Rattle.choice_file.specs.Limit.{limitOf};
+ghost use Rattle.choice_file.specs.Limit.{limitIn};
 
 // The byte at a place, 0 past the end.
 fn byte_at(file: &[u8], i: usize) -> u64
@@ -18,7 +18,7 @@ fn byte_at(file: &[u8], i: usize) -> u64
 
 // The limit of the run.
 pub fn limit(file: &[u8]) -> u32
-    ensures { λ r. ⌜ r ≡ limitOf (now (file .entry)) ⌝ }
+    ensures { λ r. ⌜ r ≡ limitIn (now (file .entry)) ⌝ }
 {
     let high = byte_at(file, 2) + 256 * byte_at(file, 3);
     let n = byte_at(file, 0) + 256 * (byte_at(file, 1) + 256 * high);

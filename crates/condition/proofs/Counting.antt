@@ -13,7 +13,7 @@ use Rattle.model.specs.Bytes.{entries}
 use Rattle.model.proofs.Tests.{eqb-self}
 use Rattle.model.specs.Conjunct.{Source, field, Atom, Conj}
 use Rattle.model.specs.Condition.{nodeRight, numbered}
-use Rattle.condition.specs.Answers.{nodeBy, nodeOf, rightBy, NodeIs, partNodes}
+use Rattle.condition.specs.Answers.{nodeBy, nodeFrom, rightBy, NodeIs, partNodes}
 use Rattle.condition.specs.declared.Node.{Node}
 use Rattle.condition.proofs.Nodes.{node-is, right-is, right-at, rest, rest-step, rest-all, reading-right, some}
 use Rattle.condition.proofs.Numbering.{old, bump, counted, numbered-counted, seenOf, seen-none, seen-bump}
@@ -38,7 +38,7 @@ never : (i m : ℕ) (x y : Bool) → i ≡ 0 → cond (ltb 0 i && leb i m) x (eq
 never i m x y e = rw (e, ne-eqb 0 (suc m) (λ f. absurd (omega arith)))
 
 module _ (s : List ℕ) (n k : ℕ) (v : Node) (is : NodeIs v s (8 * k)) (more : k < n) where
-  turn : rest s n k ≡ nodeOf v ∷ rest s n (k + 1)
+  turn : rest s n k ≡ nodeFrom v ∷ rest s n (k + 1)
   turn = rest-step s n k more ∙ ap (_∷ rest s n (k + 1)) (node-is v s (8 * k) is)
 
   pub counted-skip : (seen : Source → ℕ) → (v .kind ≡ 1 → ⊥) → counted seen (rest s n k) ≡ counted seen (rest s n (k + 1))

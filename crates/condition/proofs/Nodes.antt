@@ -21,7 +21,7 @@ use Rattle.arith.specs.Words.{immediate}
 use Rattle.model.proofs.Tests.{and-left, and-right, true→T}
 use Rattle.model.proofs.Every.{every-at}
 use Rattle.model.proofs.Parts.{Narrow, u16-narrow, u32-narrow, getD-part, getD-behind, entries-step, entries-getD, length-entries}
-use Rattle.condition.specs.Answers.{nodeBy, nodeOf, constantRight, readingRight, operationRight, rightBy, NodeIs}
+use Rattle.condition.specs.Answers.{nodeBy, nodeFrom, constantRight, readingRight, operationRight, rightBy, NodeIs}
 use Rattle.condition.specs.declared.Node.{Node}
 
 pub some : (m : ℕ) → (m ≡ 0 → ⊥) → 0 < m
@@ -38,7 +38,7 @@ pub right-by : (types s : List ℕ) (a : ℕ) → nodeRight types s a ≡ rightB
 unfolding nodeRight rightBy
 right-by types s a = refl
 
-pub node-is : (v : Node) (s : List ℕ) (a : ℕ) → NodeIs v s a → nodeAt s a ≡ nodeOf v
+pub node-is : (v : Node) (s : List ℕ) (a : ℕ) → NodeIs v s a → nodeAt s a ≡ nodeFrom v
 node-is v s a h = node-by s a ∙ rw (h .kind, h .type, h .source, h .number)
 
 pub right-is : (types : List ℕ) (v : Node) (s : List ℕ) (a : ℕ) → NodeIs v s a → nodeRight types s a ≡ rightBy types (v .kind) (v .ty) (v .field) (v .imm)
@@ -46,7 +46,7 @@ right-is types v s a h = right-by types s a ∙ rw (h .kind, h .type, h .source,
 
 -- the answer of a reader of nodes
 pub node-passes : (types : List ℕ) (v : Node) (s : List ℕ) (a : ℕ) → NodeIs v s a → rightBy types (v .kind) (v .ty) (v .field) (v .imm) ≡ true
-    → ok (nodeOf v) ≡ check (nodeRight types s a) 12 (ok (nodeAt s a))
+    → ok (nodeFrom v) ≡ check (nodeRight types s a) 12 (ok (nodeAt s a))
 node-passes types v s a h r = rw (right-is types v s a h ∙ r, node-is v s a h)
 
 pub node-fails : (types : List ℕ) (v : Node) (s : List ℕ) (a : ℕ) → NodeIs v s a → rightBy types (v .kind) (v .ty) (v .field) (v .imm) ≡ false

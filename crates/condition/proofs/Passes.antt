@@ -18,7 +18,7 @@ use Rattle.model.specs.Program.{typeRight}
 use Rattle.model.specs.Condition.{nodeAt, nodeRight}
 use Rattle.model.proofs.Results.{check-ok}
 use Rattle.model.proofs.Parts.{entries-step}
-use Rattle.condition.specs.Answers.{nodeOf, nodeOut, partRight}
+use Rattle.condition.specs.Answers.{nodeFrom, nodeOut, partRight}
 use Rattle.condition.specs.declared.Node.{Node}
 use Rattle.condition.specs.declared.NodeRead.{NodeRead}
 use Rattle.condition.specs.declared.NodeRead.the-variants.{Node as Entry, Refused as Wrong}
@@ -84,7 +84,7 @@ module _ (types s : List ℕ) (n k : ℕ) (more : k < n) (r : NodeRead) (answer 
 
   pub forms-on : (v : Node) → r ≡ Entry v → every (λ b. b) (formsFrom types s n k) ≡ every (λ b. b) (formsFrom types s n (k + 1))
   unfolding every
-  forms-on v e = rw (forms-step, check-ok (nodeRight types s (8 * k)) 12 (ok (nodeAt s (8 * k))) (nodeOf v) (sym answer ∙ ap nodeOut e) .0)
+  forms-on v e = rw (forms-step, check-ok (nodeRight types s (8 * k)) 12 (ok (nodeAt s (8 * k))) (nodeFrom v) (sym answer ∙ ap nodeOut e) .0)
 
   pub forms-off : (m : ℕ) → r ≡ Wrong m → every (λ b. b) (formsFrom types s n k) ≡ false
   unfolding every

@@ -15,7 +15,7 @@ use Rattle.model.specs.Bytes.{entries}
 use Rattle.model.specs.Conjunct.{Conj}
 use Rattle.model.specs.Condition.{operation, conversion, typeNode, typeNodes, single, whole}
 use Rattle.model.proofs.Tests.{case}
-use Rattle.condition.specs.Answers.{nodeOf, NodeIs, partNodes}
+use Rattle.condition.specs.Answers.{nodeFrom, NodeIs, partNodes}
 use Rattle.condition.specs.declared.Node.{Node}
 use Rattle.condition.proofs.Nodes.{node-is, rest, rest-step, rest-all, push-kind, operation-kind, conversion-kind}
 
@@ -89,7 +89,7 @@ single-stack l (suc (suc h)) = sym (ne-eqb (suc (suc h)) 1 (λ e. absurd (omega 
 -- ---- one turn: the node with number k
 
 module _ (s : List ℕ) (n k : ℕ) (v : Node) (is : NodeIs v s (8 * k)) (more : k < n) (st : List ℕ) where
-  typed-turn : typeNodes (rest s n k) st ≡ (typeNode (nodeOf v) st >>= typeNodes (rest s n (k + 1)))
+  typed-turn : typeNodes (rest s n k) st ≡ (typeNode (nodeFrom v) st >>= typeNodes (rest s n (k + 1)))
   unfolding typeNodes
   typed-turn = rw (rest-step s n k more, node-is v s (8 * k) is)
 

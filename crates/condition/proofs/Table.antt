@@ -13,13 +13,13 @@ use Rattle.model.specs.Lists.{every}
 use Rattle.model.specs.Refusals.{ok, refused, mapped, check, wrongCondition}
 use Rattle.model.specs.Bytes.{u32At, part, Pair, pairAt, entries, pairsAt, chained}
 use Rattle.model.specs.Program.{typeRight}
-use Rattle.model.specs.Conjunct.{Cond, _then_, orderNumbers, order}
+use Rattle.model.specs.Conjunct.{Conjuncts, _then_, orderNumbers, order}
 use Rattle.model.specs.Condition.{Condition, conjunctsAt, nodeAt, nodeRight, conjunctAt, nodesRight, lengthRight, whole, numbered, isBefore, rising, readCondition}
 use Rattle.model.proofs.Tests.{case, and-left, and-right}
 use Rattle.model.proofs.Results.{check-ok, ok-eq}
 use Rattle.model.proofs.Every.{every-of-map, every-at}
 use Rattle.model.proofs.Parts.{length-entries, entries-getD, chained-le, chained-inside, length-part, entries-part}
-use Rattle.condition.specs.Answers.{partNodes, partRight, pairPart, pairRight, sizes, sizesOf, IsRead, typesOf, conjunctsOf}
+use Rattle.condition.specs.Answers.{partNodes, partRight, pairPart, pairRight, sizes, sizesOf, ConditionIsRead, typesOf, conjunctsOf}
 use Rattle.condition.specs.declared.Counts.{Counts}
 use Rattle.condition.proofs.Nodes.{node-narrow, right-narrow}
 use Rattle.condition.proofs.Passes.{pairsFrom, pairs-step}
@@ -167,7 +167,7 @@ order-neighbours s f c chain right small i more =
     (every-pair (pairRight types s) s (8 + f) c right i (omega arith)) (every-pair (pairRight types s) s (8 + f) c right (i + 1) more)
 
 -- conjuncts from the one with number i on
-abbrev pub conjunctsFrom : List ℕ → ℕ → ℕ → ℕ → Cond
+abbrev pub conjunctsFrom : List ℕ → ℕ → ℕ → ℕ → Conjuncts
 conjunctsFrom s at n i = map (conjunctAt s) (pairsFrom s at n i)
 
 module _ (s : List ℕ) (at n i : ℕ) (more : i + 1 < n) where
@@ -292,7 +292,7 @@ pub record Counted (s : List ℕ) (c f : ℕ) : Type 0 where
   pub form : formBy s c f ≡ true
   pub table : 8 + f + 8 * c ≤ length s
 
-pub counted-read : (s : List ℕ) (k : Counts) → IsRead s k → Counted s (k .conjuncts) (k .fields)
+pub counted-read : (s : List ℕ) (k : Counts) → ConditionIsRead s k → Counted s (k .conjuncts) (k .fields)
 counted-read s k read =
     let e = check-ok (formBy s (u32At s 0) (u32At s 4)) wrongCondition (ok (u32At s 0, length (typesOf s))) (sizesOf k) (sym (sizes-form s) ∙ read) in
     let l = table-inside s (u32At s 4) (u32At s 0) (form-chained s (u32At s 0) (u32At s 4) (e .0)) in
@@ -302,7 +302,7 @@ counted-read s k read =
     record { conjuncts = ec; fields = ef; form = rw (ec, ef) (e .0); table = rw (ec, ef) l }
 
 -- a conjunct's part
-module _ (s : List ℕ) (k : Counts) (read : IsRead s k) (i : ℕ) (h : i < k .conjuncts) where
+module _ (s : List ℕ) (k : Counts) (read : ConditionIsRead s k) (i : ℕ) (h : i < k .conjuncts) where
   pub conjunct-inside : pairAt s (8 + k .fields + 8 * i) .offset + pairAt s (8 + k .fields + 8 * i) .len ≤ length s
   conjunct-inside = let q = counted-read s k read in pair-inside s (k .fields) (k .conjuncts) (form-chained s (k .conjuncts) (k .fields) (q .form)) i h
 

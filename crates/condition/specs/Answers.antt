@@ -13,7 +13,7 @@ use Rattle.model.specs.Refusals.{Out, ok, refused, mapped}
 use Rattle.model.specs.Bytes.{byteAt, u16At, u32At, part, Pair, pairAt, entries, pairsAt}
 use Rattle.model.specs.Values.{add, sub, mul, div}
 use Rattle.model.specs.Program.{typeRight}
-use Rattle.model.specs.Conjunct.{field, Node as ModelNode, const, atom, op, conv, Conj, Cond}
+use Rattle.model.specs.Conjunct.{field, Node as ModelNode, const, atom, op, conv, Conj, Conjuncts}
 use Rattle.model.specs.Condition.{Condition, nodeAt, nodeRight, nodesRight, conjunctAt, whole, numbered, lengthRight, readCondition}
 use Rattle.condition.specs.declared.Node.{Node}
 use Rattle.condition.specs.declared.NodeRead.{NodeRead}
@@ -45,8 +45,8 @@ rightBy types k ty f i =
     getD (constantRight ty f i ∷ readingRight types ty f ∷ o ∷ o ∷ o ∷ o ∷ o ∷ []) k false
 
 -- the node that a value of the code stands for
-abbrev pub nodeOf : Node → ModelNode
-nodeOf v = nodeBy (v .kind) (v .ty) (v .field) (v .imm)
+abbrev pub nodeFrom : Node → ModelNode
+nodeFrom v = nodeBy (v .kind) (v .ty) (v .field) (v .imm)
 
 -- it has the numbers that stand at a place
 pub record NodeIs (v : Node) (s : List ℕ) (a : ℕ) : Type 0 where
@@ -56,7 +56,7 @@ pub record NodeIs (v : Node) (s : List ℕ) (a : ℕ) : Type 0 where
   pub number : v .imm ≡ u32At s (a + 4)
 
 abbrev pub nodeOut : NodeRead → Out ModelNode
-nodeOut (Entry v) = ok (nodeOf v)
+nodeOut (Entry v) = ok (nodeFrom v)
 nodeOut (Wrong n) = refused n
 
 -- ---- parts
@@ -86,17 +86,17 @@ sizes C = (length (C .conjuncts), length (C .types))
 abbrev pub sizesOf : Counts → ℕ × ℕ
 sizesOf k = (k .conjuncts, k .fields)
 
-abbrev pub outOf : ConditionRead → Out (ℕ × ℕ)
-outOf (Form k) = ok (sizesOf k)
-outOf (Refused n) = refused n
+abbrev pub conditionAnswer : ConditionRead → Out (ℕ × ℕ)
+conditionAnswer (Form k) = ok (sizesOf k)
+conditionAnswer (Refused n) = refused n
 
 -- the condition is in its form, with these counts
-abbrev pub IsRead : List ℕ → Counts → Type 0
-IsRead s k = mapped sizes (readCondition s) ≡ ok (sizesOf k)
+abbrev pub ConditionIsRead : List ℕ → Counts → Type 0
+ConditionIsRead s k = mapped sizes (readCondition s) ≡ ok (sizesOf k)
 
 -- the types and the conjuncts that a file holds
 abbrev pub typesOf : List ℕ → List ℕ
 typesOf s = part s 8 (u32At s 4)
 
-abbrev pub conjunctsOf : List ℕ → Cond
+abbrev pub conjunctsOf : List ℕ → Conjuncts
 conjunctsOf s = map (conjunctAt s) (pairsAt s (8 + u32At s 4) (u32At s 0))

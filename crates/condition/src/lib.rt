@@ -11,7 +11,7 @@ ghost use Rattle.model.specs.Bytes.{part, pairAt, pairsAt, chained};
 ghost use Rattle.model.specs.Program.{typeRight};
 ghost use Rattle.model.specs.Conjunct.{_then_, orderNumbers};
 ghost use Rattle.model.specs.Condition.{conjunctsAt, nodeAt, nodeRight, conjunctAt, whole, numbered, isBefore, rising, readCondition};
-ghost use Rattle.condition.specs.Answers.{constantRight, readingRight, operationRight, rightBy, NodeIs, nodeOut, partNodes, partRight, pairPart, pairRight, sizes, outOf, IsRead, typesOf, conjunctsOf};
+ghost use Rattle.condition.specs.Answers.{constantRight, readingRight, operationRight, rightBy, NodeIs, nodeOut, partNodes, partRight, pairPart, pairRight, sizes, conditionAnswer, ConditionIsRead, typesOf, conjunctsOf};
 
 // A node by its numbers.
 pub struct Node {
@@ -352,7 +352,7 @@ fn is_rising(condition: &[u8], fields: usize, count: usize) -> bool
 
 // The condition's form. Every refusal has the number 12, so the order of the tests does not show.
 pub fn read(condition: &[u8]) -> ConditionRead
-    ensures { λ r. ⌜ outOf r ≡ mapped sizes (readCondition (now (condition .entry))) ⌝ }
+    ensures { λ r. ⌜ conditionAnswer r ≡ mapped sizes (readCondition (now (condition .entry))) ⌝ }
 {
     if condition.len() < 8 {
         return ConditionRead::Refused(12);
@@ -391,7 +391,7 @@ pub fn read(condition: &[u8]) -> ConditionRead
 
 // A conjunct of a condition that is read, as the part that starts at its offset.
 pub fn conjunct(condition: &[u8], counts: Counts, i: usize) -> &[u8]
-    requires { ⌜ IsRead (now condition) counts × (i < counts .conjuncts) ⌝ }
+    requires { ⌜ ConditionIsRead (now condition) counts × (i < counts .conjuncts) ⌝ }
     ensures { λ r. ⌜ (now r ≡ pairPart (now (condition .entry)) (8 + counts .fields + 8 * i)) × (partNodes (now r) ≡ getD (conjunctsOf (now (condition .entry))) i []) × (length (now r) ≤ 960) ⌝ }
 {
     let fields = counts.fields;
@@ -400,7 +400,7 @@ pub fn conjunct(condition: &[u8], counts: Counts, i: usize) -> &[u8]
 
 // The types of the fields of a condition that is read.
 pub fn types(condition: &[u8], counts: Counts) -> &[u8]
-    requires { ⌜ IsRead (now condition) counts ⌝ }
+    requires { ⌜ ConditionIsRead (now condition) counts ⌝ }
     ensures { λ r. ⌜ (now r ≡ typesOf (now (condition .entry))) × (length (now r) ≡ counts .fields) ⌝ }
 {
     let end = 8 + counts.fields;

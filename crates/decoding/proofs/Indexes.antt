@@ -8,7 +8,7 @@ use Rattle.arith.specs.Types.{signed}
 use Rattle.model.specs.Program.{Tables, variableType, arrayOf, typesAgree}
 use Rattle.model.proofs.Tests.{and-right}
 use Rattle.machine.specs.declared.Decoded.{Decoded}
-use Rattle.machine.specs.Decoding.{instrOf, ofKind, entryOf, Tabled, IndexedInstr}
+use Rattle.machine.specs.Decoding.{instrOf, ofKind, entryFrom, Tabled, IndexedInstr}
 
 unsigned : (b : Bool) → not b ≡ true → b ≡ false
 unsigned true e = absurd (false≢true e)
@@ -34,6 +34,6 @@ module _ (T : Tables) (a b c imm ty from len : ℕ) where
       (sym (t .stores refl .0), unsigned (signed (variableType T b)) (and-right (eqb (arrayOf T a .ty) (variableType T c)) (not (signed (variableType T b))) e))
   by-kind (suc (suc (suc (suc (suc (suc (suc (suc (suc (suc k)))))))))) e t = tt
 
-pub instr-indexed : (T : Tables) (d : Decoded) → typesAgree T (entryOf d) ≡ true → Tabled T d → IndexedInstr T (instrOf d)
+pub instr-indexed : (T : Tables) (d : Decoded) → typesAgree T (entryFrom d) ≡ true → Tabled T d → IndexedInstr T (instrOf d)
 unfolding instrOf
 instr-indexed T d e t = by-kind T (d .a) (d .b) (d .c) (d .imm) (d .ty) (d .from) (d .len) (d .kind) e t

@@ -13,27 +13,27 @@ use Rattle.model.specs.Program.{Statement, Tables, formRight, variableType, arr
 use Rattle.program.proofs.Known.{counts-known, types-known, form-known, agree-known}
 use Rattle.program.proofs.Statements.{stmt-at, type-small}
 use Rattle.program.proofs.Tables.{sized, statement-in}
-use Rattle.program.specs.Reading.{IsRead, tablesOf, stmtAt}
+use Rattle.program.specs.Reading.{ProgramIsRead, tablesOf, stmtAt}
 use Rattle.program.specs.declared.Layout.{Layout}
 use Rattle.machine.proofs.Executions.{stmt-decoded}
-use Rattle.machine.specs.Decoding.{Length, instrOf, entryOf, Ready, IndexedInstr}
+use Rattle.machine.specs.Decoding.{Length, instrOf, entryFrom, Ready, IndexedInstr}
 use Rattle.machine.specs.declared.Decoded.{Decoded}
 use Rattle.decoding.proofs.Forms.{Operands, form-operands, array-length, array-type-small, array-length-small, four-bytes}
 use Rattle.decoding.proofs.Indexes.{instr-indexed}
 use Rattle.decoding.specs.Known.{Known, DecodedAt}
 
-module _ (s : List ℕ) (L : Layout) (h : IsRead s L) (i : ℕ) (k : i < L .statements) (d : Decoded) (at : DecodedAt (tablesOf s) i d) where
+module _ (s : List ℕ) (L : Layout) (h : ProgramIsRead s L) (i : ℕ) (k : i < L .statements) (d : Decoded) (at : DecodedAt (tablesOf s) i d) where
   abbrev T : Tables
   T = tablesOf s
 
   pub stands-for : d .kind ≤ 10 → stmtAt T i ≡ plain (instrOf d)
   stands-for small = stmt-at T i ∙ ap (stmtOf T) (sym (at .entry)) ∙ stmt-decoded T d small (at .tabled)
 
-  pub decoded-operands : Operands T (entryOf d)
+  pub decoded-operands : Operands T (entryFrom d)
   decoded-operands =
       let z = sized s L (h .placed) in
       let n = counts-known s L h in
-      form-operands T (rw (z .fields) (n .0)) (rw (z .variables) (n .1)) (rw (z .arrays) (n .2)) (entryOf d) (subst (λ (q : Statement). formRight T q ≡ true) (sym (at .entry)) (form-known s L h i k))
+      form-operands T (rw (z .fields) (n .0)) (rw (z .variables) (n .1)) (rw (z .arrays) (n .2)) (entryFrom d) (subst (λ (q : Statement). formRight T q ≡ true) (sym (at .entry)) (form-known s L h i k))
 
   few-arrays : (x : ℕ) → x < length (T .arrays) → x < 16
   few-arrays x g = omega (arith, sized s L (h .placed) .arrays, counts-known s L h .2)

@@ -17,7 +17,7 @@ use Rattle.model.specs.Conjunct.{Conj}
 use Rattle.model.specs.Condition.{conjunctsAt, conjunctAt, lengthRight, nodesRight, whole, numbered, rising}
 use Rattle.model.proofs.Tests.{and-left, and-right}
 use Rattle.model.proofs.Parts.{length-part}
-use Rattle.condition.specs.Answers.{partNodes, pairPart, pairRight, IsRead, typesOf, conjunctsOf}
+use Rattle.condition.specs.Answers.{partNodes, pairPart, pairRight, ConditionIsRead, typesOf, conjunctsOf}
 use Rattle.condition.specs.declared.Counts.{Counts}
 use Rattle.condition.proofs.Table.{formBy, form-types, form-pair, counted-read, conjunct-inside, conjuncts-count}
 use Rattle.evaluator.specs.Part.{conjunctOf, IsConjunct}
@@ -54,7 +54,7 @@ right-is-conjunct types s p few inside right =
     let two = and-left (long && formed) one three in
     part-is-conjunct types s p few inside (and-left long formed two) (and-right long formed two) (and-right (long && formed) one three)
 
-module _ (s : List ℕ) (k : Counts) (read : IsRead s k) where
+module _ (s : List ℕ) (k : Counts) (read : ConditionIsRead s k) where
   pub types-right : every typeRight (typesOf s) ≡ true
   types-right =
       let q = counted-read s k read in

@@ -19,7 +19,7 @@ use Rattle.model.specs.Refusals.{Out, ok, refused, _>>=_, check, wrongCondition
 use Rattle.model.specs.Bytes.{u32At, part, Pair, pairAt, pairsAt, chained}
 use Rattle.model.specs.Condition.{Condition, conjunctsAt, readCondition}
 use Rattle.model.specs.Input.{Input, width, readingsOf, lengthsRight, readInput}
-use Rattle.model.specs.Filter.{filter}
+use Rattle.model.specs.Filter.{filterInput}
 use Rattle.model.proofs.Tests.{case, and-left, and-right}
 use Rattle.model.proofs.Results.{check-ok}
 use Rattle.model.proofs.Every.{every-all}
@@ -104,16 +104,16 @@ input-shortened types s few =
     let l = leb-false (length s) 33024 q in
     input-long types (take 33025 s) few (omega (arith, length-take-le 33025 s (omega arith))) ∙ sym (input-long types s few l))
 
-on-input : (c s : List ℕ) (o : Out Condition) → readCondition c ≡ o → filter c (take 33025 s) ≡ filter c s
+on-input : (c s : List ℕ) (o : Out Condition) → readCondition c ≡ o → filterInput c (take 33025 s) ≡ filterInput c s
 on-input c s (refused n) e = filter-steps c (take 33025 s) ∙ rw e (sym (filter-steps c s ∙ rw e))
 on-input c s (ok C) e =
     filter-steps c (take 33025 s)
     ∙ rw e (ap (λ (i : Out Input). i >>= λ I. judged I (C .conjuncts)) (input-shortened (C .types) s (fields-few c C e)) ∙ sym (filter-steps c s ∙ rw e))
 
-pub shortened : (c s : List ℕ) → filter (take 61993 c) (take 33025 s) ≡ filter c s
+pub shortened : (c s : List ℕ) → filterInput (take 61993 c) (take 33025 s) ≡ filterInput c s
 shortened c s =
-    case (leb (length c) 61992) (λ z. filter (take 61993 c) (take 33025 s) ≡ filter c s)
-    (λ q. ap (λ (d : List ℕ). filter d (take 33025 s)) (take-all 61993 c (omega (arith, leb-true (length c) 61992 q))) ∙ on-input c s (readCondition c) refl)
+    case (leb (length c) 61992) (λ z. filterInput (take 61993 c) (take 33025 s) ≡ filterInput c s)
+    (λ q. ap (λ (d : List ℕ). filterInput d (take 33025 s)) (take-all 61993 c (omega (arith, leb-true (length c) 61992 q))) ∙ on-input c s (readCondition c) refl)
     (λ q.
     let l = leb-false (length c) 61992 q in
     filter-steps (take 61993 c) (take 33025 s)

@@ -17,7 +17,7 @@ use Rattle.model.specs.Program.{typeRight}
 use Rattle.model.specs.Input.{Input, width, readingAt}
 use Rattle.model.proofs.Every.{every-at}
 use Rattle.model.proofs.Parts.{length-entries, entries-getD}
-use Rattle.input.specs.Answers.{IsRead, fieldPart, fieldReadings}
+use Rattle.input.specs.Answers.{InputIsRead, fieldPart, fieldReadings}
 use Rattle.input.proofs.Fields.{part-readings}
 use Rattle.evaluator.specs.Readings.{signedAt, Lent, Decoded}
 use Rattle.evaluator.specs.Plan.{Taken}
@@ -53,7 +53,7 @@ unfolding inputIn
 field-listed types s f h = rw (lt-ltb f (length types) h)
 
 -- by what was read of it: the part p, with n readings
-module _ (types s : List ℕ) (f : ℕ) (read : IsRead types s) (listed : f < length types) (n : ℕ) (many : n ≡ length (fieldReadings types s f)) (p : List ℕ) (is : p ≡ fieldPart s f) where
+module _ (types s : List ℕ) (f : ℕ) (read : InputIsRead types s) (listed : f < length types) (n : ℕ) (many : n ≡ length (fieldReadings types s f)) (p : List ℕ) (is : p ≡ fieldPart s f) where
   abbrev ty : ℕ
   ty = getD types f 0
 

@@ -9,13 +9,13 @@ use lib.ListN.{length, getD}
 use Rattle.model.specs.Lists.{every}
 use Rattle.model.specs.Refusals.{Out, ok, refused, _>>=_, mapped, wrongInput}
 use Rattle.model.specs.Bytes.{pairAt, pairsAt, chained}
-use Rattle.model.specs.Conjunct.{Cond}
+use Rattle.model.specs.Conjunct.{Conjuncts}
 use Rattle.model.specs.Condition.{Condition, readCondition}
 use Rattle.model.specs.Input.{Input, readingsOf, lengthsRight, readInput}
-use Rattle.model.specs.Filter.{holds, fewCombinations, filter}
+use Rattle.model.specs.Filter.{holds, fewCombinations, filterInput}
 use Rattle.model.proofs.Results.{ok-eq, refused-ok, check-ok, mapped-ok}
-use Rattle.input.specs.Answers.{IsRead as InputIsRead}
-use Rattle.condition.specs.Answers.{sizes, sizesOf, IsRead, typesOf, conjunctsOf}
+use Rattle.input.specs.Answers.{InputIsRead}
+use Rattle.condition.specs.Answers.{sizes, sizesOf, ConditionIsRead, typesOf, conjunctsOf}
 use Rattle.condition.specs.declared.Counts.{Counts}
 use Rattle.condition.proofs.Table.{condition-read}
 use Rattle.filter.specs.Verdict.{judged}
@@ -23,7 +23,7 @@ use Rattle.filter.specs.Decoding.{inputIn}
 
 -- ---- the verdict on conjuncts
 
-module _ (I : Input) (S : Cond) where
+module _ (I : Input) (S : Conjuncts) where
   pub judged-many : every (fewCombinations I) S ≡ false → judged I S ≡ refused 14
   unfolding judged
   judged-many h = rw h
@@ -48,28 +48,28 @@ input-is types s I e =
     sym (ok-eq J I (check-ok (chained (8 * length types) ps (length s) && lengthsRight types ps) wrongInput (ok J) I e .1))
 
 module _ (s t : List ℕ) where
-  abbrev pub onInput : List ℕ → Cond → Out Bool
+  abbrev pub onInput : List ℕ → Conjuncts → Out Bool
   onInput types S = readInput types t >>= λ I. judged I S
 
-  pub filter-steps : filter s t ≡ (readCondition s >>= λ C. onInput (C .types) (C .conjuncts))
-  unfolding filter judged
+  pub filter-steps : filterInput s t ≡ (readCondition s >>= λ C. onInput (C .types) (C .conjuncts))
+  unfolding filterInput judged
   filter-steps = refl
 
-  pub condition-refused : (n : ℕ) → refused n ≡ mapped sizes (readCondition s) → refused n ≡ filter s t
+  pub condition-refused : (n : ℕ) → refused n ≡ mapped sizes (readCondition s) → refused n ≡ filterInput s t
   condition-refused n e = through sizes n (readCondition s) (λ C. onInput (C .types) (C .conjuncts)) e ∙ sym filter-steps
 
-  module _ (k : Counts) (read : IsRead s k) where
-    filter-read : filter s t ≡ onInput (typesOf s) (conjunctsOf s)
+  module _ (k : Counts) (read : ConditionIsRead s k) where
+    filter-read : filterInput s t ≡ onInput (typesOf s) (conjunctsOf s)
     filter-read =
         let r = mapped-ok sizes (readCondition s) (sizesOf k) read in
         let C : Condition = r .0 in
         let q = condition-read s C (r .1) in
         filter-steps ∙ ap (λ (o : Out Condition). o >>= λ D. onInput (D .types) (D .conjuncts)) (r .1) ∙ ap₂ onInput (q .0) (q .1)
 
-    pub input-refused : (n : ℕ) → refused n ≡ mapped (λ I. tt {0}) (readInput (typesOf s) t) → refused n ≡ filter s t
+    pub input-refused : (n : ℕ) → refused n ≡ mapped (λ I. tt {0}) (readInput (typesOf s) t) → refused n ≡ filterInput s t
     input-refused n e = through (λ I. tt {0}) n (readInput (typesOf s) t) (λ I. judged I (conjunctsOf s)) e ∙ sym filter-read
 
-    pub both-read : InputIsRead (typesOf s) t → filter s t ≡ judged (inputIn (typesOf s) t) (conjunctsOf s)
+    pub both-read : InputIsRead (typesOf s) t → filterInput s t ≡ judged (inputIn (typesOf s) t) (conjunctsOf s)
     both-read h =
         let r = mapped-ok (λ I. tt {0}) (readInput (typesOf s) t) (tt {0}) h in
         filter-read ∙ ap (λ (o : Out Input). o >>= λ I. judged I (conjunctsOf s)) (r .1) ∙ ap (λ (I : Input). judged I (conjunctsOf s)) (input-is (typesOf s) t (r .0) (r .1))

@@ -3,7 +3,7 @@
 use mathlib.Core.Bool.{Bool, true, false}
 use Rattle.model.specs.Lists.{every}
 use Rattle.model.specs.Refusals.{Out, ok, refused, check, tooManyCombinations}
-use Rattle.model.specs.Conjunct.{Conj, Cond}
+use Rattle.model.specs.Conjunct.{Conj, Conjuncts}
 use Rattle.model.specs.Input.{Input}
 use Rattle.model.specs.Filter.{holds, fewCombinations}
 use Rattle.filter.specs.declared.Verdict.{Verdict}
@@ -23,5 +23,5 @@ testOf Count I e = fewCombinations I e
 testOf Evaluate I e = holds I e
 
 -- the verdict on conjuncts, with the readings of an input
-unfoldable pub judged : Input → Cond → Out Bool
+unfoldable pub judged : Input → Conjuncts → Out Bool
 judged I S = check (every (fewCombinations I) S) tooManyCombinations (ok (every (holds I) S))

@@ -9,9 +9,9 @@ ghost use lib.ListN.{length, getD};
 ghost use Rattle.model.specs.Lists.{every};
 ghost use Rattle.model.specs.Program.{typeRight};
 ghost use Rattle.model.specs.Input.{Input, width, readingAt};
-ghost use Rattle.model.specs.Filter.{holds, fewCombinations, filter};
-ghost use Rattle.input.specs.Answers.{IsRead as InputIsRead};
-ghost use Rattle.condition.specs.Answers.{IsRead, typesOf, conjunctsOf};
+ghost use Rattle.model.specs.Filter.{holds, fewCombinations, filterInput};
+ghost use Rattle.input.specs.Answers.{InputIsRead};
+ghost use Rattle.condition.specs.Answers.{ConditionIsRead, typesOf, conjunctsOf};
 ghost use Rattle.evaluator.specs.Part.{conjunctOf, IsConjunct};
 ghost use Rattle.evaluator.specs.Readings.{signedAt, Few, Lent, Counted, Decoded};
 ghost use Rattle.evaluator.specs.Plan.{Taken};
@@ -128,7 +128,7 @@ fn all_pass(
     mags: &[u64],
     negs: &[bool],
 ) -> bool
-    requires { ⌜ IsRead (now condition) sizes × Lent (now counts) (now mags) (now negs) ⌝ }
+    requires { ⌜ ConditionIsRead (now condition) sizes × Lent (now counts) (now mags) (now negs) ⌝ }
     ensures { λ r. ⌜ ((I : Input) → Decoded I (now (counts .entry)) (now (mags .entry)) (now (negs .entry)) → r ≡ every (testOf test I) (conjunctsOf (now (condition .entry)))) ⌝ }
 {
     let n = sizes.conjuncts;
@@ -148,7 +148,7 @@ fn all_pass(
 // Of a condition that is read, with the readings of an input: all products are tested before any
 // evaluation.
 fn judge(condition: &[u8], sizes: Counts, counts: &[usize], mags: &[u64], negs: &[bool]) -> Verdict
-    requires { ⌜ IsRead (now condition) sizes × Lent (now counts) (now mags) (now negs) ⌝ }
+    requires { ⌜ ConditionIsRead (now condition) sizes × Lent (now counts) (now mags) (now negs) ⌝ }
     ensures { λ r. ⌜ ((I : Input) → Decoded I (now (counts .entry)) (now (mags .entry)) (now (negs .entry)) → verdictOf r ≡ judged I (conjunctsOf (now (condition .entry)))) ⌝ }
 {
     if !all_pass(Test::Count, condition, sizes, counts, mags, negs) {
@@ -162,7 +162,7 @@ fn judge(condition: &[u8], sizes: Counts, counts: &[usize], mags: &[u64], negs: 
 
 // Of a condition and an input that are read.
 fn judge_input(condition: &[u8], sizes: Counts, input: &[u8]) -> Verdict
-    requires { ⌜ IsRead (now condition) sizes × InputIsRead (typesOf (now condition)) (now input) ⌝ }
+    requires { ⌜ ConditionIsRead (now condition) sizes × InputIsRead (typesOf (now condition)) (now input) ⌝ }
     ensures { λ r. ⌜ verdictOf r ≡ judged (inputIn (typesOf (now (condition .entry))) (now (input .entry))) (conjunctsOf (now (condition .entry))) ⌝ }
 {
     let mut counts: [usize; 32] = [0; 32];
@@ -175,8 +175,8 @@ fn judge_input(condition: &[u8], sizes: Counts, input: &[u8]) -> Verdict
 
 // Of a condition that is read.
 fn check_input(condition: &[u8], sizes: Counts, input: &[u8]) -> Verdict
-    requires { ⌜ IsRead (now condition) sizes ⌝ }
-    ensures { λ r. ⌜ verdictOf r ≡ filter (now (condition .entry)) (now (input .entry)) ⌝ }
+    requires { ⌜ ConditionIsRead (now condition) sizes ⌝ }
+    ensures { λ r. ⌜ verdictOf r ≡ filterInput (now (condition .entry)) (now (input .entry)) ⌝ }
 {
     let types = condition::types(condition, sizes);
     let r = input::read(types, input);
@@ -188,7 +188,7 @@ fn check_input(condition: &[u8], sizes: Counts, input: &[u8]) -> Verdict
 
 // The verdict on two byte strings.
 pub fn check(condition: &[u8], input: &[u8]) -> Verdict
-    ensures { λ r. ⌜ verdictOf r ≡ filter (now (condition .entry)) (now (input .entry)) ⌝ }
+    ensures { λ r. ⌜ verdictOf r ≡ filterInput (now (condition .entry)) (now (input .entry)) ⌝ }
 {
     let r = condition::read(condition);
     match r {

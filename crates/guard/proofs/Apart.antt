@@ -10,7 +10,7 @@ use lib.ListN.{length, take, drop}
 use native.Mathlib.Omega.{arith}
 use Rattle.model.specs.Refusals.{Out, ok, refused, _>>=_, mapped, check, lentTooShort}
 use Rattle.model.specs.Condition.{analysis}
-use Rattle.model.specs.Filter.{filter}
+use Rattle.model.specs.Filter.{filterInput}
 use Rattle.model.specs.Run.{Ran, run}
 use Rattle.model.specs.Guarded.{Guarded, held, passed, admitted, guarded}
 use Rattle.model.proofs.Demand3.{demand3}
@@ -20,7 +20,7 @@ use Rattle.model.proofs.Tests.{case, and-right}
 use Rattle.filter.specs.Verdict.{verdictOf}
 use Rattle.filter.specs.declared.Verdict.the-variants.{Pass}
 use Rattle.guard.specs.Answers.{IsDerived, guarding, ranWith}
-use Rattle.interpreter.specs.Answers.{answerOf}
+use Rattle.interpreter.specs.Answers.{runAnswer}
 use Rattle.interpreter.specs.declared.Ran.the-variants.{Ended}
 use Rattle.interpreter.specs.Progress.{scratchWords}
 use Rattle.analysis.specs.Deriving.{derivation, Derives}
@@ -41,8 +41,8 @@ derived-analysis program n file h = derives-analysis program (h .output) (h .wor
 -- of the exact run: by the three contracts, whatever lengths were lent
 pub apart : (program input : List ℕ) (limit : ℕ) (choices log : List ℕ) (output words words′ : ℕ) (n : ℕ) (before condition : List ℕ) (end steps records : ℕ) (log′ : List ℕ)
     → Derives (derivation output words program) (Written n) before condition
-    → verdictOf Pass ≡ filter (take n condition) input
-    → answerOf (Ended end steps records) log′ ≡ check (leb scratchWords words′) lentTooShort (run program input limit choices log)
+    → verdictOf Pass ≡ filterInput (take n condition) input
+    → runAnswer (Ended end steps records) log′ ≡ check (leb scratchWords words′) lentTooShort (run program input limit choices log)
     → Exact program input limit choices (length log) records log′
 apart program input limit choices log output words words′ n before condition end steps records log′ d v r =
     let ran = ranWith end steps records log′ in
@@ -57,24 +57,24 @@ module _ (program input : List ℕ) (limit : ℕ) (choices log : List ℕ) where
 
   pub not-derived : (n : ℕ) → analysis program ≡ refused n → guarded program input limit choices log ≡ refused n
   unfolding guarded
-  not-derived n a = ap (_>>= λ C. filter C input >>= admitted C ran) a
+  not-derived n a = ap (_>>= λ C. filterInput C input >>= admitted C ran) a
 
   -- with the condition derived: what the filter's answer leads to
   module _ (C : List ℕ) (a : analysis program ≡ ok C) where
-    filtered : guarded program input limit choices log ≡ (filter C input >>= admitted C ran)
+    filtered : guarded program input limit choices log ≡ (filterInput C input >>= admitted C ran)
     unfolding guarded
-    filtered = ap (_>>= λ D. filter D input >>= admitted D ran) a
+    filtered = ap (_>>= λ D. filterInput D input >>= admitted D ran) a
 
-    pub not-filtered : (n : ℕ) → filter C input ≡ refused n → guarded program input limit choices log ≡ refused n
+    pub not-filtered : (n : ℕ) → filterInput C input ≡ refused n → guarded program input limit choices log ≡ refused n
     not-filtered n f = filtered ∙ ap (_>>= admitted C ran) f
 
-    pub is-held : filter C input ≡ ok false → guarded program input limit choices log ≡ ok held
+    pub is-held : filterInput C input ≡ ok false → guarded program input limit choices log ≡ ok held
     is-held f = filtered ∙ ap (_>>= admitted C ran) f
 
-    pub not-run : (n : ℕ) → filter C input ≡ ok true → ran ≡ refused n → guarded program input limit choices log ≡ refused n
+    pub not-run : (n : ℕ) → filterInput C input ≡ ok true → ran ≡ refused n → guarded program input limit choices log ≡ refused n
     not-run n f r = filtered ∙ ap (_>>= admitted C ran) f ∙ ap (λ o. admitted C o true) r
 
-    pub is-run : (R : Ran) → filter C input ≡ ok true → ran ≡ ok R → guarded program input limit choices log ≡ ok (passed C R)
+    pub is-run : (R : Ran) → filterInput C input ≡ ok true → ran ≡ ok R → guarded program input limit choices log ≡ ok (passed C R)
     is-run R f r = filtered ∙ ap (_>>= admitted C ran) f ∙ ap (λ o. admitted C o true) r
 
 -- ---- what was lent

@@ -3,7 +3,7 @@
 ghost use mathlib.Core.Path.{_≡_};
 ghost use Prim.Native.Nat.{_≤_};
 ghost use lib.ListN.{length, take};
-ghost use Rattle.model.specs.Filter.{filter};
+ghost use Rattle.model.specs.Filter.{filterInput};
 ghost use Rattle.filter.specs.Verdict.{verdictOf};
 ghost use Rattle.filter.specs.declared.Verdict.the-variants.{Pass};
 ghost use Rattle.model.specs.Guarded.{guarded};
@@ -31,7 +31,7 @@ fn run_passed(
     condition: &mut [u8],
     scratch: &mut [u64],
 ) -> Guarded
-    requires { ⌜ (n ≤ length (now file)) × (61992 ≤ length (now condition)) × (n ≤ 61992) × (85195 ≤ length (now scratch)) × IsDerived (now program) n (now file) × (verdictOf Pass ≡ filter (take n (now file)) (now input)) ⌝ }
+    requires { ⌜ (n ≤ length (now file)) × (61992 ≤ length (now condition)) × (n ≤ 61992) × (85195 ≤ length (now scratch)) × IsDerived (now program) n (now file) × (verdictOf Pass ≡ filterInput (take n (now file)) (now input)) ⌝ }
     ensures { λ r. ⌜ Answers (now (program .entry)) (now (input .entry)) limit (now (choices .entry)) r (guarded (now (program .entry)) (now (input .entry)) limit (now (choices .entry)) (now (log .entry))) (now (condition .entry)) (now (log .entry)) (now (condition .exit)) (now (log .exit)) ⌝ }
 {
     let ran = interpreter::run(program, input, limit, choices, log, scratch);

@@ -18,7 +18,7 @@ use Rattle.model.specs.Input.{Input, width, bitsAt, readingAt, readingsOf, leng
 use Rattle.model.proofs.Tests.{and-left, and-right}
 use Rattle.model.proofs.Results.{check-ok}
 use Rattle.model.proofs.Parts.{length-entries, entries-getD, chained-inside, length-part, Narrow, byte-narrow, u16-narrow, u32-narrow, u64-narrow, entries-part}
-use Rattle.input.specs.Answers.{IsRead, fieldPart, fieldReadings}
+use Rattle.input.specs.Answers.{InputIsRead, fieldPart, fieldReadings}
 use Rattle.input.proofs.Links.{inputRight, read-check}
 
 -- ---- one reading
@@ -65,7 +65,7 @@ third t f g h = by-width t (t % 4 ≡ 3) (λ e. absurd (f e)) (λ e. absurd (g e
 
 -- ---- an input that is read
 
-module _ (types s : List ℕ) (read : IsRead types s) where
+module _ (types s : List ℕ) (read : InputIsRead types s) where
   right : inputRight types s ≡ true
   right = check-ok (inputRight types s) wrongInput (ok (tt {0})) (tt {0}) (sym (read-check types s) ∙ read) .0
 
@@ -95,7 +95,7 @@ pub record Placed (types s : List ℕ) (f : ℕ) : Type 0 where
   pub few : pairAt s (8 * f) .len / width (getD types f 0) ≤ 128
 
 -- where a field's part stands
-pub placed : (types s : List ℕ) (f : ℕ) → IsRead types s → f < length types → Placed types s f
+pub placed : (types s : List ℕ) (f : ℕ) → InputIsRead types s → f < length types → Placed types s f
 placed types s f read h =
     let ps = pairsAt s 0 (length types) in
     let d = pairAt s 0 in
@@ -129,7 +129,7 @@ field-readings types s I f e h =
     sym (ap (λ (K : Input). K f) same) ∙ rw (lt-ltb f (length types) h)
 
 -- a field's part holds its readings
-pub part-readings : (types s : List ℕ) (f : ℕ) → IsRead types s → f < length types
+pub part-readings : (types s : List ℕ) (f : ℕ) → InputIsRead types s → f < length types
     → fieldReadings types s f ≡ entries (readingAt (getD types f 0)) (width (getD types f 0)) (fieldPart s f) 0 (length (fieldPart s f) / width (getD types f 0))
 unfolding readingsOf
 part-readings types s f read h =
@@ -149,14 +149,14 @@ input-part types s I f e h = field-readings types s I f e h ∙ part-readings ty
 -- ---- by what was read of a field's pair
 
 module _ (types s : List ℕ) (f : ℕ) where
-  pub counted : (l w : ℕ) → IsRead types s → f < length types → l ≡ pairAt s (8 * f) .len → w ≡ width (getD types f 0)
+  pub counted : (l w : ℕ) → InputIsRead types s → f < length types → l ≡ pairAt s (8 * f) .len → w ≡ width (getD types f 0)
       → (l / w ≡ length (fieldReadings types s f)) × (l / w ≤ 128)
   counted l w read h el ew = (rw (el, ew) (sym (count-readings types s f)), rw (el, ew) (placed types s f read h .few))
 
   pub taken : (a l : ℕ) → a ≡ pairAt s (8 * f) .offset → l ≡ pairAt s (8 * f) .len → take (a + l - a) (drop a s) ≡ fieldPart s f
   taken a l ea el = let e : a + l - a ≡ l = omega arith in rw (e, ea, el)
 
-  pub ends-inside : (a l : ℕ) → IsRead types s → f < length types → a ≡ pairAt s (8 * f) .offset → l ≡ pairAt s (8 * f) .len → a + l ≤ length s
+  pub ends-inside : (a l : ℕ) → InputIsRead types s → f < length types → a ≡ pairAt s (8 * f) .offset → l ≡ pairAt s (8 * f) .len → a + l ≤ length s
   ends-inside a l read h ea el = rw (ea, el) (placed types s f read h .inside)
 
 -- ---- the reading with a number

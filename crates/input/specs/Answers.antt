@@ -16,9 +16,9 @@ use Rattle.input.specs.declared.PartRead.{PartRead}
 use Rattle.input.specs.declared.PartRead.the-variants.{Ends, Refused as Wrong}
 
 -- read, or the number of the refusal
-abbrev pub outOf : InputRead → Out (Unit {0})
-outOf Yes = ok tt
-outOf (Refused n) = refused n
+abbrev pub inputAnswer : InputRead → Out (Unit {0})
+inputAnswer Yes = ok tt
+inputAnswer (Refused n) = refused n
 
 abbrev pub linkedOut : PartRead → Out ℕ
 linkedOut (Ends e) = ok e
@@ -30,8 +30,8 @@ linkOf ty p start =
     check (eqb (p .offset) start && eqb (p .len % width ty) 0 && leb (p .len) (128 * width ty)) wrongInput (ok (start + p .len))
 
 -- the input is in its form
-abbrev pub IsRead : List ℕ → List ℕ → Type 0
-IsRead types s = mapped (λ I. tt {0}) (readInput types s) ≡ ok tt
+abbrev pub InputIsRead : List ℕ → List ℕ → Type 0
+InputIsRead types s = mapped (λ I. tt {0}) (readInput types s) ≡ ok tt
 
 -- the bytes of a field's readings
 abbrev pub fieldPart : List ℕ → ℕ → List ℕ

@@ -8,7 +8,7 @@ ghost use Rattle.arith.specs.Whole.{valueOf};
 ghost use Rattle.model.specs.Refusals.{mapped};
 ghost use Rattle.model.specs.Bytes.{pairAt};
 ghost use Rattle.model.specs.Input.{width, bitsAt, readingAt, readInput};
-ghost use Rattle.input.specs.Answers.{outOf, linkedOut, linkOf, IsRead, fieldPart, fieldReadings};
+ghost use Rattle.input.specs.Answers.{inputAnswer, linkedOut, linkOf, InputIsRead, fieldPart, fieldReadings};
 
 // The input is in its form, or the number of the refusal.
 pub enum InputRead {
@@ -56,7 +56,7 @@ fn part_end(ty: u8, input: &[u8], at: usize, next: usize) -> PartRead
 
 // Whether the input has its form, for fields of these types.
 pub fn read(types: &[u8], input: &[u8]) -> InputRead
-    ensures { λ r. ⌜ outOf r ≡ mapped (λ I. tt {0}) (readInput (now (types .entry)) (now (input .entry))) ⌝ }
+    ensures { λ r. ⌜ inputAnswer r ≡ mapped (λ I. tt {0}) (readInput (now (types .entry)) (now (input .entry))) ⌝ }
 {
     let fields = types.len();
     if input.len() / 8 < fields {
@@ -80,7 +80,7 @@ pub fn read(types: &[u8], input: &[u8]) -> InputRead
 
 // The readings of a field, as a part of an input that is read.
 pub fn readings<'a>(types: &[u8], input: &'a [u8], field: usize) -> &'a [u8]
-    requires { ⌜ IsRead (now types) (now input) × (field < length (now types)) ⌝ }
+    requires { ⌜ InputIsRead (now types) (now input) × (field < length (now types)) ⌝ }
     ensures { λ r. ⌜ now r ≡ fieldPart (now (input .entry)) field ⌝ }
 {
     let start = bytes_le::u32_at(input, 8 * field) as usize;
@@ -91,7 +91,7 @@ pub fn readings<'a>(types: &[u8], input: &'a [u8], field: usize) -> &'a [u8]
 
 // How many readings a field has in an input that is read.
 pub fn count(types: &[u8], input: &[u8], field: usize) -> usize
-    requires { ⌜ IsRead (now types) (now input) × (field < length (now types)) ⌝ }
+    requires { ⌜ InputIsRead (now types) (now input) × (field < length (now types)) ⌝ }
     ensures { λ r. ⌜ (r ≡ length (fieldReadings (now (types .entry)) (now (input .entry)) field)) × (r ≤ 128) ⌝ }
 {
     let w = width_of(types[field]);

@@ -1,6 +1,6 @@
 // The listing of a condition, printed to standard output: the number of conjuncts, then a line for
 // each with its place and its nodes. Assumes nothing.
-ghost use Rattle.condition.specs.Answers.{IsRead};
+ghost use Rattle.condition.specs.Answers.{ConditionIsRead};
 use condition::ConditionRead;
 use condition::Counts;
 use condition::Node;
@@ -93,7 +93,7 @@ pub fn refused(n: u8) {
 
 // The number of conjuncts, and a line for each.
 fn conjuncts(condition: &[u8], counts: Counts)
-    requires { ⌜ IsRead (now condition) counts ⌝ }
+    requires { ⌜ ConditionIsRead (now condition) counts ⌝ }
 {
     let n = counts.conjuncts;
     say(b"conjuncts ");

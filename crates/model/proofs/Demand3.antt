@@ -9,12 +9,12 @@ use lib.ListN.{length}
 use borrow.Author.Tests.{leb-true, ltb-true}
 use Rattle.model.specs.Lists.{All, every}
 use Rattle.model.specs.Refusals.{Out, ok, _>>=_, check, tooManyCombinations}
-use Rattle.model.specs.Conjunct.{Cond}
+use Rattle.model.specs.Conjunct.{Conjuncts}
 use Rattle.model.specs.Walk.{derived}
 use Rattle.model.specs.Program.{Program, Tables, countsRight, readProgram}
 use Rattle.model.specs.Condition.{encode, readCondition, analysis}
 use Rattle.model.specs.Input.{Input, readInput}
-use Rattle.model.specs.Filter.{fewCombinations, holds, filter}
+use Rattle.model.specs.Filter.{fewCombinations, holds, filterInput}
 use Rattle.model.specs.Run.{zeros, Line, markByte, choicesOf, Ran}
 use Rattle.model.specs.Exact.{Note}
 use Rattle.model.specs.Demands.{Pairwise, Matches, Marks, Demand3}
@@ -37,7 +37,7 @@ use Rattle.model.proofs.Tidied.{derived-tidy}
 -- what an accepted program is, and what is written for it
 pub record Accepted (program condition : List ℕ) : Type 0 where
   pub P : Program
-  pub S : Cond
+  pub S : Conjuncts
   pub reads : readProgram program ≡ ok P
   pub derives : derived (P .code) ≡ ok S
   pub writes : encode (P .tables .fields) S ≡ condition
@@ -45,7 +45,7 @@ pub record Accepted (program condition : List ℕ) : Type 0 where
 pub analysis-accepts : (program condition : List ℕ) → analysis program ≡ ok condition → Accepted program condition
 unfolding analysis
 analysis-accepts program condition e =
-    let write : Program → Cond → Out (List ℕ) = λ P S. ok (encode (P .tables .fields) S) in
+    let write : Program → Conjuncts → Out (List ℕ) = λ P S. ok (encode (P .tables .fields) S) in
     let p = bind-ok (readProgram program) (λ P. derived (P .code) >>= write P) condition e in
     let q = bind-ok (derived (p .0 .code)) (write (p .0)) condition (p .2) in
     record { P = p .0; S = q .0; reads = p .1; derives = q .1; writes = ok-eq (encode (p .0 .tables .fields) (q .0)) condition (q .2) }
@@ -69,8 +69,8 @@ module _ (program condition : List ℕ) (a : Accepted program condition) where
       (derived-tidy (a .P .code) (a .S) (a .derives)) (derived-formed program (a .P) (a .S) (a .reads) (a .derives))
 
   -- an input that passes under it: the zero state meets every conjunct
-  pub passes-meets : (input : List ℕ) (I : Input) → readInput (a .P .tables .fields) input ≡ ok I → filter condition input ≡ ok true → All (Meets I zeros) (a .S)
-  unfolding filter
+  pub passes-meets : (input : List ℕ) (I : Input) → readInput (a .P .tables .fields) input ≡ ok I → filterInput condition input ≡ ok true → All (Meets I zeros) (a .S)
+  unfolding filterInput
   passes-meets input I i e =
       let all-hold : every (holds I) (a .S) ≡ true = passed (rw (derived-reads-back, i) at e) in
       all-imp (λ c h. safe-meets I c (holds-safe I c h)) (a .S) (every-all (holds I) (a .S) all-hold)
@@ -89,7 +89,7 @@ unmarked-match (r ∷ rs) (w ∷ ws) h k =
     let m : recordOf r .mark ≡ 0 = ap markByte (k .0) in
     (record { label = h .0 .label; mark = m; pad = h .0 .pad; number = h .0 .number m; overflows = h .0 .mark .0 m }, unmarked-match rs ws (h .1) (k .1))
 
-lines-unmarked : (program condition input : List ℕ) (limit : ℕ) (choices log : List ℕ) (ran : Ran) (a : Accepted program condition) → filter condition input ≡ ok true
+lines-unmarked : (program condition input : List ℕ) (limit : ℕ) (choices log : List ℕ) (ran : Ran) (a : Accepted program condition) → filterInput condition input ≡ ok true
     → (r : Runs program input limit choices log ran) → All (λ l. l .value .mark ≡ false) (linesOf program input limit choices log ran r)
 unfolding linesOf
 lines-unmarked program condition input limit choices log ran a passed r =

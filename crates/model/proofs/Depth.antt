@@ -7,7 +7,7 @@ use Prim.Native.Nat.{ℕ, zero, suc, _+_, _<_}
 use native.Mathlib.Omega.{arith}
 use borrow.Author.Tests.{ltb-true}
 use lib.Dec.{ltb}
-use Rattle.model.specs.Code.{Code, done, step, branch, loop, Stmt, plain, if, else, end, while, Open, top, block, other, front, depth, taking, opened, closed, treeOf}
+use Rattle.model.specs.Code.{Code, done, step, branch, loop, Stmt, plain, if, else, end, while, Open, top, block, other, front, openBlocks, taking, opened, closed, treeOf}
 use Rattle.model.specs.Program.{Tables, stmtOf, Program, readProgram}
 use Rattle.model.specs.Refusals.{Out, ok, refused}
 use Rattle.model.specs.Run.{append}
@@ -40,7 +40,7 @@ Fits k (top c) = (k ≡ 4) × Nested k c
 Fits k (block c s) = Nested k c × Fits (suc k) s
 Fits k (other e c s) = Nested k e × Nested k c × Fits (suc k) s
 
-fits-depth : (k : ℕ) (s : Open) → Fits k s → k + depth s ≡ 4
+fits-depth : (k : ℕ) (s : Open) → Fits k s → k + openBlocks s ≡ 4
 fits-depth k (top c) h = omega (arith, h .0)
 fits-depth k (block c s) h = omega (arith, fits-depth (suc k) s (h .1))
 fits-depth k (other e c s) h = omega (arith, fits-depth (suc k) s (h .2))
@@ -55,7 +55,7 @@ front-fits f k (other e c s) g h = (h .0, g c (h .1), h .2)
 abbrev Roomy : Open → Type 0
 Roomy s = (k : ℕ) × Fits k s
 
-opens : (k : ℕ) (s : Open) → Fits k s → depth s < 4 → Roomy (block done s)
+opens : (k : ℕ) (s : Open) → Fits k s → openBlocks s < 4 → Roomy (block done s)
 opens zero s h b = absurd (omega (arith, fits-depth zero s h))
 opens (suc k) s h b = (k, (tt, h))
 
@@ -71,8 +71,8 @@ taking-fits l else (top c) t r e = absurd (refused-ok 8 t e)
 taking-fits l else (block c s) t r e = let h = r .1 in subst Roomy (ok-eq (other c done s) t e) (r .0, (h .0, tt, h .1))
 taking-fits l else (other n y s) t r e = absurd (refused-ok 8 t e)
 taking-fits l end s t r e =
-    let k = check-ok (ltb (depth s) 4) 8 (ok (block done s)) t e in
-    subst Roomy (ok-eq (block done s) t (k .1)) (opens (r .0) s (r .1) (ltb-true (depth s) 4 (k .0)))
+    let k = check-ok (ltb (openBlocks s) 4) 8 (ok (block done s)) t e in
+    subst Roomy (ok-eq (block done s) t (k .1)) (opens (r .0) s (r .1) (ltb-true (openBlocks s) 4 (k .0)))
 taking-fits l (while v) (top c) t r e = absurd (refused-ok 8 t e)
 taking-fits l (while v) (block c s) t r e =
     let h = r .1 in

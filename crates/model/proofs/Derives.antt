@@ -14,7 +14,7 @@ use Rattle.model.specs.Lists.{All}
 use Rattle.model.specs.Refusals.{ok, _>>=_}
 use Rattle.model.specs.Code.{Right, number, copy, calc, change, read, load, Instr, assign, store, site}
 use Rattle.model.specs.Program.{Program, Tables, variableType, arrayOf, readProgram}
-use Rattle.model.specs.Conjunct.{Source, field, cell, Atom, Node, const, atom, var, op, conv, Conj, Cond, sameAtom, atoms, renamed, onAtom, renumber}
+use Rattle.model.specs.Conjunct.{Source, field, cell, Atom, Node, const, atom, var, op, conv, Conj, Conjuncts, sameAtom, atoms, renamed, onAtom, renumber}
 use Rattle.model.specs.Walk.{nodes, replace, onArray, loads, swap, swapAll, subsets, before, zeroed, derived}
 use Rattle.model.specs.Condition.{sourceType, typeNode, typeNodes, single, whole}
 use Rattle.model.proofs.Atoms.{atom-eq}
@@ -198,7 +198,7 @@ module _ (T : Tables) where
   zeroed-stands (conv ty) h = itself InFile (conv ty) h
 
 -- every conjunct that the analysis derives from a program that is read may stand in a condition file
-pub derived-formed : (s : List ℕ) (P : Program) (S : Cond) → readProgram s ≡ ok P → derived (P .code) ≡ ok S → All (Formed (P .tables .fields)) S
+pub derived-formed : (s : List ℕ) (P : Program) (S : Conjuncts) → readProgram s ≡ ok P → derived (P .code) ≡ ok S → All (Formed (P .tables .fields)) S
 derived-formed s P S p d =
     let T = P .tables in
     derived-every (Whole (InFile T)) (Whole (WalkNode T)) (TypedInstr T) (whole-renumber (InFile T) (λ a n h. h)) (whole-renumber (WalkNode T) (λ a n h. h))

@@ -11,7 +11,7 @@ use lib.Seq.{getD-drop, take-append-seam}
 use borrow.Author.Tests.{eq-eqb}
 use Rattle.model.specs.Lists.{All, every}
 use Rattle.model.specs.Bytes.{u32At, bytes4, part, Pair, pairAt, pairsAt, chained, entries}
-use Rattle.model.specs.Conjunct.{Conj, Cond}
+use Rattle.model.specs.Conjunct.{Conj, Conjuncts}
 use Rattle.model.specs.Condition.{conjunctBytes, pairBytes, conjunctsAt, encode, nodeAt, conjunctAt, nodeRight, nodesRight}
 use Rattle.model.proofs.Every.{every-of-map, all-every}
 use Rattle.model.proofs.Formed.{FileNode}
@@ -22,7 +22,7 @@ use Rattle.model.proofs.Places.{From, from-after, Local, local-from, le
 use Rattle.model.proofs.Tests.{eqb-self}
 
 -- how many nodes a set has
-abbrev pub size : Cond → ℕ
+abbrev pub size : Conjuncts → ℕ
 size [] = 0
 size (e ∷ S) = length e + size S
 
@@ -31,7 +31,7 @@ abbrev pub pairOf : ℕ → Conj → Pair
 pairOf a e = record { offset = a; len = 8 * length e }
 
 -- the pairs of conjuncts that stand one after the other from a place on
-abbrev pub pairs : ℕ → Cond → List Pair
+abbrev pub pairs : ℕ → Conjuncts → List Pair
 pairs a [] = []
 pairs a (e ∷ S) = pairOf a e ∷ pairs (a + 8 * length e) S
 
@@ -44,7 +44,7 @@ eighth n = omega arith
 -- ---- conjuncts one after the other
 
 module _ (types : List ℕ) where
-  pub conjuncts-size : (S : Cond) → All (All (FileNode types)) S → length (flatMap conjunctBytes S) ≡ 8 * size S
+  pub conjuncts-size : (S : Conjuncts) → All (All (FileNode types)) S → length (flatMap conjunctBytes S) ≡ 8 * size S
   unfolding flatMap
   conjuncts-size [] h = refl
   conjuncts-size (e ∷ S) h = rw length-append (omega (arith, conjunct-size types e (h .0), conjuncts-size S (h .1)))
@@ -61,14 +61,14 @@ module _ (types : List ℕ) where
   -- what finds one at its pair finds them all
   module _ {A : Type 0} (look : List ℕ → Pair → A) (get : Conj → A)
       (found : (e : Conj) → All (FileNode types) e → (s : List ℕ) (a : ℕ) (t : List ℕ) → From s a (conjunctBytes e ++ t) → look s (pairOf a e) ≡ get e) where
-    conjuncts-found : (S : Cond) → All (All (FileNode types)) S → (s : List ℕ) (a : ℕ) → From s a (flatMap conjunctBytes S) → map (look s) (pairs a S) ≡ map get S
+    conjuncts-found : (S : Conjuncts) → All (All (FileNode types)) S → (s : List ℕ) (a : ℕ) → From s a (flatMap conjunctBytes S) → map (look s) (pairs a S) ≡ map get S
     unfolding flatMap
     conjuncts-found [] h s a f = refl
     conjuncts-found (e ∷ S) h s a f =
         ap₂ _∷_ (found e (h .0) s a (flatMap conjunctBytes S) f)
         (conjuncts-found S (h .1) s (a + 8 * length e) (from-after s a (conjunctBytes e) (flatMap conjunctBytes S) (8 * length e) (conjunct-size types e (h .0)) f))
 
-  module _ (S : Cond) (h : All (All (FileNode types)) S) (s : List ℕ) (a : ℕ) (f : From s a (flatMap conjunctBytes S)) where
+  module _ (S : Conjuncts) (h : All (All (FileNode types)) S) (s : List ℕ) (a : ℕ) (f : From s a (flatMap conjunctBytes S)) where
     conjuncts-read : map (conjunctAt s) (pairs a S) ≡ S
     conjuncts-read = conjuncts-found conjunctAt (λ e. e) placed-read S h s a f ∙ map-id S
 
@@ -95,29 +95,29 @@ pair-read : (p : Pair) (t : List ℕ) → pairAt (pairPut p ++ t) 0 ≡ p
 unfolding pairPut bytes4
 pair-read p t = λ i. record { offset = four-back (p .offset) i; len = four-back (p .len) i }
 
-length-pairs : (S : Cond) (at : ℕ) → length (pairs at S) ≡ length S
+length-pairs : (S : Conjuncts) (at : ℕ) → length (pairs at S) ≡ length S
 length-pairs [] at = refl
 length-pairs (e ∷ S) at = ap suc (length-pairs S (at + 8 * length e))
 
 -- the table is its pairs, one after the other
-pairs-bytes : (S : Cond) (at : ℕ) → pairBytes at S ≡ flatMap pairPut (pairs at S)
+pairs-bytes : (S : Conjuncts) (at : ℕ) → pairBytes at S ≡ flatMap pairPut (pairs at S)
 unfolding pairBytes flatMap pairPut
 pairs-bytes [] at = refl
 pairs-bytes (e ∷ S) at = ap (bytes4 at ++ bytes4 (8 * length e) ++_) (pairs-bytes S (at + 8 * length e))
 
-pub table-size : (S : Cond) (at : ℕ) → length (pairBytes at S) ≡ 8 * length S
+pub table-size : (S : Conjuncts) (at : ℕ) → length (pairBytes at S) ≡ 8 * length S
 table-size S at =
     ap length (pairs-bytes S at) ∙ length-things pairPut 8 (pairs at S) (all-of pair-size (pairs at S)) ∙ ap (8 *_) (length-pairs S at)
 
 -- the reader finds them
-table-read : (S : Cond) (at : ℕ) (s : List ℕ) (a : ℕ) (t : List ℕ) → From s a (pairBytes at S ++ t) → pairsAt s a (length S) ≡ pairs at S
+table-read : (S : Conjuncts) (at : ℕ) (s : List ℕ) (a : ℕ) (t : List ℕ) → From s a (pairBytes at S ++ t) → pairsAt s a (length S) ≡ pairs at S
 table-read S at s a t f =
     ap (entries pairAt 8 s a) (sym (length-pairs S at))
     ∙ entries-read pairPut 8 pairAt (λ p. p) pair-local (pairs at S) (all-of pair-size (pairs at S)) (all-of pair-read (pairs at S)) s a t (f ∙ ap (_++ t) (pairs-bytes S at))
     ∙ map-id (pairs at S)
 
 -- and each conjunct stands where the one before ends
-pub table-chained : (S : Cond) (at end : ℕ) → end ≡ at + 8 * size S → chained at (pairs at S) end ≡ true
+pub table-chained : (S : Conjuncts) (at end : ℕ) → end ≡ at + 8 * size S → chained at (pairs at S) end ≡ true
 unfolding chained
 table-chained [] at end h = eq-eqb at end (omega arith)
 table-chained (e ∷ S) at end h = rw (eqb-self at) (table-chained S (at + 8 * length e) end (omega arith))
@@ -131,7 +131,7 @@ four : (v : ℕ) → length (bytes4 v) ≡ 4
 unfolding bytes4
 four v = refl
 
-module _ (types : List ℕ) (S : Cond) where
+module _ (types : List ℕ) (S : Conjuncts) where
   -- where the conjuncts begin
   abbrev begin : ℕ
   begin = conjunctsAt (length types) (length S)

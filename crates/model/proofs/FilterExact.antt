@@ -9,7 +9,7 @@ use Rattle.model.specs.Lists.{every}
 use Rattle.model.specs.Refusals.{ok}
 use Rattle.model.specs.Condition.{Condition, readCondition}
 use Rattle.model.specs.Input.{Input, readInput}
-use Rattle.model.specs.Filter.{holds, fewCombinations, filter}
+use Rattle.model.specs.Filter.{holds, fewCombinations, filterInput}
 use Rattle.model.specs.Demands.{Demand2}
 use Rattle.model.proofs.Choosing.{holds-safe, safe-holds, held-overflows, overflows-held}
 use Rattle.model.proofs.Every.{every-all, all-every, every-some, some-every}
@@ -17,8 +17,8 @@ use Rattle.model.proofs.Lists.{all-imp, some-imp}
 
 -- within the limit the answer is the test of every conjunct
 pub filter-answer : (condition input : List ℕ) (C : Condition) (I : Input) → readCondition condition ≡ ok C → readInput (C .types) input ≡ ok I
-    → every (fewCombinations I) (C .conjuncts) ≡ true → filter condition input ≡ ok (every (holds I) (C .conjuncts))
-unfolding filter
+    → every (fewCombinations I) (C .conjuncts) ≡ true → filterInput condition input ≡ ok (every (holds I) (C .conjuncts))
+unfolding filterInput
 filter-answer condition input C I c i few = rw (c, i, few)
 
 pub filter-exact : Demand2

@@ -14,10 +14,10 @@ use Rattle.arith.specs.Step.{overflows, exactOf}
 use Rattle.arith.specs.Words.{immediate}
 use Rattle.arith.proofs.StepLaws.{step-wraps}
 use Rattle.model.specs.Code.{number, copy, calc, change, read, load, Instr, assign, store, site, Code, done, step, branch, loop}
-use Rattle.model.specs.Exact.{Made, given, Store, nothing, makeVar, makeCell, member, put, both, first, make, over, flag, count, Note, noted, following, notes}
+use Rattle.model.specs.Exact.{Made, given, Store, nothing, makeVar, makeCell, member, put, both, first, make, over, flag, overflowCount, Note, noted, following, notes}
 use Rattle.model.specs.Input.{Input}
 use Rattle.model.specs.Lists.{All}
-use Rattle.model.specs.Run.{State, zeros, setVar, setCell, reading, Next, go, halt, taking, index, exec, append, Line, logged, permit, roomLeft, taken, Ended, stepped, after, execute}
+use Rattle.model.specs.Run.{State, zeros, setVar, setCell, reading, Next, go, halt, takingChoice, index, exec, append, Line, logged, permit, roomLeft, taken, Ended, stepped, after, execute}
 use Rattle.model.specs.Values.{Val, plain, Operation, stepOp, operated, converted}
 use Rattle.model.proofs.Lists.{all-imp}
 use Rattle.model.proofs.Runs.{Leads, permit-leads}
@@ -77,18 +77,18 @@ both-all P [] qs h k = k
 both-all P (p ∷ ps) qs h k = put-all P p (both ps qs) (h .0) (both-all P ps qs (h .1) k)
 
 -- the count is 0 exactly where none of the places overflowed
-cold-count : (H : List Bool) (ps : List ℕ) → hot H ps ≡ false → count H ps ≡ 0
+cold-count : (H : List Bool) (ps : List ℕ) → hot H ps ≡ false → overflowCount H ps ≡ 0
 unfolding hot
 cold-count H [] e = refl
 cold-count H (p ∷ ps) e =
-    case (flag H p) (λ z. (z || hot H ps) ≡ false → cond z 1 0 + count H ps ≡ 0) (λ r k. absurd (true≢false k))
-    (λ r k. let q : count H ps ≡ 0 = cold-count H ps k in omega linear) e
+    case (flag H p) (λ z. (z || hot H ps) ≡ false → cond z 1 0 + overflowCount H ps ≡ 0) (λ r k. absurd (true≢false k))
+    (λ r k. let q : overflowCount H ps ≡ 0 = cold-count H ps k in omega linear) e
 
-count-cold : (H : List Bool) (ps : List ℕ) → count H ps ≡ 0 → hot H ps ≡ false
+count-cold : (H : List Bool) (ps : List ℕ) → overflowCount H ps ≡ 0 → hot H ps ≡ false
 unfolding hot
 count-cold H [] e = refl
 count-cold H (p ∷ ps) e =
-    case (flag H p) (λ z. cond z 1 0 + count H ps ≡ 0 → (z || hot H ps) ≡ false) (λ r k. absurd (omega linear))
+    case (flag H p) (λ z. cond z 1 0 + overflowCount H ps ≡ 0 → (z || hot H ps) ≡ false) (λ r k. absurd (omega linear))
     (λ r k. count-cold H ps (omega linear)) e
 
 -- ---- values
@@ -197,7 +197,7 @@ alike-append (r ∷ rs) ss (w ∷ ws) us h k = (h .0, alike-append rs ss ws us (
 
 module _ (I : Input) where
   read-alongside : (H : List Bool) (σ : State) (τ : Store) (a : ℕ) (rs : List ℤ) (ch : List ℕ) → Alongside H σ τ
-      → Leads (λ σ′. Alongside (false ∷ H) σ′ (makeVar τ a (given (getD rs (first ch % length rs) (pos 0))))) (taking rs σ a ch)
+      → Leads (λ σ′. Alongside (false ∷ H) σ′ (makeVar τ a (given (getD rs (first ch % length rs) (pos 0))))) (takingChoice rs σ a ch)
   unfolding reading
   read-alongside H σ τ a [] ch h = tt
   read-alongside H σ τ a (r ∷ rs) [] h = tt

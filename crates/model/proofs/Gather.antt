@@ -3,19 +3,19 @@
 use mathlib.Core.Path.{_≡_, refl, subst}
 use mathlib.Core.Logic.{_⊎_, inl, inr, ⊎-elim}
 use mathlib.Core.List.{List, [], _∷_, map}
-use Rattle.model.specs.Conjunct.{Conj, Cond, union, renumber}
+use Rattle.model.specs.Conjunct.{Conj, Conjuncts, unionOf, renumber}
 use Rattle.model.specs.Lists.{All}
 use Rattle.model.specs.Walk.{gather}
 use Rattle.model.proofs.Canonical.{all-mem, mem-all, union-from, union-left, union-right, union-least, union-canon, union-every, canon-ext}
 use Rattle.model.proofs.TidySets.{Canon, Mem, Sub}
 
-pub gather-canon : (f : Conj → List Conj) (S : Cond) → Canon (gather f S)
+pub gather-canon : (f : Conj → List Conj) (S : Conjuncts) → Canon (gather f S)
 unfolding gather
 gather-canon f [] = tt
 gather-canon f (e ∷ S) = union-canon (map renumber (f e)) (gather f S) (gather-canon f S)
 
 -- a conjunct of a gathered set comes from one conjunct of the set, and each conjunct's are in
-pub gather-from : (f : Conj → List Conj) (S : Cond) (x : Conj) → Mem x (gather f S) → (e : Conj) × Mem e S × Mem x (map renumber (f e))
+pub gather-from : (f : Conj → List Conj) (S : Conjuncts) (x : Conj) → Mem x (gather f S) → (e : Conj) × Mem e S × Mem x (map renumber (f e))
 unfolding gather
 gather-from f [] x m = absurd m
 gather-from f (e ∷ S) x m = go (union-from x (map renumber (f e)) (gather f S) m) (gather-from f S x)
@@ -25,35 +25,35 @@ gather-from f (e ∷ S) x m = go (union-from x (map renumber (f e)) (gather f S)
     go (inl n) k = (e, inl refl, n)
     go (inr n) k = let r = k n in (r .0, inr (r .1), r .2)
 
-pub gather-into : (f : Conj → List Conj) (S : Cond) (x e : Conj) → Mem e S → Mem x (map renumber (f e)) → Mem x (gather f S)
+pub gather-into : (f : Conj → List Conj) (S : Conjuncts) (x e : Conj) → Mem e S → Mem x (map renumber (f e)) → Mem x (gather f S)
 unfolding gather
 gather-into f [] x e m n = absurd m
 gather-into f (d ∷ S) x e (inl p) n = union-left x (map renumber (f d)) (gather f S) (subst (λ y. Mem x (map renumber (f y))) p n)
 gather-into f (d ∷ S) x e (inr m) n = union-right x (map renumber (f d)) (gather f S) (gather-into f S x e m n)
 
-pub gather-mono : (f : Conj → List Conj) (S T : Cond) → Sub S T → Sub (gather f S) (gather f T)
+pub gather-mono : (f : Conj → List Conj) (S T : Conjuncts) → Sub S T → Sub (gather f S) (gather f T)
 gather-mono f S T h x m = let r = gather-from f S x m in gather-into f T x (r .0) (h (r .0) (r .1)) (r .2)
 
 -- a rule works on each conjunct by itself
-pub gather-union : (f : Conj → List Conj) (A B : Cond) → gather f (union A B) ≡ union (gather f A) (gather f B)
+pub gather-union : (f : Conj → List Conj) (A B : Conjuncts) → gather f (unionOf A B) ≡ unionOf (gather f A) (gather f B)
 gather-union f A B =
-    canon-ext (gather f (union A B)) (union (gather f A) (gather f B)) (gather-canon f (union A B)) (union-canon (gather f A) (gather f B) (gather-canon f B))
-    (λ x m. let r = gather-from f (union A B) x m in
+    canon-ext (gather f (unionOf A B)) (unionOf (gather f A) (gather f B)) (gather-canon f (unionOf A B)) (union-canon (gather f A) (gather f B) (gather-canon f B))
+    (λ x m. let r = gather-from f (unionOf A B) x m in
     ⊎-elim (λ n. union-left x (gather f A) (gather f B) (gather-into f A x (r .0) n (r .2)))
     (λ n. union-right x (gather f A) (gather f B) (gather-into f B x (r .0) n (r .2))) (union-from (r .0) A B (r .1)))
-    (union-least (gather f A) (gather f B) (gather f (union A B))
-    (gather-mono f A (union A B) (λ x. union-left x A B)) (gather-mono f B (union A B) (λ x. union-right x A B)))
+    (union-least (gather f A) (gather f B) (gather f (unionOf A B))
+    (gather-mono f A (unionOf A B) (λ x. union-left x A B)) (gather-mono f B (unionOf A B) (λ x. union-right x A B)))
 
 -- ---- every conjunct
 
 module _ (P : Conj → Type 0) (f : Conj → List Conj) where
   -- what holds of a gathered set holds of what each conjunct comes to
-  pub gather-all : (S : Cond) → All P (gather f S) → All (λ e. All P (map renumber (f e))) S
+  pub gather-all : (S : Conjuncts) → All P (gather f S) → All (λ e. All P (map renumber (f e))) S
   gather-all S h =
       mem-all (λ e. All P (map renumber (f e))) S (λ e m. mem-all P (map renumber (f e)) (λ x n. all-mem P (gather f S) h x (gather-into f S x e m n)))
 
   -- what holds of each, where the conjuncts have Q, holds of the gathered set
-  pub gather-every : (Q : Conj → Type 0) → ((e : Conj) → Q e → All P (map renumber (f e))) → (S : Cond) → All Q S → All P (gather f S)
+  pub gather-every : (Q : Conj → Type 0) → ((e : Conj) → Q e → All P (map renumber (f e))) → (S : Conjuncts) → All Q S → All P (gather f S)
   unfolding gather
   gather-every Q k [] h = tt
   gather-every Q k (e ∷ S) h = union-every P (map renumber (f e)) (gather f S) (k e (h .0)) (gather-every Q k S (h .1))

@@ -7,7 +7,7 @@ use Prim.Native.Nat.{ℕ}
 use lib.ListN.{length}
 use Rattle.model.specs.Refusals.{Out, ok, refused, _>>=_}
 use Rattle.model.specs.Condition.{analysis}
-use Rattle.model.specs.Filter.{filter}
+use Rattle.model.specs.Filter.{filterInput}
 use Rattle.model.specs.Run.{Ran, run}
 use Rattle.model.specs.Exact.{Note, exactRun}
 use Rattle.model.specs.Demands.{recordsOf, Pairwise, Matches}
@@ -42,13 +42,13 @@ admitted-passed C o false D R e = absurd (subst IsPassed (sym (ok-eq held (passe
 module _ (program input : List ℕ) (limit : ℕ) (choices log : List ℕ) where
   -- what ran behind the filter was analysed, passed and run
   pub passed-inv : (C : List ℕ) (R : Ran) → guarded program input limit choices log ≡ ok (passed C R)
-      → (analysis program ≡ ok C) × (filter C input ≡ ok true) × (run program input limit choices log ≡ ok R)
+      → (analysis program ≡ ok C) × (filterInput C input ≡ ok true) × (run program input limit choices log ≡ ok R)
   unfolding guarded
   passed-inv C R e =
-      let a = bind-ok (analysis program) (λ D. filter D input >>= admitted D (run program input limit choices log)) (passed C R) e in
-      let f = bind-ok (filter (a .0) input) (admitted (a .0) (run program input limit choices log)) (passed C R) (a .2) in
+      let a = bind-ok (analysis program) (λ D. filterInput D input >>= admitted D (run program input limit choices log)) (passed C R) e in
+      let f = bind-ok (filterInput (a .0) input) (admitted (a .0) (run program input limit choices log)) (passed C R) (a .2) in
       let k = admitted-passed (a .0) (run program input limit choices log) (f .0) C R (f .2) in
-      (a .1 ∙ ap ok (k .2), ap (λ D. filter D input) (sym (k .2)) ∙ f .1 ∙ ap ok (k .0), k .1)
+      (a .1 ∙ ap ok (k .2), ap (λ D. filterInput D input) (sym (k .2)) ∙ f .1 ∙ ap ok (k .0), k .1)
 
   -- demand 3 of it
   pub guarded-exact : (C : List ℕ) (R : Ran) → guarded program input limit choices log ≡ ok (passed C R)

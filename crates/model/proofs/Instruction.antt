@@ -14,7 +14,7 @@ use Rattle.model.specs.Code.{Right, number, copy, calc, change, read, lo
 use Rattle.model.specs.Conjunct.{Source, field, cell, Atom, Node, const, atom, var, op, conv, Conj, sameAtom, atoms}
 use Rattle.model.specs.Input.{Input}
 use Rattle.model.specs.Lists.{All}
-use Rattle.model.specs.Run.{State, setVar, setCell, reading, taking, index, exec}
+use Rattle.model.specs.Run.{State, setVar, setCell, reading, takingChoice, index, exec}
 use Rattle.model.specs.Values.{Val}
 use Rattle.model.specs.Walk.{nodes, replace, onArray, loads, swap, swapAll, subsets, before}
 use Rattle.model.proofs.Atoms.{every-imp, every-map, has, has-atoms, atom-eq}
@@ -62,7 +62,7 @@ module _ (I : Input) (σ : State) (a : ℕ) (w : Val) where
 
 -- a read: the choice is the reading's number
 taken-meets : (I : Input) (σ : State) (l a ty f : ℕ) (rs : List ℤ) → I f ≡ rs → (ch : List ℕ) (e : Conj)
-    → Meets I σ (flatMap (replace a (nodes l ty (read f))) e) → Leads (λ σ′. Meets I σ′ e) (taking rs σ a ch)
+    → Meets I σ (flatMap (replace a (nodes l ty (read f))) e) → Leads (λ σ′. Meets I σ′ e) (takingChoice rs σ a ch)
 unfolding nodes eval push pick fresh
 taken-meets I σ l a ty f [] q ch e h = tt
 taken-meets I σ l a ty f (r ∷ rs) q [] e h = tt

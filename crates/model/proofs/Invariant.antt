@@ -6,7 +6,7 @@ use mathlib.Core.Bool.{true, false}
 use mathlib.Core.List.{List, [], _∷_, _++_, map}
 use Prim.Native.Nat.{ℕ, zero, suc}
 use Rattle.model.specs.Code.{Instr, assign, store, site, Code, done, step, branch, loop}
-use Rattle.model.specs.Conjunct.{var, Conj, Cond, union, same, limits, renumber}
+use Rattle.model.specs.Conjunct.{var, Conj, Conjuncts, unionOf, same, limits, renumber}
 use Rattle.model.specs.Lists.{All}
 use Rattle.model.specs.Refusals.{Out, ok, _>>=_}
 use Rattle.model.specs.Walk.{before, gather, back, rounds, joined, walk, here, sites, zeroed, start, join, derived}
@@ -20,38 +20,38 @@ use Rattle.model.proofs.Trees.{Each}
 
 -- ---- a property of sets that unions within the limits keep
 
-module _ (K : Cond → Type 0) (P : ℕ → Type 0) where
+module _ (K : Conjuncts → Type 0) (P : ℕ → Type 0) where
   -- f keeps the property K, and refuses with a number that has P
-  abbrev pub Keeps : (Cond → Out Cond) → Type 0
-  Keeps f = (S : Cond) → K S → Ends K P (f S)
+  abbrev pub Keeps : (Conjuncts → Out Conjuncts) → Type 0
+  Keeps f = (S : Conjuncts) → K S → Ends K P (f S)
 
-  bound : (f : Cond → Out Cond) → Keeps f → (os : List (Out Cond)) → All (Ends K P) os → All (Ends K P) (map (_>>= f) os)
+  bound : (f : Conjuncts → Out Conjuncts) → Keeps f → (os : List (Out Conjuncts)) → All (Ends K P) os → All (Ends K P) (map (_>>= f) os)
   bound f k os h = all-map (Ends K P) (_>>= f) os (all-imp (λ o p. ends-bind K K P o f p k) os h)
 
-  module _ (both : (R S : Cond) → K R → K S → Ends K P (limits (union R S))) where
-    pub joined-keeps : (f g : Cond → Out Cond) → Keeps f → Keeps g → Keeps (joined f g)
+  module _ (both : (R S : Conjuncts) → K R → K S → Ends K P (limits (unionOf R S))) where
+    pub joined-keeps : (f g : Conjuncts → Out Conjuncts) → Keeps f → Keeps g → Keeps (joined f g)
     joined-keeps f g j k D h =
-        ends-bind K K P (f D) (λ A. g D >>= λ B. limits (union A B)) (j D h) (λ A a.
-        ends-bind K K P (g D) (λ B. limits (union A B)) (k D h) (λ B b. both A B a b))
+        ends-bind K K P (f D) (λ A. g D >>= λ B. limits (unionOf A B)) (j D h) (λ A a.
+        ends-bind K K P (g D) (λ B. limits (unionOf A B)) (k D h) (λ B b. both A B a b))
 
     -- from sets with another property, which the rule at the program's start turns into K
-    pub join-keeps : (L : Cond → Type 0) → ((S : Cond) → L S → Ends K P (start S))
-        → (R : Cond) (os : List (Out Cond)) → K R → All (Ends L P) os → Ends K P (join R os)
+    pub join-keeps : (L : Conjuncts → Type 0) → ((S : Conjuncts) → L S → Ends K P (start S))
+        → (R : Conjuncts) (os : List (Out Conjuncts)) → K R → All (Ends L P) os → Ends K P (join R os)
     unfolding join
     join-keeps L turn R [] r h = r
     join-keeps L turn R (o ∷ os) r h =
-        ends-bind K K P (o >>= start) (λ S. limits (union R S) >>= λ R′. join R′ os) (ends-bind L K P o start (h .0) turn) (λ S s.
-        ends-bind K K P (limits (union R S)) (λ R′. join R′ os) (both R S r s) (λ R′ r′. join-keeps L turn R′ os r′ (h .1)))
+        ends-bind K K P (o >>= start) (λ S. limits (unionOf R S) >>= λ R′. join R′ os) (ends-bind L K P o start (h .0) turn) (λ S s.
+        ends-bind K K P (limits (unionOf R S)) (λ R′. join R′ os) (both R S r s) (λ R′ r′. join-keeps L turn R′ os r′ (h .1)))
 
     -- rounds that never settle are refused
     module _ (eleven : P 11) where
-      pub rounds-keep : (n : ℕ) (f : Cond → Out Cond) → Keeps f → (D S : Cond) → K D → K S → Ends K P (rounds n f D S)
+      pub rounds-keep : (n : ℕ) (f : Conjuncts → Out Conjuncts) → Keeps f → (D S : Conjuncts) → K D → K S → Ends K P (rounds n f D S)
       unfolding rounds
       rounds-keep zero f k D S d s = eleven
       rounds-keep (suc n) f k D S d s =
-          let next : Cond → Out Cond = λ S′. elim (same S S′) [ true ↦ ok S′ | false ↦ rounds n f D S′ ] in
-          ends-bind K K P (f S) (λ B. limits (union D B) >>= next) (k S s) (λ B b.
-          ends-bind K K P (limits (union D B)) next (both D B d b) (λ S′ s′.
+          let next : Conjuncts → Out Conjuncts = λ S′. elim (same S S′) [ true ↦ ok S′ | false ↦ rounds n f D S′ ] in
+          ends-bind K K P (f S) (λ B. limits (unionOf D B) >>= next) (k S s) (λ B b.
+          ends-bind K K P (limits (unionOf D B)) next (both D B d b) (λ S′ s′.
           case (same S S′) (λ z. Ends K P (elim z [ true ↦ ok S′ | false ↦ rounds n f D S′ ])) (λ p. s′) (λ p. rounds-keep n f k D S′ d s′)))
 
       -- the statements have the property W, and the rule of each such statement keeps K
@@ -93,15 +93,15 @@ module _ (K : Cond → Type 0) (P : ℕ → Type 0) where
 -- ---- a property of every conjunct
 
 module _ (P : Conj → Type 0) where
-  limits-every : (S : Cond) → All P S → Gives (All P) (limits S)
+  limits-every : (S : Conjuncts) → All P S → Gives (All P) (limits S)
   limits-every S h = limits-cases (Gives (All P)) S tt tt (λ fine. h)
 
-  both-every : (R S : Cond) → All P R → All P S → Gives (All P) (limits (union R S))
-  both-every R S h k = limits-every (union R S) (union-every P R S h k)
+  both-every : (R S : Conjuncts) → All P R → All P S → Gives (All P) (limits (unionOf R S))
+  both-every R S h k = limits-every (unionOf R S) (union-every P R S h k)
 
   -- from one that each conjunct has before the rule
   rule-every : ((e : Conj) → P e → P (renumber e)) → (Q : Conj → Type 0) (f : Conj → List Conj) → ((e : Conj) → Q e → All P (f e))
-      → (S : Cond) → All Q S → Gives (All P) (limits (gather f S))
+      → (S : Conjuncts) → All Q S → Gives (All P) (limits (gather f S))
   rule-every again Q f k S h = limits-every (gather f S) (gather-every P f Q (λ e q. all-map P renumber (f e) (all-imp again (f e) (k e q))) S h)
 
 -- Q of every conjunct on the way, P of every conjunct of the condition
@@ -110,7 +110,7 @@ pub derived-every : (P Q : Conj → Type 0) (W : Instr → Type 0)
     → ((a ty : ℕ) → W (site a ty) → Q (var a ty ∷ []))
     → ((l : ℕ) (i : Instr) → W i → (e : Conj) → Q e → All Q (before l i e))
     → ((e : Conj) → Q e → P (map zeroed e))
-    → (c : Code) → Each W c → (S : Cond) → derived c ≡ ok S → All P S
+    → (c : Code) → Each W c → (S : Conjuncts) → derived c ≡ ok S → All P S
 unfolding derived back start
 derived-every P Q W againP againQ first rule turn c w S p =
     let any : ℕ → Type 0 = λ n. Unit {0} in

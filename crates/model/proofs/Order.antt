@@ -10,7 +10,7 @@ use lib.Dec.{eqb, isEq}
 use lib.ListN.{length, getD}
 use borrow.Author.Tests.{eqb-true}
 use Rattle.model.specs.Bytes.{u16At, u32At, bytes2, bytes4}
-use Rattle.model.specs.Conjunct.{Source, field, cell, Node, const, atom, var, op, conv, Conj, Cond, bytes, sourceBytes, _then_, orderNumbers, orderNodes, order, same}
+use Rattle.model.specs.Conjunct.{Source, field, cell, Node, const, atom, var, op, conv, Conj, Conjuncts, bytes, sourceBytes, _then_, orderNumbers, orderNodes, order, same}
 use Rattle.model.specs.Values.{add, sub, mul, div}
 use Rattle.model.proofs.LittleEndian.{two-back, four-back}
 use Rattle.model.proofs.Tests.{true→T, and-left, and-right}
@@ -282,7 +282,7 @@ isEq-true Ordering·lt e = absurd (true→T e)
 isEq-true Ordering·eq e = refl
 isEq-true Ordering·gt e = absurd (true→T e)
 
-pub same-eq : (R S : Cond) → same R S ≡ true → R ≡ S
+pub same-eq : (R S : Conjuncts) → same R S ≡ true → R ≡ S
 unfolding same
 same-eq [] [] e = refl
 same-eq [] (d ∷ S) e = absurd (true→T e)
@@ -291,7 +291,7 @@ same-eq (d ∷ R) (c ∷ S) e =
     let t = isEq (orderNodes d c) in
     ap₂ _∷_ (nodes-eq d c (isEq-true (orderNodes d c) (and-left t (same R S) e))) (same-eq R S (and-right t (same R S) e))
 
-pub same-self : (S : Cond) → same S S ≡ true
+pub same-self : (S : Conjuncts) → same S S ≡ true
 unfolding same
 same-self [] = refl
 same-self (e ∷ S) = rw (nodes-self e) (same-self S)

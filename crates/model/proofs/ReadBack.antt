@@ -11,7 +11,7 @@ use borrow.Author.Tests.{lt-ltb, le-leb, eq-eqb}
 use Rattle.model.specs.Lists.{All, every}
 use Rattle.model.specs.Refusals.{ok}
 use Rattle.model.specs.Program.{typeRight}
-use Rattle.model.specs.Conjunct.{Conj, Cond, orderNodes}
+use Rattle.model.specs.Conjunct.{Conj, Conjuncts, orderNodes}
 use Rattle.model.specs.Condition.{conjunctsAt, encode, typeNodes, whole, numbered, isBefore, rising, lengthRight, readCondition}
 use Rattle.model.proofs.Every.{all-every}
 use Rattle.model.proofs.FileBytes.{size, pairOf, pairs, table-chained, file-conjuncts, file-fields, file-types, file-table, file-read, file-right, length-encode}
@@ -28,7 +28,7 @@ numbered-test : (e : Conj) → Numbered e → numbered e ≡ true
 unfolding numbered
 numbered-test e h = ap isEq (ap (λ d. orderNodes d e) h ∙ nodes-self e)
 
-rising-test : (S : Cond) → Canon S → rising S ≡ true
+rising-test : (S : Conjuncts) → Canon S → rising S ≡ true
 unfolding rising
 rising-test [] h = refl
 rising-test (d ∷ []) h = refl
@@ -40,21 +40,21 @@ unfolding whole typeNodes
 whole-some [] h = absurd (true→T h)
 whole-some (v ∷ e) h = omega arith
 
-short-size : (S : Cond) → All (λ e. length e ≤ 120) S → size S ≤ 120 * length S
+short-size : (S : Conjuncts) → All (λ e. length e ≤ 120) S → size S ≤ 120 * length S
 short-size [] h = omega arith
 short-size (e ∷ S) h = omega (arith, short-size S (h .1))
 
 length-test : (e : Conj) (a : ℕ) → 0 < length e → length e ≤ 120 → lengthRight (pairOf a e) ≡ true
 length-test e a h k = rw (lt-ltb 0 (8 * length e) (omega arith), le-leb (8 * length e) 960 (omega arith)) (eq-eqb (8 * length e % 8) 0 (omega arith))
 
-lengths-test : (S : Cond) (a : ℕ) → All (λ e. 0 < length e) S → All (λ e. length e ≤ 120) S → every lengthRight (pairs a S) ≡ true
+lengths-test : (S : Conjuncts) (a : ℕ) → All (λ e. 0 < length e) S → All (λ e. length e ≤ 120) S → every lengthRight (pairs a S) ≡ true
 unfolding every
 lengths-test [] a h k = refl
 lengths-test (e ∷ S) a h k = ap₂ _&&_ (length-test e a (h .0) (k .0)) (lengths-test S (a + 8 * length e) (h .1) (k .1))
 
 -- ---- the file
 
-pub encode-reads : (types : List ℕ) (S : Cond) → length types ≤ 32 → All (λ t. t < 8) types → Tidy S → All (Formed types) S
+pub encode-reads : (types : List ℕ) (S : Conjuncts) → length types ≤ 32 → All (λ t. t < 8) types → Tidy S → All (Formed types) S
     → readCondition (encode types S) ≡ ok (record { types = types; conjuncts = S })
 unfolding readCondition
 encode-reads types S few right tidy formed =
@@ -80,6 +80,6 @@ encode-reads types S few right tidy formed =
     )
 
 -- within the limits the file has at most 61,992 bytes
-pub encode-fits : (types : List ℕ) (S : Cond) → length types ≤ 32 → Fine S → All (Formed types) S → length (encode types S) ≤ 61992
+pub encode-fits : (types : List ℕ) (S : Conjuncts) → length types ≤ 32 → Fine S → All (Formed types) S → length (encode types S) ≤ 61992
 encode-fits types S few fine formed =
     omega (arith, length-encode types S (all-imp (λ e h. h .nodes) S formed), short-size S (short-each S (fine .short)))

@@ -8,13 +8,13 @@ use native.Mathlib.Omega.{arith}
 use lib.Dec.{ltb}
 use Rattle.model.specs.Lists.{All}
 use Rattle.model.specs.Refusals.{ok, refused}
-use Rattle.model.specs.Code.{Instr, Code, done, Stmt, plain, if, else, end, while, Open, top, block, other, depth, taking, opened, closed, treeOf}
+use Rattle.model.specs.Code.{Instr, Code, done, Stmt, plain, if, else, end, while, Open, top, block, other, openBlocks, taking, opened, closed, treeOf}
 use Rattle.model.specs.Program.{readProgram}
-use Rattle.model.specs.Conjunct.{Cond, union, limits}
+use Rattle.model.specs.Conjunct.{Conjuncts, unionOf, limits}
 use Rattle.model.specs.Walk.{before, gather, back, sites, start, derived}
 use Rattle.model.specs.Condition.{readCondition, analysis}
 use Rattle.model.specs.Input.{readInput}
-use Rattle.model.specs.Filter.{filter}
+use Rattle.model.specs.Filter.{filterInput}
 use Rattle.model.specs.Run.{run}
 use Rattle.model.proofs.Invariant.{sites-keep, join-keeps}
 use Rattle.model.proofs.Limits.{limits-cases}
@@ -37,7 +37,7 @@ module _ (P : ℕ → Type 0) (eight : P 8) where
   taking-refuses l else (top c) = eight
   taking-refuses l else (block c s) = tt
   taking-refuses l else (other e c s) = eight
-  taking-refuses l end o = refuses-check P (ltb (depth o) 4) 8 (ok (block done o)) eight tt
+  taking-refuses l end o = refuses-check P (ltb (openBlocks o) 4) 8 (ok (block done o)) eight tt
   taking-refuses l (while v) (top c) = eight
   taking-refuses l (while v) (block c s) = tt
   taking-refuses l (while v) (other e c s) = eight
@@ -66,24 +66,24 @@ readProgram-refuses s =
 
 module _ (P : ℕ → Type 0) (nine : P 9) (ten : P 10) (eleven : P 11) where
   -- of the sets nothing is said
-  abbrev Any : Cond → Type 0
+  abbrev Any : Conjuncts → Type 0
   Any S = Unit {0}
 
-  limits-refuses : (S : Cond) → Refuses P (limits S)
+  limits-refuses : (S : Conjuncts) → Refuses P (limits S)
   limits-refuses S = limits-cases (Refuses P) S nine ten (λ f. tt)
 
-  back-refuses : (l : ℕ) (i : Instr) (S : Cond) → Refuses P (back l i S)
+  back-refuses : (l : ℕ) (i : Instr) (S : Conjuncts) → Refuses P (back l i S)
   unfolding back
   back-refuses l i S = limits-refuses (gather (before l i) S)
 
-  start-refuses : (S : Cond) → Refuses P (start S)
+  start-refuses : (S : Conjuncts) → Refuses P (start S)
   unfolding start
   start-refuses S = limits-refuses _
 
   derived-refuses : (c : Code) → Refuses P (derived c)
   unfolding derived
   derived-refuses c =
-      let both : (R S : Cond) → Any R → Any S → Refuses P (limits (union R S)) = λ R S r s. limits-refuses (union R S) in
+      let both : (R S : Conjuncts) → Any R → Any S → Refuses P (limits (unionOf R S)) = λ R S r s. limits-refuses (unionOf R S) in
       join-keeps Any P both Any (λ S s. start-refuses S) [] (sites c) tt
       (sites-keep Any P both eleven (λ i. Unit {0}) (λ l i w S s. back-refuses l i S) (λ a ty w. tt) c (each-any c))
 
@@ -96,9 +96,9 @@ refusals-analysis p n e =
     let derivation = derived-refuses (From 2 11) (omega arith) (omega arith) (omega arith) in
     refuses-by (From 2 11) (analysis p) n e (search (refuses-bind, program, derivation))
 
-pub refusals-filter : (c i : List ℕ) (n : ℕ) → filter c i ≡ refused n → (n ≡ 12) ⊎ ((n ≡ 13) ⊎ (n ≡ 14))
-unfolding filter readCondition readInput
-refusals-filter c i n e = refuses-by (λ n. (n ≡ 12) ⊎ ((n ≡ 13) ⊎ (n ≡ 14))) (filter c i) n e (search (refuses-check, refuses-bind, inl, inr))
+pub refusals-filter : (c i : List ℕ) (n : ℕ) → filterInput c i ≡ refused n → (n ≡ 12) ⊎ ((n ≡ 13) ⊎ (n ≡ 14))
+unfolding filterInput readCondition readInput
+refusals-filter c i n e = refuses-by (λ n. (n ≡ 12) ⊎ ((n ≡ 13) ⊎ (n ≡ 14))) (filterInput c i) n e (search (refuses-check, refuses-bind, inl, inr))
 
 pub refusals-run : (p i : List ℕ) (limit : ℕ) (ch log : List ℕ) (n : ℕ) → run p i limit ch log ≡ refused n → ((2 ≤ n) × (n ≤ 8)) ⊎ (n ≡ 13)
 unfolding run readInput

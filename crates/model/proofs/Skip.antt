@@ -6,7 +6,7 @@ use mathlib.Core.List.{List, [], _∷_, _++_, map, flatMap}
 use Prim.Native.Nat.{ℕ, suc}
 use lib.Dec.{eqb}
 use Rattle.model.specs.Code.{Instr, assign, store, site, Code, done, step, branch, loop}
-use Rattle.model.specs.Conjunct.{Atom, Node, const, atom, var, op, conv, Conj, Cond, union, same, limits, atoms, renumber}
+use Rattle.model.specs.Conjunct.{Atom, Node, const, atom, var, op, conv, Conj, Conjuncts, unionOf, same, limits, atoms, renumber}
 use Rattle.model.specs.Lists.{All}
 use Rattle.model.specs.Refusals.{Out, ok, _>>=_}
 use Rattle.model.specs.Walk.{nodes, replace, onArray, loads, swapAll, subsets, before, gather, back, rounds, joined, walk}
@@ -69,14 +69,14 @@ before-none l (store t k i x ty) e w h =
     (λ p. ap (λ ks. map renumber (subsets ks x ty e)) (loads-none t k (atoms e) (atoms-all (λ a. onArray t k (a .src) ≡ false) e (all-imp (load-atom t k) e n))) ∙ ap (_∷ []) h)
 before-none l (site a ty) e w h = ap (_∷ []) h
 
-gather-none : (l : ℕ) (i : Instr) (S : Cond) → All (λ e. writes i e ≡ false) S → All Numbered S → Canon S → gather (before l i) S ≡ S
-unfolding gather union
+gather-none : (l : ℕ) (i : Instr) (S : Conjuncts) → All (λ e. writes i e ≡ false) S → All Numbered S → Canon S → gather (before l i) S ≡ S
+unfolding gather unionOf
 gather-none l i [] w h c = refl
-gather-none l i (e ∷ S) w h c = ap₂ union (before-none l i e (w .0) (h .0)) (gather-none l i S (w .1) (h .1) (c .1)) ∙ insert-least e S c
+gather-none l i (e ∷ S) w h c = ap₂ unionOf (before-none l i e (w .0) (h .0)) (gather-none l i S (w .1) (h .1) (c .1)) ∙ insert-least e S c
 
 -- ---- a piece of program
 
-pub walk-skip : (c : Code) (S : Cond) → touches c S ≡ false → Tidy S → walk c S ≡ ok S
+pub walk-skip : (c : Code) (S : Conjuncts) → touches c S ≡ false → Tidy S → walk c S ≡ ok S
 unfolding touches walk back rounds
 walk-skip done S w t = refl
 walk-skip (step l i rest) S w t =
@@ -86,13 +86,13 @@ walk-skip (step l i rest) S w t =
 walk-skip (branch l v y n rest) S w t =
     let w′ = or-right (touches y S) (touches n S || touches rest S) w in
     ap (_>>= joined (walk y) (walk n)) (walk-skip rest S (or-right (touches n S) (touches rest S) w′) t)
-    ∙ ap (_>>= λ A. walk n S >>= λ B. limits (union A B)) (walk-skip y S (or-left (touches y S) (touches n S || touches rest S) w) t)
-    ∙ ap (_>>= λ B. limits (union S B)) (walk-skip n S (or-left (touches n S) (touches rest S) w′) t)
+    ∙ ap (_>>= λ A. walk n S >>= λ B. limits (unionOf A B)) (walk-skip y S (or-left (touches y S) (touches n S || touches rest S) w) t)
+    ∙ ap (_>>= λ B. limits (unionOf S B)) (walk-skip n S (or-left (touches n S) (touches rest S) w′) t)
     ∙ ap limits (union-idem S (t .canon)) ∙ fine-limits S (t .fine)
 walk-skip (loop l v body rest) S w t =
-    let next : Cond → Out Cond = λ S′. elim (same S S′) [ true ↦ ok S′ | false ↦ rounds 15 (walk body) S S′ ] in
-    let last : Bool → Out Cond = λ z. elim z [ true ↦ ok S | false ↦ rounds 15 (walk body) S S ] in
+    let next : Conjuncts → Out Conjuncts = λ S′. elim (same S S′) [ true ↦ ok S′ | false ↦ rounds 15 (walk body) S S′ ] in
+    let last : Bool → Out Conjuncts = λ z. elim z [ true ↦ ok S | false ↦ rounds 15 (walk body) S S ] in
     ap (_>>= λ D. rounds 16 (walk body) D D) (walk-skip rest S (or-right (touches body S) (touches rest S) w) t)
-    ∙ ap (_>>= λ B. limits (union S B) >>= next) (walk-skip body S (or-left (touches body S) (touches rest S) w) t)
+    ∙ ap (_>>= λ B. limits (unionOf S B) >>= next) (walk-skip body S (or-left (touches body S) (touches rest S) w) t)
     ∙ ap (_>>= next) (ap limits (union-idem S (t .canon)) ∙ fine-limits S (t .fine))
     ∙ ap last (same-self S)

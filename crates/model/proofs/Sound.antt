@@ -6,7 +6,7 @@ use mathlib.Core.List.{List, [], _∷_, _++_, map}
 use Prim.Native.Nat.{ℕ, zero, suc}
 use Rattle.arith.proofs.WrapLaws.{immediate-zero}
 use Rattle.model.specs.Code.{Instr, assign, store, site, Code, done, step, branch, loop}
-use Rattle.model.specs.Conjunct.{Source, field, cell, Node, const, atom, var, op, conv, Conj, Cond, union, same, limits, renumber}
+use Rattle.model.specs.Conjunct.{Source, field, cell, Node, const, atom, var, op, conv, Conj, Conjuncts, unionOf, same, limits, renumber}
 use Rattle.model.specs.Input.{Input}
 use Rattle.model.specs.Lists.{All}
 use Rattle.model.specs.Refusals.{Out, ok, refused, _>>=_}
@@ -26,24 +26,24 @@ use Rattle.model.proofs.Runs.{Leads, leads-all, run-all}
 
 module _ (I : Input) where
   -- the result is a set, and the state meets each conjunct
-  abbrev Safe : State → Out Cond → Type 0
+  abbrev Safe : State → Out Conjuncts → Type 0
   Safe σ o = Ends (All (Meets I σ)) (λ n. ⊥) o
 
   -- each site of the program still to be run has a set that the state meets
   abbrev Good : State → Code → Type 0
   Good σ c = All (Safe σ) (sites c)
 
-  safe-limits : (σ : State) (S : Cond) → Safe σ (limits S) → All (Meets I σ) S
+  safe-limits : (σ : State) (S : Conjuncts) → Safe σ (limits S) → All (Meets I σ) S
   safe-limits σ S = limits-cases (λ o. Safe σ o → All (Meets I σ) S) S (λ h. absurd h) (λ h. absurd h) (λ fine h. h)
 
-  safe-gather : (σ : State) (f : Conj → List Conj) (S : Cond) → Safe σ (limits (gather f S)) → All (λ e. All (Meets I σ) (f e)) S
+  safe-gather : (σ : State) (f : Conj → List Conj) (S : Conjuncts) → Safe σ (limits (gather f S)) → All (λ e. All (Meets I σ) (f e)) S
   safe-gather σ f S h =
       all-imp (λ e k. all-imp (λ d. renumber-meets I σ d) (f e) (all-unmap (Meets I σ) renumber (f e) k)) S
       (gather-all (Meets I σ) f S (safe-limits σ (gather f S) h))
 
   -- ---- one statement
 
-  back-safe : (σ : State) (l : ℕ) (i : Instr) (ch : List ℕ) (o : Out Cond) → Safe σ (o >>= back l i) → Leads (λ σ′. Safe σ′ o) (exec I σ i ch)
+  back-safe : (σ : State) (l : ℕ) (i : Instr) (ch : List ℕ) (o : Out Conjuncts) → Safe σ (o >>= back l i) → Leads (λ σ′. Safe σ′ o) (exec I σ i ch)
   unfolding back
   back-safe σ l i ch (ok S) h = leads-all (Meets I) (exec I σ i ch) S (all-imp (before-meets I σ l i ch) S (safe-gather σ (before l i) S h))
   back-safe σ l i ch (refused n) h = absurd h
@@ -56,7 +56,7 @@ module _ (I : Input) where
 
   -- ---- blocks
 
-  append-sites : (P : Out Cond → Type 0) (c d : Code) → All P (sites c) → All (λ o. P (o >>= walk c)) (sites d) → All P (sites (append c d))
+  append-sites : (P : Out Conjuncts → Type 0) (c d : Code) → All P (sites c) → All (λ o. P (o >>= walk c)) (sites d) → All P (sites (append c d))
   unfolding sites walk
   append-sites P done d h k = all-imp (λ o. subst P (bind-self o)) (sites d) k
   append-sites P (step l i rest) d h k =
@@ -79,7 +79,7 @@ module _ (I : Input) where
       (all-unmap P (_>>= f) (sites rest) (all-right P (sites n) m h₁))
       (all-imp (λ o. subst P (sym (bind-assoc o (walk rest) f))) (sites d) k))))
   append-sites P (loop l v body rest) d h k =
-      let f : Cond → Out Cond = λ D. rounds 16 (walk body) D D in
+      let f : Conjuncts → Out Conjuncts = λ D. rounds 16 (walk body) D D in
       let h₁ = all-unmap P (_>>= f) (sites body ++ sites rest) h in
       all-map P (_>>= f) (sites body ++ sites (append rest d))
       (all-append (λ o. P (o >>= f)) (sites body) (sites (append rest d))
@@ -88,45 +88,45 @@ module _ (I : Input) where
       (all-right (λ o. P (o >>= f)) (sites body) (sites rest) h₁)
       (all-imp (λ o. subst P (sym (bind-assoc o (walk rest) f))) (sites d) k)))
 
-  joined-both : (σ : State) (p q : Out Cond) → Safe σ (p >>= λ A. q >>= λ B. limits (union A B)) → Safe σ p × Safe σ q
-  joined-both σ (ok A) (ok B) h = union-all (Meets I σ) A B (safe-limits σ (union A B) h)
+  joined-both : (σ : State) (p q : Out Conjuncts) → Safe σ (p >>= λ A. q >>= λ B. limits (unionOf A B)) → Safe σ p × Safe σ q
+  joined-both σ (ok A) (ok B) h = union-all (Meets I σ) A B (safe-limits σ (unionOf A B) h)
   joined-both σ (ok A) (refused m) h = absurd h
   joined-both σ (refused n) q h = absurd h
 
-  joined-safe : (σ : State) (y n : Code) (o : Out Cond) → Safe σ (o >>= joined (walk y) (walk n)) → Safe σ (o >>= walk y) × Safe σ (o >>= walk n)
+  joined-safe : (σ : State) (y n : Code) (o : Out Conjuncts) → Safe σ (o >>= joined (walk y) (walk n)) → Safe σ (o >>= walk y) × Safe σ (o >>= walk n)
   joined-safe σ y n (ok D) h = joined-both σ (walk y D) (walk n D) h
   joined-safe σ y n (refused m) h = absurd h
 
   -- a settled set holds what it began with and the body's walk of itself
-  rounds-safe : (σ : State) (n : ℕ) (f : Cond → Out Cond) (D S : Cond) → Safe σ (rounds n f D S) → All (Meets I σ) D × Safe σ (rounds n f D S >>= f)
+  rounds-safe : (σ : State) (n : ℕ) (f : Conjuncts → Out Conjuncts) (D S : Conjuncts) → Safe σ (rounds n f D S) → All (Meets I σ) D × Safe σ (rounds n f D S >>= f)
   unfolding rounds
   rounds-safe σ zero f D S h = absurd h
   rounds-safe σ (suc n) f D S h = first (f S) refl h (λ S′. rounds-safe σ n f D S′)
     where
-      either : Bool → Cond → Out Cond
+      either : Bool → Conjuncts → Out Conjuncts
       either b S′ = elim b [ true ↦ ok S′ | false ↦ rounds n f D S′ ]
 
-      next : Cond → Out Cond
+      next : Conjuncts → Out Conjuncts
       next S′ = either (same S S′) S′
 
       Below : Type 0
-      Below = (S′ : Cond) → Safe σ (rounds n f D S′) → All (Meets I σ) D × Safe σ (rounds n f D S′ >>= f)
+      Below = (S′ : Conjuncts) → Safe σ (rounds n f D S′) → All (Meets I σ) D × Safe σ (rounds n f D S′ >>= f)
 
-      third : (B S′ : Cond) → f S ≡ ok B → union D B ≡ S′ → (b : Bool) → same S S′ ≡ b → Safe σ (either b S′) → Below → All (Meets I σ) D × Safe σ (either b S′ >>= f)
+      third : (B S′ : Conjuncts) → f S ≡ ok B → unionOf D B ≡ S′ → (b : Bool) → same S S′ ≡ b → Safe σ (either b S′) → Below → All (Meets I σ) D × Safe σ (either b S′ >>= f)
       third B S′ p q true r k ih =
           let u = union-all (Meets I σ) D B (subst (All (Meets I σ)) (sym q) k) in
           (u .0, subst (Safe σ) (sym p ∙ ap f (same-eq S S′ r)) (u .1))
       third B S′ p q false r k ih = ih S′ k
 
-      second : (B : Cond) → f S ≡ ok B → (o : Out Cond) → limits (union D B) ≡ o → Safe σ (o >>= next) → Below → All (Meets I σ) D × Safe σ (o >>= next >>= f)
-      second B p (ok S′) q k ih = third B S′ p (limits-inv (union D B) S′ q .0) (same S S′) refl k ih
+      second : (B : Conjuncts) → f S ≡ ok B → (o : Out Conjuncts) → limits (unionOf D B) ≡ o → Safe σ (o >>= next) → Below → All (Meets I σ) D × Safe σ (o >>= next >>= f)
+      second B p (ok S′) q k ih = third B S′ p (limits-inv (unionOf D B) S′ q .0) (same S S′) refl k ih
       second B p (refused m) q k ih = absurd k
 
-      first : (o : Out Cond) → f S ≡ o → Safe σ (o >>= λ B. limits (union D B) >>= next) → Below → All (Meets I σ) D × Safe σ ((o >>= λ B. limits (union D B) >>= next) >>= f)
-      first (ok B) p k ih = second B p (limits (union D B)) refl k ih
+      first : (o : Out Conjuncts) → f S ≡ o → Safe σ (o >>= λ B. limits (unionOf D B) >>= next) → Below → All (Meets I σ) D × Safe σ ((o >>= λ B. limits (unionOf D B) >>= next) >>= f)
+      first (ok B) p k ih = second B p (limits (unionOf D B)) refl k ih
       first (refused m) p k ih = absurd k
 
-  loop-safe : (σ : State) (body : Code) (o : Out Cond) → Safe σ (o >>= λ D. rounds 16 (walk body) D D)
+  loop-safe : (σ : State) (body : Code) (o : Out Conjuncts) → Safe σ (o >>= λ D. rounds 16 (walk body) D D)
       → Safe σ o × Safe σ ((o >>= λ D. rounds 16 (walk body) D D) >>= walk body)
   loop-safe σ body (ok D) h = rounds-safe σ 16 (walk body) D D h
   loop-safe σ body (refused n) h = absurd h
@@ -149,7 +149,7 @@ module _ (I : Input) where
   loop-good : (σ : State) (l v : ℕ) (body rest : Code) (b : Bool) → Good σ (loop l v body rest) → Good σ (cond b (append body (loop l v body rest)) rest)
   unfolding sites
   loop-good σ l v body rest b h =
-      let f : Cond → Out Cond = λ D. rounds 16 (walk body) D D in
+      let f : Conjuncts → Out Conjuncts = λ D. rounds 16 (walk body) D D in
       let h₁ = all-imp (loop-safe σ body) (sites body ++ sites rest) (all-unmap (Safe σ) (_>>= f) (sites body ++ sites rest) h) in
       let all₀ = all-imp (λ o k. k .0) (sites body ++ sites rest) h₁ in
       let all₁ = all-map (λ o. Safe σ (o >>= walk body)) (_>>= f) (sites body ++ sites rest) (all-imp (λ o k. k .1) (sites body ++ sites rest) h₁) in
@@ -214,34 +214,34 @@ module _ (I : Input) where
       ap topMark (sym (eval-map I zeros zeros env env zeroed e (all-of (zeroed-push env) e) []))
       ∙ h env (all-map LiveNode zeroed e (all-imp zeroed-live e live))
 
-  start-safe : (o : Out Cond) → Safe zeros (o >>= start) → Safe zeros o
+  start-safe : (o : Out Conjuncts) → Safe zeros (o >>= start) → Safe zeros o
   unfolding start
   start-safe (ok S) h = all-imp (λ e k. zeroed-meets e (k .0)) S (safe-gather zeros (λ e. map zeroed e ∷ []) S h)
   start-safe (refused n) h = absurd h
 
-  join-safe : (R : Cond) (os : List (Out Cond)) → Safe zeros (join R os) → All (Meets I zeros) R × All (Safe zeros) os
+  join-safe : (R : Conjuncts) (os : List (Out Conjuncts)) → Safe zeros (join R os) → All (Meets I zeros) R × All (Safe zeros) os
   unfolding join
   join-safe R [] h = (h, tt)
   join-safe R (o ∷ os) h = first (o >>= start) h (start-safe o) (λ R′. join-safe R′ os)
     where
       Below : Type 0
-      Below = (R′ : Cond) → Safe zeros (join R′ os) → All (Meets I zeros) R′ × All (Safe zeros) os
+      Below = (R′ : Conjuncts) → Safe zeros (join R′ os) → All (Meets I zeros) R′ × All (Safe zeros) os
 
-      second : (S : Cond) (p : Out Cond) → limits (union R S) ≡ p → Safe zeros (p >>= λ R′. join R′ os) → (All (Meets I zeros) S → Safe zeros o) → Below
+      second : (S : Conjuncts) (p : Out Conjuncts) → limits (unionOf R S) ≡ p → Safe zeros (p >>= λ R′. join R′ os) → (All (Meets I zeros) S → Safe zeros o) → Below
           → All (Meets I zeros) R × (Safe zeros o × All (Safe zeros) os)
       second S (ok R′) q k f ih =
           let w = ih R′ k in
-          let u = union-all (Meets I zeros) R S (subst (All (Meets I zeros)) (sym (limits-inv (union R S) R′ q .0)) (w .0)) in
+          let u = union-all (Meets I zeros) R S (subst (All (Meets I zeros)) (sym (limits-inv (unionOf R S) R′ q .0)) (w .0)) in
           (u .0, (f (u .1), w .1))
       second S (refused n) q k f ih = absurd k
 
-      first : (p : Out Cond) → Safe zeros (p >>= λ S. limits (union R S) >>= λ R′. join R′ os) → (Safe zeros p → Safe zeros o) → Below
+      first : (p : Out Conjuncts) → Safe zeros (p >>= λ S. limits (unionOf R S) >>= λ R′. join R′ os) → (Safe zeros p → Safe zeros o) → Below
           → All (Meets I zeros) R × (Safe zeros o × All (Safe zeros) os)
-      first (ok S) k f ih = second S (limits (union R S)) refl k f ih
+      first (ok S) k f ih = second S (limits (unionOf R S)) refl k f ih
       first (refused n) k f ih = absurd k
 
   -- The analysis is sound
-  pub sound : (c : Code) (R : Cond) → derived c ≡ ok R → All (Meets I zeros) R
+  pub sound : (c : Code) (R : Conjuncts) → derived c ≡ ok R → All (Meets I zeros) R
       → (n room : ℕ) (ch : List ℕ) → All (λ line. line .value .mark ≡ false) (execute I n room zeros c ch .log)
   unfolding derived
   sound c R p h n room ch = run-unmarked n room zeros c ch ((join-safe [] (sites c) (subst (Safe zeros) (sym p) h)) .1)

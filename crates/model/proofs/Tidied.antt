@@ -5,7 +5,7 @@ use mathlib.Core.List.{List, [], _∷_, map}
 use Prim.Native.Nat.{ℕ, zero-le}
 use native.Mathlib.Omega.{arith}
 use Rattle.model.specs.Code.{Instr, Code}
-use Rattle.model.specs.Conjunct.{Conj, var, Cond, union, long, limits, atoms, renumber}
+use Rattle.model.specs.Conjunct.{Conj, var, Conjuncts, unionOf, long, limits, atoms, renumber}
 use Rattle.model.specs.Lists.{All}
 use Rattle.model.specs.Refusals.{ok}
 use Rattle.model.specs.Walk.{before, gather, back, walk, sites, zeroed, start, join, derived}
@@ -21,22 +21,22 @@ use Rattle.model.proofs.Trees.{each-any}
 
 -- ---- the rules
 
-limits-tidy : (S : Cond) → Canon S → All Numbered S → Gives Tidy (limits S)
+limits-tidy : (S : Conjuncts) → Canon S → All Numbered S → Gives Tidy (limits S)
 limits-tidy S h k = limits-cases (Gives Tidy) S tt tt (λ f. record { canon = h; numbered = k; fine = f })
 
-gather-tidy : (f : Conj → List Conj) (S : Cond) → Gives Tidy (limits (gather f S))
+gather-tidy : (f : Conj → List Conj) (S : Conjuncts) → Gives Tidy (limits (gather f S))
 gather-tidy f S =
     limits-tidy (gather f S) (gather-canon f S)
     (gather-every Numbered f (λ e. Unit {0}) (λ e u. all-map Numbered renumber (f e) (all-of renumber-idem (f e))) S (all-of (λ e. tt) S))
 
-pub union-tidy : (R S : Cond) → Tidy R → Tidy S → Gives Tidy (limits (union R S))
-union-tidy R S h k = limits-tidy (union R S) (union-canon R S (k .canon)) (union-every Numbered R S (h .numbered) (k .numbered))
+pub union-tidy : (R S : Conjuncts) → Tidy R → Tidy S → Gives Tidy (limits (unionOf R S))
+union-tidy R S h k = limits-tidy (unionOf R S) (union-canon R S (k .canon)) (union-every Numbered R S (h .numbered) (k .numbered))
 
-pub back-tidy : (l : ℕ) (i : Instr) (S : Cond) → Gives Tidy (back l i S)
+pub back-tidy : (l : ℕ) (i : Instr) (S : Conjuncts) → Gives Tidy (back l i S)
 unfolding back
 back-tidy l i S = gather-tidy (before l i) S
 
-pub start-tidy : (S : Cond) → Gives Tidy (start S)
+pub start-tidy : (S : Conjuncts) → Gives Tidy (start S)
 unfolding start
 start-tidy S = gather-tidy (λ e. map zeroed e ∷ []) S
 
@@ -50,13 +50,13 @@ site-tidy : (a ty : ℕ) → Tidy ((var a ty ∷ []) ∷ [])
 unfolding long renumber atoms
 site-tidy a ty = record { canon = (tt, tt); numbered = (refl, tt); fine = record { short = refl; few = omega arith } }
 
-pub walk-tidy : (c : Code) (C : Cond) → Tidy C → Gives Tidy (walk c C)
+pub walk-tidy : (c : Code) (C : Conjuncts) → Tidy C → Gives Tidy (walk c C)
 walk-tidy c = walk-keeps Tidy (λ n. Unit {0}) union-tidy tt (λ i. Unit {0}) (λ l i w S s. back-tidy l i S) c (each-any c)
 
 pub sites-tidy : (c : Code) → All (Gives Tidy) (sites c)
 sites-tidy c = sites-keep Tidy (λ n. Unit {0}) union-tidy tt (λ i. Unit {0}) (λ l i w S s. back-tidy l i S) (λ a ty w. site-tidy a ty) c (each-any c)
 
-pub derived-tidy : (c : Code) (R : Cond) → derived c ≡ ok R → Tidy R
+pub derived-tidy : (c : Code) (R : Conjuncts) → derived c ≡ ok R → Tidy R
 unfolding derived
 derived-tidy c R p =
     gives-ok Tidy (join [] (sites c)) R p (join-keeps Tidy (λ n. Unit {0}) union-tidy Tidy (λ S s. start-tidy S) [] (sites c) empty-tidy (sites-tidy c))

@@ -6,7 +6,7 @@ use mathlib.Core.Bool.{false}
 use mathlib.Core.List.{[], _∷_}
 use Prim.Native.Nat.{_≤_, Ordering·lt}
 use lib.ListN.{length}
-use Rattle.model.specs.Conjunct.{Conj, Cond, order, long, renumber}
+use Rattle.model.specs.Conjunct.{Conj, Conjuncts, order, long, renumber}
 use Rattle.model.specs.Lists.{All}
 
 -- d stands before e
@@ -14,17 +14,17 @@ abbrev pub Less : Conj → Conj → Type 0
 Less d e = order d e ≡ Ordering·lt
 
 -- a canonical set: strictly rising
-abbrev pub Canon : Cond → Type 0
+abbrev pub Canon : Conjuncts → Type 0
 Canon [] = Unit {0}
 Canon (e ∷ S) = All (Less e) S × Canon S
 
 -- x is a conjunct of the set
-abbrev pub Mem : Conj → Cond → Type 0
+abbrev pub Mem : Conj → Conjuncts → Type 0
 Mem x [] = ⊥
 Mem x (e ∷ S) = (x ≡ e) ⊎ Mem x S
 
 -- every conjunct of R is one of S
-abbrev pub Sub : Cond → Cond → Type 0
+abbrev pub Sub : Conjuncts → Conjuncts → Type 0
 Sub R S = (x : Conj) → Mem x R → Mem x S
 
 -- numbered as a rule leaves it
@@ -32,12 +32,12 @@ abbrev pub Numbered : Conj → Type 0
 Numbered e = renumber e ≡ e
 
 -- within the limits
-pub record Fine (S : Cond) : Type 0 where
+pub record Fine (S : Conjuncts) : Type 0 where
   pub short : long S ≡ false
   pub few : length S ≤ 64
 
 -- what the sets of an analysis are
-pub record Tidy (S : Cond) : Type 0 where
+pub record Tidy (S : Conjuncts) : Type 0 where
   pub canon : Canon S
   pub numbered : All Numbered S
   pub fine : Fine S

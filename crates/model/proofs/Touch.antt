@@ -5,7 +5,7 @@ use mathlib.Core.List.{List, [], _∷_}
 use Prim.Native.Nat.{ℕ}
 use lib.Dec.{eqb}
 use Rattle.model.specs.Code.{Instr, assign, store, site, Code, done, step, branch, loop}
-use Rattle.model.specs.Conjunct.{Node, const, atom, var, op, conv, Conj, Cond}
+use Rattle.model.specs.Conjunct.{Node, const, atom, var, op, conv, Conj, Conjuncts}
 use Rattle.model.specs.Walk.{onArray}
 
 -- is it the variable a?
@@ -36,7 +36,7 @@ writes (store t k i x ty) e = some (isLoad t k) e
 writes (site a ty) e = false
 
 -- does the piece of program, for one of the conjuncts?
-unfoldable pub touches : Code → Cond → Bool
+unfoldable pub touches : Code → Conjuncts → Bool
 touches done S = false
 touches (step l i rest) S = some (writes i) S || touches rest S
 touches (branch l v yes′ no′ rest) S = touches yes′ S || (touches no′ S || touches rest S)

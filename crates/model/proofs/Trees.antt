@@ -7,7 +7,7 @@ use Prim.Native.Nat.{ℕ, suc}
 use lib.Dec.{ltb}
 use Rattle.model.specs.Lists.{All}
 use Rattle.model.specs.Refusals.{ok, check}
-use Rattle.model.specs.Code.{Instr, Code, done, step, branch, loop, Stmt, plain, if, else, end, while, Open, top, block, other, front, depth, turned, branched, looped, taking, opened, closed, treeOf}
+use Rattle.model.specs.Code.{Instr, Code, done, step, branch, loop, Stmt, plain, if, else, end, while, Open, top, block, other, front, openBlocks, turned, branched, looped, taking, opened, closed, treeOf}
 use Rattle.model.specs.Run.{append}
 use Rattle.model.proofs.Results.{Gives, gives-bind, gives-ok}
 
@@ -67,7 +67,7 @@ module _ (P : Instr → Type 0) where
   in-taking l (plain i) p s h = in-front (step l i) (λ c k. (p, k)) s h
   in-taking l (if v) p s h = in-branched l v s h
   in-taking l else p s h = in-turned s h
-  in-taking l end p s h = in-opened-block (ltb (depth s) 4) _ s h
+  in-taking l end p s h = in-opened-block (ltb (openBlocks s) 4) _ s h
   in-taking l (while v) p s h = in-looped l v s h
 
   in-opened : (l : ℕ) (ss : List Stmt) → All AtPlain ss → Gives InOpen (opened l ss)

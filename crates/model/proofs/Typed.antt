@@ -15,7 +15,7 @@ use Rattle.model.specs.Code.{number, copy, calc, change, read, load, Ins
 use Rattle.model.specs.Input.{Input}
 use Rattle.model.specs.Lists.{All}
 use Rattle.model.specs.Program.{Tables, variableType, fieldType, arrayOf}
-use Rattle.model.specs.Run.{State, zeros, setVar, setCell, reading, taking, index, exec, append, Line, logged, execute}
+use Rattle.model.specs.Run.{State, zeros, setVar, setCell, reading, takingChoice, index, exec, append, Line, logged, execute}
 use Rattle.model.specs.Values.{Val, stepOp, operated, converted}
 use Rattle.model.proofs.Lists.{all-getD}
 use Rattle.model.proofs.Runs.{Leads, leads-imp, run-all}
@@ -40,7 +40,7 @@ module _ (T : Tables) (I : Input) (typed : TypedInput T I) where
   }
 
   read-in : (σ : State) → InTypes T σ → (a f : ℕ) → variableType T a ≡ fieldType T f → (rs : List ℤ) → All (λ z. fits (fieldType T f) z ≡ true) rs → (ch : List ℕ)
-      → Leads (InTypes T) (taking rs σ a ch)
+      → Leads (InTypes T) (takingChoice rs σ a ch)
   unfolding reading
   read-in σ h a f e [] k ch = tt
   read-in σ h a f e (r ∷ rs) k [] = tt

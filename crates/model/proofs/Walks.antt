@@ -3,14 +3,14 @@
 use mathlib.Core.Path.{_≡_, refl, sym, ap, _∙_}
 use Prim.Native.Nat.{ℕ}
 use Rattle.model.specs.Code.{Instr, Code, done, step, branch, loop}
-use Rattle.model.specs.Conjunct.{Cond}
+use Rattle.model.specs.Conjunct.{Conjuncts}
 use Rattle.model.specs.Refusals.{_>>=_}
 use Rattle.model.specs.Run.{append}
 use Rattle.model.specs.Walk.{back, joined, rounds, walk}
 use Rattle.model.proofs.Results.{bind-self, bind-assoc}
 
 -- the walk of one piece before another
-pub walk-append : (c d : Code) (C : Cond) → walk (append c d) C ≡ (walk d C >>= walk c)
+pub walk-append : (c d : Code) (C : Conjuncts) → walk (append c d) C ≡ (walk d C >>= walk c)
 unfolding walk
 walk-append done d C = sym (bind-self (walk d C))
 walk-append (step l i rest) d C = ap (_>>= back l i) (walk-append rest d C) ∙ bind-assoc (walk d C) (walk rest) (back l i)
@@ -20,14 +20,14 @@ walk-append (loop l v body rest) d C =
 
 -- each rule on the way from a site is the walk of a piece, so that all laws of the walk hold of it
 
-pub back-piece : (l : ℕ) (i : Instr) (D : Cond) → walk (step l i done) D ≡ back l i D
+pub back-piece : (l : ℕ) (i : Instr) (D : Conjuncts) → walk (step l i done) D ≡ back l i D
 unfolding walk
 back-piece l i D = refl
 
-pub joined-piece : (l v : ℕ) (y n : Code) (D : Cond) → walk (branch l v y n done) D ≡ joined (walk y) (walk n) D
+pub joined-piece : (l v : ℕ) (y n : Code) (D : Conjuncts) → walk (branch l v y n done) D ≡ joined (walk y) (walk n) D
 unfolding walk
 joined-piece l v y n D = refl
 
-pub rounds-piece : (l v : ℕ) (body : Code) (D : Cond) → walk (loop l v body done) D ≡ rounds 16 (walk body) D D
+pub rounds-piece : (l v : ℕ) (body : Code) (D : Conjuncts) → walk (loop l v body done) D ≡ rounds 16 (walk body) D D
 unfolding walk
 rounds-piece l v body D = refl

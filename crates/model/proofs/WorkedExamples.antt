@@ -14,10 +14,10 @@ use Rattle.model.specs.Refusals.{Out, ok, refused, _>>=_, wrongBlocks, t
 use Rattle.model.specs.Bytes.{bytes4}
 use Rattle.model.specs.Values.{Operation, sub, mul, div}
 use Rattle.model.specs.Code.{plain, site, done, step, branch, loop, if, else, end, while, treeOf}
-use Rattle.model.specs.Conjunct.{field, Node, const, atom, op, conv, Cond, atoms}
+use Rattle.model.specs.Conjunct.{field, Node, const, atom, op, conv, Conjuncts, atoms}
 use Rattle.model.specs.Condition.{Condition, encode, readCondition, analysis}
 use Rattle.model.specs.Input.{readInput}
-use Rattle.model.specs.Filter.{evaluate, combinationsOf, valueIn, filter}
+use Rattle.model.specs.Filter.{evaluate, combinationsOf, valueIn, filterInput}
 use Rattle.model.specs.Bytes
 use Rattle.model.specs.Code
 use Rattle.model.specs.Condition
@@ -33,7 +33,7 @@ use Rattle.model.specs.Walk
 
 -- to unfold this is to unfold all that they are made of
 definitions : Type 0
-unfolding Bytes.bytes2 Bytes.bytes4 Bytes.bytes8 Bytes.entries Bytes.chained Code.taking Code.opened Code.treeOf Condition.conjunctBytes Condition.pairBytes Condition.encode Condition.analysis Condition.nodeAt Condition.nodeRight Condition.typeNode Condition.typeNodes Condition.whole Condition.numbered Condition.rising Condition.readCondition Conjunct.sourceBytes Conjunct.bytes Conjunct.orderNumbers Conjunct.orderNodes Conjunct.order Conjunct.insert Conjunct.union Conjunct.same Conjunct.long Conjunct.limits Conjunct.sameSource Conjunct.sameAtom Conjunct.without Conjunct.atoms Conjunct.rank Conjunct.renamed Conjunct.renumber Filter.evaluate Filter.combinations Filter.valueIn Filter.combinationsOf Filter.holds Filter.productOf Filter.fewCombinations Filter.filter Input.width Input.bitsAt Input.readingAt Input.readingsOf Input.lengthsRight Input.readInput Lists.every Program.layoutOf Program.tablesAt Program.sectionsRight Program.countsRight Program.typesRight Program.formRight Program.typesAgree Program.immediateRight Program.stmtOf Program.readProgram Values.operated Values.converted Walk.nodes Walk.replace Walk.onArray Walk.loads Walk.swap Walk.swapAll Walk.subsets Walk.before Walk.gather Walk.back Walk.rounds Walk.walk Walk.here Walk.sites Walk.zeroed Walk.start Walk.join Walk.derived Types.bits Types.signed Types.depth Types.height Words.wideOf Words.wordOf Words.valueAt Words.immediate mathlib.Core.List.flatMap
+unfolding Bytes.bytes2 Bytes.bytes4 Bytes.bytes8 Bytes.entries Bytes.chained Code.taking Code.opened Code.treeOf Condition.conjunctBytes Condition.pairBytes Condition.encode Condition.analysis Condition.nodeAt Condition.nodeRight Condition.typeNode Condition.typeNodes Condition.whole Condition.numbered Condition.rising Condition.readCondition Conjunct.sourceBytes Conjunct.bytes Conjunct.orderNumbers Conjunct.orderNodes Conjunct.order Conjunct.withConjunct Conjunct.unionOf Conjunct.same Conjunct.long Conjunct.limits Conjunct.sameSource Conjunct.sameAtom Conjunct.without Conjunct.atoms Conjunct.rank Conjunct.renamed Conjunct.renumber Filter.evaluate Filter.combinations Filter.valueIn Filter.combinationsOf Filter.holds Filter.productOf Filter.fewCombinations Filter.filterInput Input.width Input.bitsAt Input.readingAt Input.readingsOf Input.lengthsRight Input.readInput Lists.every Program.layoutOf Program.tablesAt Program.sectionsRight Program.countsRight Program.typesRight Program.formRight Program.typesAgree Program.immediateRight Program.stmtOf Program.readProgram Values.operated Values.converted Walk.nodes Walk.replace Walk.onArray Walk.loads Walk.swap Walk.swapAll Walk.subsets Walk.before Walk.gather Walk.back Walk.rounds Walk.walk Walk.here Walk.sites Walk.zeroed Walk.start Walk.join Walk.derived Types.bits Types.signed Types.depth Types.height Words.wideOf Words.wordOf Words.valueAt Words.immediate mathlib.Core.List.flatMap
 definitions = Unit {0}
 
 -- the analysis
@@ -42,14 +42,14 @@ unfolding definitions
 derive program = analysis program
 
 -- the condition file of a set
-file : List ℕ → Cond → List ℕ
+file : List ℕ → Conjuncts → List ℕ
 unfolding definitions
 file types S = encode types S
 
 -- the filter
 check : List ℕ → List ℕ → Out Bool
 unfolding definitions
-check condition input = filter condition input
+check condition input = filterInput condition input
 
 -- the evaluation of each conjunct at each combination
 values : List ℕ → List ℕ → Out (List (List Outcome))

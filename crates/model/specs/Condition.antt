@@ -12,7 +12,7 @@ use Rattle.model.specs.Refusals.{Out, ok, refused, _>>=_, check, wrongCo
 use Rattle.model.specs.Bytes.{byteAt, u16At, u32At, bytes4, part, Pair, entries, pairsAt, chained}
 use Rattle.model.specs.Values.{add, sub, mul, div}
 use Rattle.model.specs.Program.{Program, Tables, typeRight, readProgram}
-use Rattle.model.specs.Conjunct.{Source, field, cell, Atom, Node, const, atom, var, op, conv, Conj, Cond, bytes, order, orderNodes, renumber}
+use Rattle.model.specs.Conjunct.{Source, field, cell, Atom, Node, const, atom, var, op, conv, Conj, Conjuncts, bytes, order, orderNodes, renumber}
 use Rattle.model.specs.Walk.{derived}
 
 -- ---- written
@@ -22,7 +22,7 @@ unfoldable pub conjunctBytes : Conj → List ℕ
 conjunctBytes e = flatMap bytes e
 
 -- the pairs of conjuncts that stand one after the other from a place on
-unfoldable pub pairBytes : ℕ → Cond → List ℕ
+unfoldable pub pairBytes : ℕ → Conjuncts → List ℕ
 pairBytes at [] = []
 pairBytes at (e ∷ S) = bytes4 at ++ bytes4 (8 * length e) ++ pairBytes (at + 8 * length e) S
 
@@ -31,7 +31,7 @@ abbrev pub conjunctsAt : ℕ → ℕ → ℕ
 conjunctsAt f c = 8 + f + 8 * c
 
 -- the condition file of a set, with the types of the program's fields
-unfoldable pub encode : List ℕ → Cond → List ℕ
+unfoldable pub encode : List ℕ → Conjuncts → List ℕ
 encode types S =
     bytes4 (length S) ++ bytes4 (length types) ++ types
     ++ pairBytes (conjunctsAt (length types) (length S)) S
@@ -46,7 +46,7 @@ analysis s = readProgram s >>= λ P. derived (P .code) >>= λ S. ok (encode (P .
 -- the types of the fields, and the conjuncts
 pub record Condition : Type 0 where
   pub types : List ℕ
-  pub conjuncts : Cond
+  pub conjuncts : Conjuncts
 
 -- the node at a place, by its kind
 unfoldable pub nodeAt : List ℕ → ℕ → Node
@@ -125,7 +125,7 @@ isBefore Ordering·eq = false
 isBefore Ordering·gt = false
 
 -- in rising order, none twice
-unfoldable pub rising : Cond → Bool
+unfoldable pub rising : Conjuncts → Bool
 rising [] = true
 rising (d ∷ []) = true
 rising (d ∷ e ∷ S) = isBefore (order d e) && rising (e ∷ S)

@@ -32,8 +32,8 @@ abbrev pub Conj : Type 0
 Conj = List Node
 
 -- a set of conjuncts: a list in rising order, none twice
-abbrev pub Cond : Type 0
-Cond = List Conj
+abbrev pub Conjuncts : Type 0
+Conjuncts = List Conj
 
 -- ---- the order: by node count, then by bytes
 
@@ -82,35 +82,35 @@ order d e = compare (length d) (length e) then orderNodes d e
 -- ---- sets
 
 -- e put before d ∷ S, found there, or put into what follows d, which is then `rest`
-abbrev pub place : Ordering → Conj → Conj → Cond → Cond → Cond
+abbrev pub place : Ordering → Conj → Conj → Conjuncts → Conjuncts → Conjuncts
 place Ordering·lt e d S rest = e ∷ d ∷ S
 place Ordering·eq e d S rest = d ∷ S
 place Ordering·gt e d S rest = d ∷ rest
 
 -- a set with one conjunct more
-unfoldable pub insert : Conj → Cond → Cond
-insert e [] = e ∷ []
-insert e (d ∷ S) = place (order e d) e d S (insert e S)
+unfoldable pub withConjunct : Conj → Conjuncts → Conjuncts
+withConjunct e [] = e ∷ []
+withConjunct e (d ∷ S) = place (order e d) e d S (withConjunct e S)
 
 -- a set with all conjuncts of another
-unfoldable pub union : Cond → Cond → Cond
-union [] S = S
-union (e ∷ R) S = insert e (union R S)
+unfoldable pub unionOf : Conjuncts → Conjuncts → Conjuncts
+unionOf [] S = S
+unionOf (e ∷ R) S = withConjunct e (unionOf R S)
 
 -- the same set: canonical lists are compared place by place
-unfoldable pub same : Cond → Cond → Bool
+unfoldable pub same : Conjuncts → Conjuncts → Bool
 same [] [] = true
 same [] (e ∷ S) = false
 same (d ∷ R) [] = false
 same (d ∷ R) (e ∷ S) = isEq (orderNodes d e) && same R S
 
 -- has a conjunct over 120 nodes?
-unfoldable pub long : Cond → Bool
+unfoldable pub long : Conjuncts → Bool
 long [] = false
 long (e ∷ S) = ltb 120 (length e) || long S
 
 -- after every rule: no conjunct over 120 nodes, then no more than 64 conjuncts
-unfoldable pub limits : Cond → Out Cond
+unfoldable pub limits : Conjuncts → Out Conjuncts
 limits S = cond (long S) (refused tooManyNodes) (cond (ltb 64 (length S)) (refused tooManyConjuncts) (ok S))
 
 -- ---- the numbering: within a conjunct the n of each source count from 1 by first appearance

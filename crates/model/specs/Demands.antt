@@ -12,10 +12,10 @@ use Rattle.arith.specs.Words.{valueAt}
 use Rattle.model.specs.Lists.{All, every}
 use Rattle.model.specs.Refusals.{Out, ok}
 use Rattle.model.specs.Bytes.{byteAt, u16At, u64At}
-use Rattle.model.specs.Conjunct.{Atom, Conj, Cond, atoms}
+use Rattle.model.specs.Conjunct.{Atom, Conj, Conjuncts, atoms}
 use Rattle.model.specs.Condition.{Condition, readCondition, analysis}
 use Rattle.model.specs.Input.{Input, readInput}
-use Rattle.model.specs.Filter.{evaluate, valuesOf, fewCombinations, filter}
+use Rattle.model.specs.Filter.{evaluate, valuesOf, fewCombinations, filterInput}
 use Rattle.model.specs.Run.{Ran, run}
 use Rattle.model.specs.Exact.{Note, exactRun}
 
@@ -52,7 +52,7 @@ abbrev pub Demand2 : Type 0
 Demand2 =
     (condition input : List ℕ) (C : Condition) (I : Input)
     → readCondition condition ≡ ok C → readInput (C .types) input ≡ ok I → every (fewCombinations I) (C .conjuncts) ≡ true
-    → ((filter condition input ≡ ok true) ↔ All (Safe I) (C .conjuncts)) × ((filter condition input ≡ ok false) ↔ Some (Overflows I) (C .conjuncts))
+    → ((filterInput condition input ≡ ok true) ↔ All (Safe I) (C .conjuncts)) × ((filterInput condition input ≡ ok false) ↔ Some (Overflows I) (C .conjuncts))
 
 -- ---- demand 3
 
@@ -92,7 +92,7 @@ pub record Matches (r : Record) (w : Note) : Type 0 where
 abbrev pub Demand3 : Type 0
 Demand3 =
     (program condition input : List ℕ) (limit : ℕ) (choices log : List ℕ) (ran : Ran)
-    → analysis program ≡ ok condition → filter condition input ≡ ok true → run program input limit choices log ≡ ok ran
+    → analysis program ≡ ok condition → filterInput condition input ≡ ok true → run program input limit choices log ≡ ok ran
     → (ws : List Note) × (exactRun program input limit choices (length log) ≡ ok ws) × Pairwise Matches (recordsOf (ran .records) (ran .log)) ws
 
 -- in any run a record is marked if and only if a step of the value's making overflowed; if not, the value is the whole number

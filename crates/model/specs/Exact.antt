@@ -91,9 +91,9 @@ flag [] p = false
 flag (b ∷ H) p = cond (eqb p (length H)) b (flag H p)
 
 -- how many of the places overflowed
-abbrev pub count : List Bool → List ℕ → ℕ
-count H [] = 0
-count H (p ∷ ps) = cond (flag H p) 1 0 + count H ps
+abbrev pub overflowCount : List Bool → List ℕ → ℕ
+overflowCount H [] = 0
+overflowCount H (p ∷ ps) = cond (flag H p) 1 0 + overflowCount H ps
 
 -- what is noted at a site: its label and type, the whole number, and how many places of its making overflowed
 pub record Note : Type 0 where
@@ -106,7 +106,7 @@ pub record Note : Type 0 where
 unfoldable pub noted : ℕ → Instr → List Bool → Store → List Note
 noted l (assign a ty r) H τ = []
 noted l (store r k i x ty) H τ = []
-noted l (site a ty) H τ = record { label = l; type = ty; total = τ .vars a .total; overflowed = count H (τ .vars a .places) } ∷ []
+noted l (site a ty) H τ = record { label = l; type = ty; total = τ .vars a .total; overflowed = overflowCount H (τ .vars a .places) } ∷ []
 
 -- the run goes on, or ends
 abbrev pub following : Next → (State → List ℕ → List Note) → List Note

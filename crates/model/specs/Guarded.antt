@@ -5,7 +5,7 @@ use mathlib.Core.List.{List}
 use Prim.Native.Nat.{ℕ}
 use Rattle.model.specs.Refusals.{Out, ok, _>>=_}
 use Rattle.model.specs.Condition.{analysis}
-use Rattle.model.specs.Filter.{filter}
+use Rattle.model.specs.Filter.{filterInput}
 use Rattle.model.specs.Run.{Ran, run}
 
 -- the input is held, or it passed and the program was run: the condition file, and what the run gives
@@ -21,4 +21,4 @@ admitted C o false = ok held
 -- the first refusal counts
 unfoldable pub guarded : List ℕ → List ℕ → ℕ → List ℕ → List ℕ → Out Guarded
 guarded program input limit choices log =
-    analysis program >>= λ C. filter C input >>= admitted C (run program input limit choices log)
+    analysis program >>= λ C. filterInput C input >>= admitted C (run program input limit choices log)

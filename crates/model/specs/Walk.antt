@@ -7,7 +7,7 @@ use Prim.Native.Nat.{ℕ, zero, suc}
 use lib.Dec.{eqb}
 use Rattle.model.specs.Refusals.{Out, ok, refused, _>>=_, neverSettles}
 use Rattle.model.specs.Code.{Right, number, copy, calc, change, read, load, Instr, assign, store, site, Code, done, step, branch, loop}
-use Rattle.model.specs.Conjunct.{Source, field, cell, Atom, Node, const, atom, var, op, conv, Conj, Cond, insert, union, same, limits, sameAtom, atoms, onAtom, renumber}
+use Rattle.model.specs.Conjunct.{Source, field, cell, Atom, Node, const, atom, var, op, conv, Conj, Conjuncts, withConjunct, unionOf, same, limits, sameAtom, atoms, onAtom, renumber}
 
 -- ---- one statement
 
@@ -58,28 +58,28 @@ before l (store t k i x ty) e = cond (eqb k 1) (swapAll t k x ty e ∷ []) (subs
 before l (site a ty) e = e ∷ []
 
 -- f at each conjunct, renumbered, as one set
-unfoldable pub gather : (Conj → List Conj) → Cond → Cond
+unfoldable pub gather : (Conj → List Conj) → Conjuncts → Conjuncts
 gather f [] = []
-gather f (e ∷ S) = union (map renumber (f e)) (gather f S)
+gather f (e ∷ S) = unionOf (map renumber (f e)) (gather f S)
 
 -- the rule of one statement
-unfoldable pub back : ℕ → Instr → Cond → Out Cond
+unfoldable pub back : ℕ → Instr → Conjuncts → Out Conjuncts
 back l i S = limits (gather (before l i) S)
 
 -- ---- blocks
 
 -- S(k+1) is D joined with the body's walk of S(k); the first that equals the one before, or refusal 11 after n rounds
-unfoldable pub rounds : ℕ → (Cond → Out Cond) → Cond → Cond → Out Cond
+unfoldable pub rounds : ℕ → (Conjuncts → Out Conjuncts) → Conjuncts → Conjuncts → Out Conjuncts
 rounds zero body D S = refused neverSettles
 rounds (suc n) body D S =
-    body S >>= λ B. limits (union D B) >>= λ S′. elim (same S S′) [ true ↦ ok S′ | false ↦ rounds n body D S′ ]
+    body S >>= λ B. limits (unionOf D B) >>= λ S′. elim (same S S′) [ true ↦ ok S′ | false ↦ rounds n body D S′ ]
 
 -- the union of two branches
-abbrev pub joined : (Cond → Out Cond) → (Cond → Out Cond) → Cond → Out Cond
-joined f g D = f D >>= λ A. g D >>= λ B. limits (union A B)
+abbrev pub joined : (Conjuncts → Out Conjuncts) → (Conjuncts → Out Conjuncts) → Conjuncts → Out Conjuncts
+joined f g D = f D >>= λ A. g D >>= λ B. limits (unionOf A B)
 
 -- the set before a piece of program, from the set after it
-unfoldable pub walk : Code → Cond → Out Cond
+unfoldable pub walk : Code → Conjuncts → Out Conjuncts
 walk done C = ok C
 walk (step l i rest) C = walk rest C >>= back l i
 walk (branch l v yes′ no′ rest) C = walk rest C >>= joined (λ D. walk yes′ D) (λ D. walk no′ D)
@@ -88,13 +88,13 @@ walk (loop l v body rest) C = walk rest C >>= λ D. rounds 16 (λ S. walk body S
 -- ---- sites
 
 -- a site starts with its variable
-unfoldable pub here : Instr → List (Out Cond)
+unfoldable pub here : Instr → List (Out Conjuncts)
 here (assign a ty r) = []
 here (store t k i x ty) = []
 here (site a ty) = ok ((var a ty ∷ []) ∷ []) ∷ []
 
 -- for each site by rising label, the set at the start of the piece of program
-unfoldable pub sites : Code → List (Out Cond)
+unfoldable pub sites : Code → List (Out Conjuncts)
 sites done = []
 sites (step l i rest) = here i ++ map (_>>= back l i) (sites rest)
 sites (branch l v yes′ no′ rest) = sites yes′ ++ (sites no′ ++ map (_>>= joined (walk yes′) (walk no′)) (sites rest))
@@ -109,14 +109,14 @@ zeroed (op o ty) = op o ty
 zeroed (conv ty) = conv ty
 
 -- the rule at the program's start
-unfoldable pub start : Cond → Out Cond
+unfoldable pub start : Conjuncts → Out Conjuncts
 start S = limits (gather (λ e. map zeroed e ∷ []) S)
 
 -- site by site, the union so far
-unfoldable pub join : Cond → List (Out Cond) → Out Cond
+unfoldable pub join : Conjuncts → List (Out Conjuncts) → Out Conjuncts
 join R [] = ok R
-join R (o ∷ os) = o >>= start >>= λ S. limits (union R S) >>= λ R′. join R′ os
+join R (o ∷ os) = o >>= start >>= λ S. limits (unionOf R S) >>= λ R′. join R′ os
 
 -- the set that the analysis derives from a program
-unfoldable pub derived : Code → Out Cond
+unfoldable pub derived : Code → Out Conjuncts
 derived c = join [] (sites c)

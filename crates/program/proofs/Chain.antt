@@ -12,7 +12,7 @@ use Rattle.model.specs.Refusals.{ok, refused, check}
 use Rattle.model.specs.Bytes.{u32At, Pair, pairAt, entries, chained}
 use Rattle.model.specs.Program.{Layout as Layout′, layoutOf, sectionsRight}
 use Rattle.model.proofs.Tests.{case, and-left, and-right}
-use Rattle.program.specs.Reading.{sectionOf, Short, layoutFrom, answerOf, Placed}
+use Rattle.program.specs.Reading.{sectionOf, InFourBytes, layoutFrom, programAnswer, Placed}
 use Rattle.program.specs.declared.Layout.{Layout}
 use Rattle.program.specs.declared.ProgramRead.{ProgramRead}
 use Rattle.program.specs.declared.ProgramRead.the-variants.{Read, Refused as NotRead}
@@ -41,8 +41,8 @@ module _ (s : List ℕ) (place start : ℕ) (r : SectionRead) (h : sectionOf r �
   pub section-refused : (n : ℕ) → r ≡ Refused n → u32At s place ≡ start → ⊥
   section-refused n e = eqb-false (u32At s place) start (check-refused (eqb (u32At s place) start) 2 n (pairAt s place) (sym (ap sectionOf e) ∙ h))
 
-pub section-short : (r : SectionRead) (at len : ℕ) → Short r → r ≡ Section at len → (at < 2 ^ 32) × (len < 2 ^ 32)
-section-short r at len h e = subst Short e h
+pub section-short : (r : SectionRead) (at len : ℕ) → InFourBytes r → r ≡ Section at len → (at < 2 ^ 32) × (len < 2 ^ 32)
+section-short r at len h e = subst InFourBytes e h
 
 -- ---- the four sections, by their offsets and lengths and the file's length
 
@@ -155,10 +155,10 @@ module _ (s : List ℕ) where
 
 -- ---- the answer to check 2
 
-pub table-read : (s : List ℕ) (r : ProgramRead) (L : Layout) → answerOf r ≡ check (sectionsRight s) 2 (ok (layoutOf s)) → r ≡ Read L → (sectionsRight s ≡ true) × Placed s L
+pub table-read : (s : List ℕ) (r : ProgramRead) (L : Layout) → programAnswer r ≡ check (sectionsRight s) 2 (ok (layoutOf s)) → r ≡ Read L → (sectionsRight s ≡ true) × Placed s L
 table-read s r L h e =
-    let k = check-ok (sectionsRight s) 2 (layoutFrom L) (layoutOf s) (sym (ap answerOf e) ∙ h) in
+    let k = check-ok (sectionsRight s) 2 (layoutFrom L) (layoutOf s) (sym (ap programAnswer e) ∙ h) in
     (k .0, placed s L (k .0) (k .1))
 
-pub table-refused : (s : List ℕ) (r : ProgramRead) (n : ℕ) → answerOf r ≡ check (sectionsRight s) 2 (ok (layoutOf s)) → r ≡ NotRead n → sectionsRight s ≡ false
-table-refused s r n h e = check-refused (sectionsRight s) 2 n (layoutOf s) (sym (ap answerOf e) ∙ h)
+pub table-refused : (s : List ℕ) (r : ProgramRead) (n : ℕ) → programAnswer r ≡ check (sectionsRight s) 2 (ok (layoutOf s)) → r ≡ NotRead n → sectionsRight s ≡ false
+table-refused s r n h e = check-refused (sectionsRight s) 2 n (layoutOf s) (sym (ap programAnswer e) ∙ h)

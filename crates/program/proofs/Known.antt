@@ -14,7 +14,7 @@ use Rattle.model.specs.Program.{Tables, layoutOf, countsRight, typesRight, form
 use Rattle.model.proofs.Tests.{and-left, and-right}
 use Rattle.model.proofs.Every.{every-at}
 use Rattle.model.proofs.Checked.{Checked, program-checked}
-use Rattle.program.specs.Reading.{answerOf, layoutFrom, tablesOf, noStatement, statementOf, stmtsOf, IsRead}
+use Rattle.program.specs.Reading.{programAnswer, layoutFrom, tablesOf, noStatement, statementOf, stmtsOf, ProgramIsRead}
 use Rattle.program.specs.declared.Layout.{Layout}
 use Rattle.program.specs.declared.ProgramRead.{ProgramRead}
 use Rattle.program.specs.declared.ProgramRead.the-variants.{Read}
@@ -26,9 +26,9 @@ mapped-ok : {A B : Type 0} (f : A → B) (o : Out A) (b : B) → ok b ≡ mapped
 mapped-ok f (ok a) b e = (a, refl, cc)
 mapped-ok f (refused n) b e = let z : true ≡ false = cc in absurd (true≢false z)
 
-pub is-read : (s : List ℕ) (r : ProgramRead) (L : Layout) → answerOf r ≡ mapped (λ P. layoutOf s) (readProgram s) → r ≡ Read L → IsRead s L
+pub is-read : (s : List ℕ) (r : ProgramRead) (L : Layout) → programAnswer r ≡ mapped (λ P. layoutOf s) (readProgram s) → r ≡ Read L → ProgramIsRead s L
 is-read s r L h e =
-    let k = mapped-ok (λ P. layoutOf s) (readProgram s) (layoutFrom L) (sym (ap answerOf e) ∙ h) in
+    let k = mapped-ok (λ P. layoutOf s) (readProgram s) (layoutFrom L) (sym (ap programAnswer e) ∙ h) in
     record { program = k .0; read = k .1; placed = placed s L (program-checked s (k .0) (k .1) .sections) (k .2) }
 
 module _ (s : List ℕ) where
@@ -39,7 +39,7 @@ module _ (s : List ℕ) where
     pub tree-read : treeOf (stmtsOf (tablesOf s)) ≡ ok (P .code)
     tree-read = subst (λ (T : Tables). treeOf (stmtsOf T) ≡ ok (P .code)) tables-read (program-checked s P e .tree)
 
-  module _ (L : Layout) (h : IsRead s L) where
+  module _ (L : Layout) (h : ProgramIsRead s L) where
     abbrev T : Tables
     T = tablesOf s
 

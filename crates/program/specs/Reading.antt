@@ -32,9 +32,9 @@ layoutFrom L = record {
 }
 
 -- the reader's answer: where the sections are, or the number of the refusal
-abbrev pub answerOf : ProgramRead → Out Sections
-answerOf (Read L) = ok (layoutFrom L)
-answerOf (Refused n) = refused n
+abbrev pub programAnswer : ProgramRead → Out Sections
+programAnswer (Read L) = ok (layoutFrom L)
+programAnswer (Refused n) = refused n
 
 -- a section's pair, or the number of the refusal
 abbrev pub sectionOf : SectionRead → Out Pair
@@ -42,9 +42,9 @@ sectionOf (Section at len) = ok (record { offset = at; len = len })
 sectionOf (NoSection n) = refused n
 
 -- both numbers of 4 bytes
-abbrev pub Short : SectionRead → Type 0
-Short (Section at len) = (at < 2 ^ 32) × (len < 2 ^ 32)
-Short (NoSection n) = Unit {0}
+abbrev pub InFourBytes : SectionRead → Type 0
+InFourBytes (Section at len) = (at < 2 ^ 32) × (len < 2 ^ 32)
+InFourBytes (NoSection n) = Unit {0}
 
 -- the model's entry that the code's is
 abbrev pub entryOf : Entry → Statement
@@ -92,7 +92,7 @@ pub record Placed (s : List ℕ) (L : Layout) : Type 0 where
   pub small : length s ≤ 8384
 
 -- the program is read, and the layout is its own
-pub record IsRead (s : List ℕ) (L : Layout) : Type 0 where
+pub record ProgramIsRead (s : List ℕ) (L : Layout) : Type 0 where
   pub program : Program
   pub read : readProgram s ≡ ok program
   pub placed : Placed s L

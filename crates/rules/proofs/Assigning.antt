@@ -6,7 +6,7 @@ use mathlib.Core.Path.{_≡_, ap, subst, _∙_}
 use Prim.Native.Nat.{ℕ, _≤_, _<_}
 use native.Mathlib.Omega.{arith}
 use lib.ListN.{length}
-use Rattle.model.specs.Conjunct.{Conj, Cond, renumber}
+use Rattle.model.specs.Conjunct.{Conj, Conjuncts, renumber}
 use Rattle.model.specs.Walk.{nodes, replace, before}
 use Rattle.machine.specs.Decoding.{instrOf}
 use Rattle.machine.specs.declared.Decoded.{Decoded}
@@ -31,16 +31,16 @@ module _ (d : Decoded) (l : ℕ) (e : Conj) (small : d .kind ≤ 8) (r : Right) 
   abbrev whole : Conj
   whole = flatMap (replace (d .a) (nodes l (d .ty) (sideOf d))) e
 
-  abbrev new : Cond
+  abbrev new : Conjuncts
   new = map renumber (before l (instrOf d) e)
 
-  pub assigned-over : u ≡ Over → (b : ℕ) (s t : List ℕ) (P : Cond → Type 0) → Added (Refused 9) P new b s t
+  pub assigned-over : u ≡ Over → (b : ℕ) (s t : List ℕ) (P : Conjuncts → Type 0) → Added (Refused 9) P new b s t
   assigned-over q b s t P =
       let o : 120 < length (flatMap (replace (d .a) (rightOf r)) e) = subst (λ v. Replaced v e (d .a) r out) q replaced in
       let n : 120 < length whole = rw right at o in
       subst (λ R. Added (Refused 9) P R b s t) (before-assign d l e small) (added-nine (renumber whole) b s t P (omega (arith, renumber-length whole)))
 
-  pub assigned-in : (m : ℕ) → u ≡ Nodes m → (b : ℕ) (s t : List ℕ) (P : Cond → Type 0) → length (setOf s b) < 64 → (z : Bool) → Inserted z b (conjOf out m) s t → Added Done P new b s t
+  pub assigned-in : (m : ℕ) → u ≡ Nodes m → (b : ℕ) (s t : List ℕ) (P : Conjuncts → Type 0) → length (setOf s b) < 64 → (z : Bool) → Inserted z b (conjOf out m) s t → Added Done P new b s t
   assigned-in m q b s t P few z i =
       let c : conjOf out m ≡ renumber whole = subst (λ v. Replaced v e (d .a) r out) q replaced .1 ∙ ap (λ n. renumber (flatMap (replace (d .a) n) e)) right in
       subst (λ R. Added Done P R b s t) (before-assign d l e small) (added-one (renumber whole) b s t z P few (subst (λ x. Inserted z b x s t) c i))

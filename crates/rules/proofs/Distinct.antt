@@ -9,7 +9,7 @@ use Prim.Native.Nat.{ℕ, suc, _+_, _^_, _≤_, _<_, Ordering, Ordering·lt, Ord
 use native.Mathlib.Nat.{pow-suc, pow-le-pow-right}
 use native.Mathlib.Omega.{arith}
 use lib.ListN.{length, getD, length-append, length-map, List·getD-map}
-use Rattle.model.specs.Conjunct.{Atom, Node, const, atom, var, op, conv, Conj, Cond, order, place, insert, union, sameAtom, without, atoms, renamed, onAtom, renumber}
+use Rattle.model.specs.Conjunct.{Atom, Node, const, atom, var, op, conv, Conj, Conjuncts, order, place, withConjunct, unionOf, sameAtom, without, atoms, renamed, onAtom, renumber}
 use Rattle.model.specs.Lists.{All}
 use Rattle.model.specs.Walk.{onArray, loads, swap, subsets}
 use Rattle.model.proofs.Atoms.{atom-eq, atom-self, at-imp, atoms-all}
@@ -38,25 +38,25 @@ distinct-append [] S h k f = k
 distinct-append (e ∷ R) S h k f =
     (λ m. ⊎-elim (h .0) (f e (inl refl)) (mem-append e R S m), distinct-append R S (h .1) k (λ x m. f x (inr m)))
 
-placed-new : (o : Ordering) (e d : Conj) (S rest : Cond) → (o ≡ Ordering·eq → ⊥) → length rest ≡ suc (length S) → length (place o e d S rest) ≡ suc (suc (length S))
+placed-new : (o : Ordering) (e d : Conj) (S rest : Conjuncts) → (o ≡ Ordering·eq → ⊥) → length rest ≡ suc (length S) → length (place o e d S rest) ≡ suc (suc (length S))
 placed-new Ordering·lt e d S rest n h = refl
 placed-new Ordering·eq e d S rest n h = absurd (n refl)
 placed-new Ordering·gt e d S rest n h = ap suc h
 
-insert-new : (e : Conj) (S : Cond) → (Mem e S → ⊥) → length (insert e S) ≡ suc (length S)
-unfolding insert
+insert-new : (e : Conj) (S : Conjuncts) → (Mem e S → ⊥) → length (withConjunct e S) ≡ suc (length S)
+unfolding withConjunct
 insert-new e [] n = refl
-insert-new e (d ∷ S) n = placed-new (order e d) e d S (insert e S) (λ p. n (inl (order-eq e d p))) (insert-new e S (λ m. n (inr m)))
+insert-new e (d ∷ S) n = placed-new (order e d) e d S (withConjunct e S) (λ p. n (inl (order-eq e d p))) (insert-new e S (λ m. n (inr m)))
 
-distinct-union : (R : Cond) → Distinct R → length (union R []) ≡ length R
-unfolding union
+distinct-union : (R : Conjuncts) → Distinct R → length (unionOf R []) ≡ length R
+unfolding unionOf
 distinct-union [] h = refl
-distinct-union (e ∷ R) h = insert-new e (union R []) (λ m. ⊎-elim (h .0) (λ k. k) (union-from e R [] m)) ∙ ap suc (distinct-union R (h .1))
+distinct-union (e ∷ R) h = insert-new e (unionOf R []) (λ m. ⊎-elim (h .0) (λ k. k) (union-from e R [] m)) ∙ ap suc (distinct-union R (h .1))
 
 -- a canonical set that has them all is as large
-distinct-within : (R G : Cond) → Distinct R → Canon G → Sub R G → length R ≤ length G
+distinct-within : (R G : Conjuncts) → Distinct R → Canon G → Sub R G → length R ≤ length G
 distinct-within R G h c f =
-    omega (arith, distinct-union R h, sub-length (union R []) G (union-canon R [] tt) c (union-least R [] G f (λ x m. absurd m)))
+    omega (arith, distinct-union R h, sub-length (unionOf R []) G (union-canon R [] tt) c (union-least R [] G f (λ x m. absurd m)))
 
 -- ---- where a conjunct has an atom
 
@@ -234,7 +234,7 @@ module _ (x ty : ℕ) where
       (λ c m n. true→T (sym (all-mem (λ d. atomic (at d p) ≡ false) (map renumber B) gone c n) ∙ all-mem (λ d. atomic (at d p) ≡ true) (map renumber A) kept c m)))
 
 -- a canonical set with the conjuncts for every subset of the loads
-pub subsets-many : (t k x ty : ℕ) (e : Conj) (G : Cond) → Canon G → Sub (map renumber (subsets (loads t k (atoms e)) x ty e)) G → 2 ^ length (loads t k (atoms e)) ≤ length G
+pub subsets-many : (t k x ty : ℕ) (e : Conj) (G : Conjuncts) → Canon G → Sub (map renumber (subsets (loads t k (atoms e)) x ty e)) G → 2 ^ length (loads t k (atoms e)) ≤ length G
 subsets-many t k x ty e G c f =
     let ks = loads t k (atoms e) in
     let many = distinct-within (map renumber (subsets ks x ty e)) G

@@ -10,7 +10,7 @@ use lib.Dec.{ltb, eqb}
 use lib.ListN.{length, getD, take, drop, length-map}
 use borrow.Author.Tests.{lt-ltb, le-ltb}
 use Rattle.model.specs.Code.{store}
-use Rattle.model.specs.Conjunct.{Atom, atom, var, Conj, Cond, long, limits, sameAtom, atoms, renamed, onAtom, renumber}
+use Rattle.model.specs.Conjunct.{Atom, atom, var, Conj, Conjuncts, long, limits, sameAtom, atoms, renamed, onAtom, renumber}
 use Rattle.model.specs.Lists.{All}
 use Rattle.model.specs.Refusals.{ok, refused}
 use Rattle.model.specs.Walk.{onArray, loads, swap, swapAll, subsets, before, gather}
@@ -29,25 +29,25 @@ or-true : (a : Bool) → (a || true) ≡ true
 or-true true = refl
 or-true false = refl
 
-long-member : (G : Cond) (x : Conj) → Mem x G → 120 < length x → long G ≡ true
+long-member : (G : Conjuncts) (x : Conj) → Mem x G → 120 < length x → long G ≡ true
 unfolding long
 long-member [] x m h = absurd m
 long-member (e ∷ G) x (inl p) h = rw (lt-ltb 120 (length e) (omega (arith, ap length p)))
 long-member (e ∷ G) x (inr m) h = rw (long-member G x m h) (or-true (ltb 120 (length e)))
 
 -- by 9 for a conjunct over 120 nodes
-pub limits-nine : (G : Cond) (x : Conj) → Mem x G → 120 < length x → limits G ≡ refused 9
+pub limits-nine : (G : Conjuncts) (x : Conj) → Mem x G → 120 < length x → limits G ≡ refused 9
 unfolding limits
 limits-nine G x m h = rw (long-member G x m h)
 
 -- by 10 for more than 64, none of them over 120 nodes
-pub limits-ten : (G : Cond) → long G ≡ false → 64 < length G → limits G ≡ refused 10
+pub limits-ten : (G : Conjuncts) → long G ≡ false → 64 < length G → limits G ≡ refused 10
 unfolding limits
 limits-ten G h k = rw (h, lt-ltb 64 (length G) k)
 
 -- ---- short conjuncts
 
-pub all-short : (S : Cond) → All (λ e. length e ≤ 120) S → long S ≡ false
+pub all-short : (S : Conjuncts) → All (λ e. length e ≤ 120) S → long S ≡ false
 unfolding long
 all-short [] h = refl
 all-short (e ∷ S) h = rw (le-ltb 120 (length e) (h .0)) (all-short S (h .1))
@@ -72,7 +72,7 @@ module _ (x ty : ℕ) where
         case (eqb k 1) (λ z. All (λ c. length c ≤ 120) (cond z (swapAll t k x ty e ∷ []) (subsets (loads t k (atoms e)) x ty e)))
         (λ q. (omega (arith, length-map e (onAtom (λ b. cond (onArray t k (b .src)) (var x ty) (atom b)))), tt)) (λ q. subsets-short (loads t k (atoms e)) e h)
 
-    pub store-short : (S : Cond) → All (λ e. length e ≤ 120) S → long (gather (before l (store t k i x ty)) S) ≡ false
+    pub store-short : (S : Conjuncts) → All (λ e. length e ≤ 120) S → long (gather (before l (store t k i x ty)) S) ≡ false
     store-short S h =
         all-short (gather (before l (store t k i x ty)) S)
         (gather-every (λ e. length e ≤ 120) (before l (store t k i x ty)) (λ e. length e ≤ 120)

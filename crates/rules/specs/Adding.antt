@@ -6,7 +6,7 @@ use mathlib.Core.Path.{_≡_}
 use Prim.Native.Nat.{ℕ, _+_, _≤_}
 use lib.ListN.{length, getD}
 use Rattle.model.specs.Code.{Right, number, copy, calc, change, read, load}
-use Rattle.model.specs.Conjunct.{Cond, union, long, limits}
+use Rattle.model.specs.Conjunct.{Conjuncts, unionOf, long, limits}
 use Rattle.model.specs.Refusals.{refused}
 use Rattle.model.specs.Values.{add, sub, mul, div}
 use Rattle.model.proofs.TidySets.{Canon, Sub}
@@ -31,19 +31,19 @@ unfoldable pub sideOf : Decoded → Right
 sideOf d = sideAt d (d .kind)
 
 -- no conjunct has over 120 nodes
-abbrev pub Short : Cond → Type 0
-Short G = long G ≡ false
+abbrev pub NoneLong : Conjuncts → Type 0
+NoneLong G = long G ≡ false
 
 -- the conjuncts R added to the set of the region at b; or, of every canonical set that has all of both and for which P holds, the
 -- limits' refusal n
-abbrev pub Added : Answer → (Cond → Type 0) → Cond → ℕ → List ℕ → List ℕ → Type 0
-Added Done P R b s t = setOf t b ≡ union R (setOf s b)
-Added (Refused n) P R b s t = (G : Cond) → Canon G → Sub (union R (setOf s b)) G → P G → limits G ≡ refused n
+abbrev pub Added : Answer → (Conjuncts → Type 0) → Conjuncts → ℕ → List ℕ → List ℕ → Type 0
+Added Done P R b s t = setOf t b ≡ unionOf R (setOf s b)
+Added (Refused n) P R b s t = (G : Conjuncts) → Canon G → Sub (unionOf R (setOf s b)) G → P G → limits G ≡ refused n
 
 -- a region to add to: it lies in the words, and its set is canonical
 abbrev pub Room : List ℕ → ℕ → Type 0
 Room s b = (b + 7745 ≤ length s) × Canon (setOf s b)
 
 -- two lists of words to work in, each of 120 or more
-abbrev pub Desk : List ℕ → List ℕ → Type 0
-Desk out seen = (120 ≤ length out) × (120 ≤ length seen)
+abbrev pub Buffers : List ℕ → List ℕ → Type 0
+Buffers out seen = (120 ≤ length out) × (120 ≤ length seen)

@@ -4,13 +4,13 @@ use mathlib.Core.List.{List}
 use mathlib.Core.Path.{_≡_}
 use Prim.Native.Nat.{ℕ, _<_}
 use lib.ListN.{getD}
-use Rattle.model.specs.Conjunct.{Cond}
+use Rattle.model.specs.Conjunct.{Conjuncts}
 use Rattle.model.specs.Refusals.{Out, ok, refused}
 use Rattle.rules.specs.declared.Answer.{Answer}
 use Rattle.rules.specs.declared.Answer.the-variants.{Done, Refused}
 
 -- the set that the region holds afterwards, or the number of the refusal
-abbrev pub answered : Answer → Cond → Out Cond
+abbrev pub answered : Answer → Conjuncts → Out Conjuncts
 answered Done S = ok S
 answered (Refused n) S = refused n
 

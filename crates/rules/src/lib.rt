@@ -16,7 +16,7 @@ ghost use Rattle.node.specs.Word.{nodeOf};
 ghost use Rattle.conjunct.specs.Value.{conjOf};
 ghost use Rattle.numbering.specs.Behind.{rightOf};
 ghost use Rattle.sets.specs.Region.{setOf, Within, Inserted};
-ghost use Rattle.rules.specs.Adding.{sideOf, Short, Added, Room, Desk};
+ghost use Rattle.rules.specs.Adding.{sideOf, NoneLong, Added, Room, Buffers};
 ghost use Rattle.rules.specs.Answers.{answered, Below};
 use machine::Decoded;
 use numbering::Right;
@@ -99,8 +99,8 @@ fn assign_one(
     out: &mut [u64],
     seen: &mut [u64],
 ) -> Answer
-    requires { ⌜ (room + 7745 ≤ length (now s)) × (length (setOf (now s) room) < 64) × (n ≤ 120) × (n ≤ length (now e)) × Desk (now out) (now seen) × (label < 2 ^ 16) × (d .kind ≤ 8) × Known d × Numbered (conjOf (now e) n) ⌝ }
-    ensures { λ r. ⌜ Added r (λ G. d .kind ≡ 9 → Short G) (map renumber (before label (instrOf d) (conjOf (now (e .entry)) n))) room (now (s .entry)) (now (s .exit)) × Within room (now (s .entry)) (now (s .exit)) ⌝ }
+    requires { ⌜ (room + 7745 ≤ length (now s)) × (length (setOf (now s) room) < 64) × (n ≤ 120) × (n ≤ length (now e)) × Buffers (now out) (now seen) × (label < 2 ^ 16) × (d .kind ≤ 8) × Known d × Numbered (conjOf (now e) n) ⌝ }
+    ensures { λ r. ⌜ Added r (λ G. d .kind ≡ 9 → NoneLong G) (map renumber (before label (instrOf d) (conjOf (now (e .entry)) n))) room (now (s .entry)) (now (s .exit)) × Within room (now (s .entry)) (now (s .exit)) ⌝ }
 {
     let right = right_side(label, d);
     let t = numbering::substitute(e, n, d.a as u64, right, out, seen);
@@ -117,7 +117,7 @@ fn assign_one(
 
 // One conjunct more, renumbered; false where the set would have over 64.
 fn add(s: &mut [u64], room: usize, e: &mut [u64], n: usize, seen: &mut [u64]) -> bool
-    requires { ⌜ (room + 7745 ≤ length (now s)) × (n ≤ 120) × Desk (now e) (now seen) ⌝ }
+    requires { ⌜ (room + 7745 ≤ length (now s)) × (n ≤ 120) × Buffers (now e) (now seen) ⌝ }
     ensures { λ r. ⌜ Inserted r room (renumber (conjOf (now (e .entry)) n)) (now (s .entry)) (now (s .exit)) × Within room (now (s .entry)) (now (s .exit)) ⌝ }
 {
     numbering::renumber(e, n, seen);
@@ -183,8 +183,8 @@ fn add_subsets(
     out: &mut [u64],
     seen: &mut [u64],
 ) -> Answer
-    requires { ⌜ Room (now s) room × (n ≤ 120) × (n ≤ length (now e)) × (k ≤ 6) × (k ≤ length (now atoms)) × Desk (now out) (now seen) ⌝ }
-    ensures { λ r. ⌜ ((ks : List Atom) (x ty : ℕ) → conjOf (now (atoms .entry)) k ≡ map atom ks → nodeOf v ≡ var x ty → Added r Short (map renumber (subsets ks x ty (conjOf (now (e .entry)) n))) room (now (s .entry)) (now (s .exit))) × Within room (now (s .entry)) (now (s .exit)) ⌝ }
+    requires { ⌜ Room (now s) room × (n ≤ 120) × (n ≤ length (now e)) × (k ≤ 6) × (k ≤ length (now atoms)) × Buffers (now out) (now seen) ⌝ }
+    ensures { λ r. ⌜ ((ks : List Atom) (x ty : ℕ) → conjOf (now (atoms .entry)) k ≡ map atom ks → nodeOf v ≡ var x ty → Added r NoneLong (map renumber (subsets ks x ty (conjOf (now (e .entry)) n))) room (now (s .entry)) (now (s .exit))) × Within room (now (s .entry)) (now (s .exit)) ⌝ }
 {
     let mut j = power(k);
     while j > 0 {
@@ -211,8 +211,8 @@ fn store_subsets(
     out: &mut [u64],
     seen: &mut [u64],
 ) -> Answer
-    requires { ⌜ Room (now s) room × (n ≤ 120) × (n ≤ length (now e)) × Desk (now out) (now seen) ⌝ }
-    ensures { λ r. ⌜ ((x ty : ℕ) → nodeOf v ≡ var x ty → Added r Short (map renumber (subsets (loads array len (atoms (conjOf (now (e .entry)) n))) x ty (conjOf (now (e .entry)) n))) room (now (s .entry)) (now (s .exit))) × Within room (now (s .entry)) (now (s .exit)) ⌝ }
+    requires { ⌜ Room (now s) room × (n ≤ 120) × (n ≤ length (now e)) × Buffers (now out) (now seen) ⌝ }
+    ensures { λ r. ⌜ ((x ty : ℕ) → nodeOf v ≡ var x ty → Added r NoneLong (map renumber (subsets (loads array len (atoms (conjOf (now (e .entry)) n))) x ty (conjOf (now (e .entry)) n))) room (now (s .entry)) (now (s .exit))) × Within room (now (s .entry)) (now (s .exit)) ⌝ }
 {
     let mut atoms: [u64; 120] = [0; 120];
     let k = numbering::loads(e, n, array, len, &mut atoms);
@@ -234,8 +234,8 @@ fn store_cell(
     out: &mut [u64],
     seen: &mut [u64],
 ) -> Answer
-    requires { ⌜ Room (now s) room × (n ≤ 120) × (n ≤ length (now e)) × Desk (now out) (now seen) ⌝ }
-    ensures { λ r. ⌜ ((x ty : ℕ) → nodeOf v ≡ var x ty → Added r Short (renumber (swapAll array len x ty (conjOf (now (e .entry)) n)) ∷ []) room (now (s .entry)) (now (s .exit))) × Within room (now (s .entry)) (now (s .exit)) ⌝ }
+    requires { ⌜ Room (now s) room × (n ≤ 120) × (n ≤ length (now e)) × Buffers (now out) (now seen) ⌝ }
+    ensures { λ r. ⌜ ((x ty : ℕ) → nodeOf v ≡ var x ty → Added r NoneLong (renumber (swapAll array len x ty (conjOf (now (e .entry)) n)) ∷ []) room (now (s .entry)) (now (s .exit))) × Within room (now (s .entry)) (now (s .exit)) ⌝ }
 {
     copy(e, n, out);
     conjunct::replace_all(out, n, array, len, v);
@@ -254,8 +254,8 @@ fn store_one(
     out: &mut [u64],
     seen: &mut [u64],
 ) -> Answer
-    requires { ⌜ Room (now s) room × (n ≤ 120) × (n ≤ length (now e)) × Desk (now out) (now seen) × (d .kind ≡ 9) × Known d ⌝ }
-    ensures { λ r. ⌜ ((label : ℕ) → Added r Short (map renumber (before label (instrOf d) (conjOf (now (e .entry)) n))) room (now (s .entry)) (now (s .exit))) × Within room (now (s .entry)) (now (s .exit)) ⌝ }
+    requires { ⌜ Room (now s) room × (n ≤ 120) × (n ≤ length (now e)) × Buffers (now out) (now seen) × (d .kind ≡ 9) × Known d ⌝ }
+    ensures { λ r. ⌜ ((label : ℕ) → Added r NoneLong (map renumber (before label (instrOf d) (conjOf (now (e .entry)) n))) room (now (s .entry)) (now (s .exit))) × Within room (now (s .entry)) (now (s .exit)) ⌝ }
 {
     let array = d.a as u64;
     let len = d.len;
@@ -296,8 +296,8 @@ fn add_before(
     out: &mut [u64],
     seen: &mut [u64],
 ) -> Answer
-    requires { ⌜ Room (now s) room × (d .kind ≢ 9 → length (setOf (now s) room) < 64) × (n ≤ 120) × (n ≤ length (now e)) × Desk (now out) (now seen) × (label < 2 ^ 16) × (d .kind ≤ 10) × Known d × Numbered (conjOf (now e) n) ⌝ }
-    ensures { λ r. ⌜ Added r (λ G. d .kind ≡ 9 → Short G) (map renumber (before label (instrOf d) (conjOf (now (e .entry)) n))) room (now (s .entry)) (now (s .exit)) × Within room (now (s .entry)) (now (s .exit)) ⌝ }
+    requires { ⌜ Room (now s) room × (d .kind ≢ 9 → length (setOf (now s) room) < 64) × (n ≤ 120) × (n ≤ length (now e)) × Buffers (now out) (now seen) × (label < 2 ^ 16) × (d .kind ≤ 10) × Known d × Numbered (conjOf (now e) n) ⌝ }
+    ensures { λ r. ⌜ Added r (λ G. d .kind ≡ 9 → NoneLong G) (map renumber (before label (instrOf d) (conjOf (now (e .entry)) n))) room (now (s .entry)) (now (s .exit)) × Within room (now (s .entry)) (now (s .exit)) ⌝ }
 {
     if !touched(e, n, d) {
         if !sets::insert(s, room, e, n) {
@@ -324,7 +324,7 @@ fn gather(
     out: &mut [u64],
     seen: &mut [u64],
 ) -> Answer
-    requires { ⌜ (b + 7745 ≤ room) × (room + 7745 ≤ length (now s)) × (setOf (now s) room ≡ []) × (120 ≤ length (now e)) × Desk (now out) (now seen) × (label < 2 ^ 16) × (d .kind ≤ 10) × Known d × All Numbered (setOf (now s) b) ⌝ }
+    requires { ⌜ (b + 7745 ≤ room) × (room + 7745 ≤ length (now s)) × (setOf (now s) room ≡ []) × (120 ≤ length (now e)) × Buffers (now out) (now seen) × (label < 2 ^ 16) × (d .kind ≤ 10) × Known d × All Numbered (setOf (now s) b) ⌝ }
     ensures { λ r. ⌜ (back label (instrOf d) (setOf (now (s .entry)) b) ≡ answered r (setOf (now (s .exit)) room)) × Within room (now (s .entry)) (now (s .exit)) ⌝ }
 {
     let mut k = sets::size(s, b);

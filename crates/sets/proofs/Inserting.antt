@@ -12,7 +12,7 @@ use lib.Seq.{length-take-le, drop-cons, drop-length}
 use Rattle.model.proofs.Canonical.{union-grows}
 use Rattle.model.proofs.Tests.{case, true→T}
 use Rattle.model.proofs.Order.{same-eq}
-use Rattle.model.specs.Conjunct.{Conj, Cond, insert, union, same, orderNodes}
+use Rattle.model.specs.Conjunct.{Conj, Conjuncts, withConjunct, unionOf, same, orderNodes}
 use Rattle.node.specs.Word.{nodesOf}
 use Rattle.sets.proofs.Rows.{set-rows, frame}
 use Rattle.sets.specs.Region.{few, rowsFrom, setOf, Within, Apart, Spotted, Inserted}
@@ -24,7 +24,7 @@ pub spotted : (q r : Spot) → q ≡ r → (s : List ℕ) (b n : ℕ) (d : Conj)
 spotted q r o s b n d e h = subst (λ S. Spotted r d S) (sym (set-rows s b n e)) (subst (λ x. Spotted x d (map nodesOf (rowsFrom s (b + 1) n))) o h)
 
 -- one more than it has
-pub grown : (e : Conj) (S : Cond) (i : ℕ) → i ≤ length S → insert e S ≡ take i S ++ (e ∷ drop i S) → length (insert e S) ≡ length S + 1
+pub grown : (e : Conj) (S : Conjuncts) (i : ℕ) → i ≤ length S → withConjunct e S ≡ take i S ++ (e ∷ drop i S) → length (withConjunct e S) ≡ length S + 1
 grown e S i h p =
     let q = ap length p ∙ length-append (take i S) (e ∷ drop i S) in
     let r : length (take i S) ≡ i = length-take-le i S h in
@@ -33,38 +33,38 @@ grown e S i h p =
 
 -- ---- union
 
-union-join : (xs ys S : Cond) → union (xs ++ ys) S ≡ union xs (union ys S)
-unfolding union
+union-join : (xs ys S : Conjuncts) → unionOf (xs ++ ys) S ≡ unionOf xs (unionOf ys S)
+unfolding unionOf
 union-join [] ys S = refl
-union-join (e ∷ xs) ys S = ap (insert e) (union-join xs ys S)
+union-join (e ∷ xs) ys S = ap (withConjunct e) (union-join xs ys S)
 
-pub union-none : (F T : Cond) (k : ℕ) → k ≡ length F → T ≡ union (drop k F) T
-unfolding union
+pub union-none : (F T : Conjuncts) (k : ℕ) → k ≡ length F → T ≡ unionOf (drop k F) T
+unfolding unionOf
 union-none F T k e =
     let z : drop k F ≡ [] = ap (λ j. drop j F) e ∙ drop-length F in
     rw z
 
-pub union-next : (F T : Cond) (k j : ℕ) → j + 1 ≡ k → k ≤ length F → insert (getD F j []) (union (drop k F) T) ≡ union (drop j F) T
-unfolding union
+pub union-next : (F T : Conjuncts) (k j : ℕ) → j + 1 ≡ k → k ≤ length F → withConjunct (getD F j []) (unionOf (drop k F) T) ≡ unionOf (drop j F) T
+unfolding unionOf
 union-next F T k j e h =
     let f : suc j ≡ k = omega arith in
-    sym (ap (λ X. union X T) (drop-cons F j [] (omega arith) ∙ ap (λ i. getD F j [] ∷ drop i F) f))
+    sym (ap (λ X. unionOf X T) (drop-cons F j [] (omega arith) ∙ ap (λ i. getD F j [] ∷ drop i F) f))
 
-pub union-over : (F T : Cond) (j : ℕ) → length (union (drop j F) T) ≤ length (union F T)
+pub union-over : (F T : Conjuncts) (j : ℕ) → length (unionOf (drop j F) T) ≤ length (unionOf F T)
 union-over F T j =
-    let p : union F T ≡ union (take j F) (union (drop j F) T) = ap (λ X. union X T) (sym (take-append-drop j F)) ∙ union-join (take j F) (drop j F) T in
-    omega (arith, ap length p, union-grows (take j F) (union (drop j F) T))
+    let p : unionOf F T ≡ unionOf (take j F) (unionOf (drop j F) T) = ap (λ X. unionOf X T) (sym (take-append-drop j F)) ∙ union-join (take j F) (drop j F) T in
+    omega (arith, ap length p, union-grows (take j F) (unionOf (drop j F) T))
 
 -- ---- the same sets
 
-pub same-lengths : (A B : Cond) → (length A ≡ length B → ⊥) → false ≡ same A B
+pub same-lengths : (A B : Conjuncts) → (length A ≡ length B → ⊥) → false ≡ same A B
 same-lengths A B h = case (same A B) (λ z. same A B ≡ z → false ≡ z) (λ p q. absurd (h (ap length (same-eq A B q)))) (λ p q. refl) refl
 
-pub same-next : (A B : Cond) (i : ℕ) → i < length A → i < length B → same (drop i A) (drop i B) ≡ (isEq (orderNodes (getD A i []) (getD B i [])) && same (drop (i + 1) A) (drop (i + 1) B))
+pub same-next : (A B : Conjuncts) (i : ℕ) → i < length A → i < length B → same (drop i A) (drop i B) ≡ (isEq (orderNodes (getD A i []) (getD B i [])) && same (drop (i + 1) A) (drop (i + 1) B))
 unfolding same
 same-next A B i h k = rw (add-one i, drop-cons A i [] h, drop-cons B i [] k)
 
-pub same-end : (A B : Cond) (i : ℕ) → i ≡ length A → i ≡ length B → same (drop i A) (drop i B) ≡ true
+pub same-end : (A B : Conjuncts) (i : ℕ) → i ≡ length A → i ≡ length B → same (drop i A) (drop i B) ≡ true
 unfolding same
 same-end A B i h k =
     let y : drop i A ≡ [] = ap (λ j. drop j A) h ∙ drop-length A in
@@ -74,17 +74,17 @@ same-end A B i h k =
 -- ---- a turn of a union
 
 module _ (s₀ s t : List ℕ) (to from k j : ℕ) (d : Conj) (fit : from + 7745 ≤ length s₀) (apart : Apart to from) (len : length s ≡ length s₀) (in′ : Within to s₀ s)
-    (next : j + 1 ≡ k) (few′ : k ≤ length (setOf s₀ from)) (e : d ≡ getD (setOf s from) j []) (so : setOf s to ≡ union (drop k (setOf s₀ from)) (setOf s₀ to)) where
+    (next : j + 1 ≡ k) (few′ : k ≤ length (setOf s₀ from)) (e : d ≡ getD (setOf s from) j []) (so : setOf s to ≡ unionOf (drop k (setOf s₀ from)) (setOf s₀ to)) where
   -- the set with the next conjunct
-  step : insert d (setOf s to) ≡ union (drop j (setOf s₀ from)) (setOf s₀ to)
+  step : withConjunct d (setOf s to) ≡ unionOf (drop j (setOf s₀ from)) (setOf s₀ to)
   step =
       let p : d ≡ getD (setOf s₀ from) j [] = e ∙ ap (λ S. getD S j []) (frame s₀ s to from len fit apart in′) in
-      ap₂ insert p so ∙ union-next (setOf s₀ from) (setOf s₀ to) k j next few′
+      ap₂ withConjunct p so ∙ union-next (setOf s₀ from) (setOf s₀ to) k j next few′
 
-  pub turn-over : (r : Bool) → r ≡ false → Inserted r to d s t → 64 < length (union (setOf s₀ from) (setOf s₀ to))
+  pub turn-over : (r : Bool) → r ≡ false → Inserted r to d s t → 64 < length (unionOf (setOf s₀ from) (setOf s₀ to))
   turn-over true q h = absurd (true→T (sym q))
   turn-over false q h = omega (arith, h .1, ap length step, union-over (setOf s₀ from) (setOf s₀ to) j)
 
-  pub turn-done : (r : Bool) → r ≡ true → Inserted r to d s t → setOf t to ≡ union (drop j (setOf s₀ from)) (setOf s₀ to)
+  pub turn-done : (r : Bool) → r ≡ true → Inserted r to d s t → setOf t to ≡ unionOf (drop j (setOf s₀ from)) (setOf s₀ to)
   turn-done true q h = h ∙ step
   turn-done false q h = absurd (true→T q)

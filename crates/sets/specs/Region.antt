@@ -8,7 +8,7 @@ use mathlib.Core.Path.{_≡_}
 use Prim.Native.Nat.{ℕ, zero, suc, _+_, _≤_, _<_}
 use lib.Dec.{ltb}
 use lib.ListN.{length, getD, take, drop}
-use Rattle.model.specs.Conjunct.{Conj, Cond, insert, union}
+use Rattle.model.specs.Conjunct.{Conj, Conjuncts, withConjunct, unionOf}
 use Rattle.node.specs.Word.{nodesOf}
 use Rattle.sets.specs.declared.Spot.the-variants.{Here, Before}
 use Rattle.sets.specs.declared.Spot.{Spot}
@@ -31,7 +31,7 @@ unfoldable pub rowsOf : List ℕ → ℕ → List (List ℕ)
 rowsOf s b = rowsFrom s (b + 1) (few (getD s b 0))
 
 -- the set of a region that begins at b
-unfoldable pub setOf : List ℕ → ℕ → Cond
+unfoldable pub setOf : List ℕ → ℕ → Conjuncts
 setOf s b = map nodesOf (rowsOf s b)
 
 -- nothing outside of the n words from b on differs
@@ -47,16 +47,16 @@ abbrev pub Apart : ℕ → ℕ → Type 0
 Apart a b = (a + 7745 ≤ b) ⊎ (b + 7745 ≤ a)
 
 -- where a conjunct goes in a set: it is there, or it is put before the i-th
-abbrev pub Spotted : Spot → Conj → Cond → Type 0
-Spotted Here e S = insert e S ≡ S
-Spotted (Before i) e S = (i ≤ length S) × (insert e S ≡ take i S ++ (e ∷ drop i S))
+abbrev pub Spotted : Spot → Conj → Conjuncts → Type 0
+Spotted Here e S = withConjunct e S ≡ S
+Spotted (Before i) e S = (i ≤ length S) × (withConjunct e S ≡ take i S ++ (e ∷ drop i S))
 
 -- an insertion: done, or the set would have over 64
 abbrev pub Inserted : Bool → ℕ → Conj → List ℕ → List ℕ → Type 0
-Inserted true b e s t = setOf t b ≡ insert e (setOf s b)
-Inserted false b e s t = (t ≡ s) × (64 < length (insert e (setOf s b)))
+Inserted true b e s t = setOf t b ≡ withConjunct e (setOf s b)
+Inserted false b e s t = (t ≡ s) × (64 < length (withConjunct e (setOf s b)))
 
 -- a union of the region at a into that at b: done, or the set would have over 64
 abbrev pub Joined : Bool → ℕ → ℕ → List ℕ → List ℕ → Type 0
-Joined true a b s t = setOf t b ≡ union (setOf s a) (setOf s b)
-Joined false a b s t = 64 < length (union (setOf s a) (setOf s b))
+Joined true a b s t = setOf t b ≡ unionOf (setOf s a) (setOf s b)
+Joined false a b s t = 64 < length (unionOf (setOf s a) (setOf s b))

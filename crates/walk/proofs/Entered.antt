@@ -5,7 +5,7 @@ use Prim.Native.Nat.{ℕ, zero, suc, _+_, _-_, _≤_, _<_}
 use native.Mathlib.Omega.{arith}
 use native.Mathlib.Numerals.{add-one}
 use Rattle.model.specs.Code.{Instr, Code, done, step, branch, loop, Stmt, plain, if, else, end, while}
-use Rattle.model.specs.Conjunct.{Cond}
+use Rattle.model.specs.Conjunct.{Conjuncts}
 use Rattle.model.specs.Walk.{back, joined, rounds, walk}
 use Rattle.model.proofs.Depth.{Nested}
 use Rattle.model.proofs.Laid.{Laid, laid-le}
@@ -24,7 +24,7 @@ module _ (stmt : ℕ → Stmt) (mate : ℕ → ℕ) where
     pub other-nested : Nested (depth - 1) other
     pub deep : 1 ≤ depth
     pub some : p < q
-    pub walked : (d : Code) (S : Cond) → Laid stmt mate d p q → walk d S ≡ joined (walk first) (walk other) S
+    pub walked : (d : Code) (S : Conjuncts) → Laid stmt mate d p q → walk d S ≡ joined (walk first) (walk other) S
 
   -- a while on the labels from p up to q: its body
   pub record Looping (depth p q : ℕ) : Type 0 where
@@ -33,7 +33,7 @@ module _ (stmt : ℕ → Stmt) (mate : ℕ → ℕ) where
     pub nested : Nested (depth - 1) body
     pub deep : 1 ≤ depth
     pub some : p < q
-    pub walked : (d : Code) (S : Cond) → Laid stmt mate d p q → walk d S ≡ rounds 16 (walk body) S S
+    pub walked : (d : Code) (S : Conjuncts) → Laid stmt mate d p q → walk d S ≡ rounds 16 (walk body) S S
 
   -- the statement at the first label of a piece is an if, a while or plain
   pub begins : (c : Code) (p q : ℕ) → Laid stmt mate c p q → Sole c → (stmt p ≡ else → ⊥) × (stmt p ≡ end → ⊥)
@@ -56,7 +56,7 @@ module _ (stmt : ℕ → Stmt) (mate : ℕ → ℕ) where
       let k = h .1 in
       omega (arith, laid-le stmt mate body (suc p) (k .0) (k .2), laid-le stmt mate rest (suc (k .0)) q (k .3))
 
-  pub single-step : (c : Code) (p q : ℕ) → Laid stmt mate c p q → Sole c → (x : Instr) → stmt p ≡ plain x → (d : Code) (S : Cond) → Laid stmt mate d p q → walk d S ≡ back p x S
+  pub single-step : (c : Code) (p q : ℕ) → Laid stmt mate c p q → Sole c → (x : Instr) → stmt p ≡ plain x → (d : Code) (S : Conjuncts) → Laid stmt mate d p q → walk d S ≡ back p x S
   single-step done p q h s x e d S k = absurd s
   single-step (step l y rest) p q h s x e d S k =
       let a = laid-unique stmt mate d (step l y rest) p q k h in

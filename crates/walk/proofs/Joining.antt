@@ -6,7 +6,7 @@ use Prim.Native.Nat.{ℕ, _+_, _≤_}
 use native.Mathlib.Omega.{arith}
 use lib.ListN.{length}
 use Rattle.model.specs.Code.{Code, Stmt}
-use Rattle.model.specs.Conjunct.{Cond, union, limits}
+use Rattle.model.specs.Conjunct.{Conjuncts, unionOf, limits}
 use Rattle.model.specs.Refusals.{Out, ok, refused, _>>=_}
 use Rattle.model.specs.Walk.{joined, walk}
 use Rattle.model.proofs.Laid.{Laid}
@@ -21,7 +21,7 @@ use Rattle.walk.proofs.Regions.{below-trans, below-less, below-set, Wal
 
 module _ (stmt : ℕ → Stmt) (mate : ℕ → ℕ) (p e f b : ℕ) (s₀ : List ℕ) where
   -- the branches on the labels from p up to e and from e + 1 up to f give o
-  abbrev pub Branched : Out Cond → Type 0
+  abbrev pub Branched : Out Conjuncts → Type 0
   Branched o = (y n : Code) → Laid stmt mate y p e → Laid stmt mate n (e + 1) f → joined (walk y) (walk n) (setOf s₀ b) ≡ o
 
   -- the set was copied from s₀ to s
@@ -34,7 +34,7 @@ module _ (stmt : ℕ → Stmt) (mate : ℕ → ℕ) (p e f b : ℕ) (s₀ : List
       pub first-refused : (k : ℕ) → r ≡ Refused k → Branched (refused k) × Below b s₀ t
       first-refused k a = (
         λ y n h g.
-            ap (_>>= λ A. walk n (setOf s₀ b) >>= λ B. limits (union A B)) (ap (walk y) (sym (opened .0)) ∙ walked-refused stmt mate r p e (b + 15490) s t first k a y h),
+            ap (_>>= λ A. walk n (setOf s₀ b) >>= λ B. limits (unionOf A B)) (ap (walk y) (sym (opened .0)) ∙ walked-refused stmt mate r p e (b + 15490) s t first k a y h),
         to-t,
       )
 
@@ -58,8 +58,8 @@ module _ (stmt : ℕ → Stmt) (mate : ℕ → ℕ) (p e f b : ℕ) (s₀ : List
             pub other-refused : (k : ℕ) → r′ ≡ Refused k → Branched (refused k) × Below b s₀ v
             other-refused k a = (
               λ y n h g.
-                  ap (_>>= λ A. walk n (setOf s₀ b) >>= λ B. limits (union A B)) (first-walk y h)
-                  ∙ ap (_>>= λ B. limits (union (setOf t (b + 15490)) B)) (ap (walk n) (sym other-start) ∙ walked-refused stmt mate r′ (e + 1) f (b + 15490) u v other k a n g),
+                  ap (_>>= λ A. walk n (setOf s₀ b) >>= λ B. limits (unionOf A B)) (first-walk y h)
+                  ∙ ap (_>>= λ B. limits (unionOf (setOf t (b + 15490)) B)) (ap (walk n) (sym other-start) ∙ walked-refused stmt mate r′ (e + 1) f (b + 15490) u v other k a n g),
               to-v,
             )
 
@@ -77,12 +77,12 @@ module _ (stmt : ℕ → Stmt) (mate : ℕ → ℕ) (p e f b : ℕ) (s₀ : List
                 gives-ok Tidy (walk n (setOf s₀ b)) (setOf v (b + 15490)) (other-walk n g) (walk-tidy n (setOf s₀ b) d),
               )
 
-              pub branches-joined : (z : List ℕ) (o : Out Cond) → (limits (union (setOf v (b + 7745)) (setOf v (b + 15490))) ≡ o) × Below b v z → Branched o × Below b s₀ z
+              pub branches-joined : (z : List ℕ) (o : Out Conjuncts) → (limits (unionOf (setOf v (b + 7745)) (setOf v (b + 15490))) ≡ o) × Below b v z → Branched o × Below b s₀ z
               branches-joined z o l = (
                 λ y n h g.
-                    ap (_>>= λ A. walk n (setOf s₀ b) >>= λ B. limits (union A B)) (first-walk y h)
-                    ∙ ap (_>>= λ B. limits (union (setOf t (b + 15490)) B)) (other-walk n g)
-                    ∙ ap (λ A. limits (union A (setOf v (b + 15490)))) (sym first-set)
+                    ap (_>>= λ A. walk n (setOf s₀ b) >>= λ B. limits (unionOf A B)) (first-walk y h)
+                    ∙ ap (_>>= λ B. limits (unionOf (setOf t (b + 15490)) B)) (other-walk n g)
+                    ∙ ap (λ A. limits (unionOf A (setOf v (b + 15490)))) (sym first-set)
                     ∙ l .0,
                 below-trans b s₀ v z to-v (l .1),
               )

@@ -9,7 +9,7 @@ use native.Mathlib.Omega.{arith}
 use lib.ListN.{length, getD}
 use borrow.Author.Tests.{lt-ltb, le-ltb}
 use Rattle.model.specs.Code.{Code, Stmt}
-use Rattle.model.specs.Conjunct.{Cond, union, same, long, limits}
+use Rattle.model.specs.Conjunct.{Conjuncts, unionOf, same, long, limits}
 use Rattle.model.specs.Lists.{All}
 use Rattle.model.specs.Refusals.{Out, ok, refused}
 use Rattle.model.specs.Walk.{walk}
@@ -48,29 +48,29 @@ set-few s b = omega (arith, set-length s b, few-most (getD s b 0))
 
 -- ---- the limits of a union
 
-long-none : (S : Cond) → All (λ e. length e ≤ 120) S → long S ≡ false
+long-none : (S : Conjuncts) → All (λ e. length e ≤ 120) S → long S ≡ false
 unfolding long
 long-none [] h = refl
 long-none (e ∷ S) h = rw (le-ltb 120 (length e) (h .0)) (long-none S (h .1))
 
-union-short : (R S : Cond) → Tidy R → Tidy S → long (union R S) ≡ false
+union-short : (R S : Conjuncts) → Tidy R → Tidy S → long (unionOf R S) ≡ false
 union-short R S h k =
-    long-none (union R S) (union-every (λ e. length e ≤ 120) R S (short-each R (h .fine .short)) (short-each S (k .fine .short)))
+    long-none (unionOf R S) (union-every (λ e. length e ≤ 120) R S (short-each R (h .fine .short)) (short-each S (k .fine .short)))
 
-pub union-within : (R S : Cond) → Tidy R → Tidy S → length (union R S) ≤ 64 → limits (union R S) ≡ ok (union R S)
+pub union-within : (R S : Conjuncts) → Tidy R → Tidy S → length (unionOf R S) ≤ 64 → limits (unionOf R S) ≡ ok (unionOf R S)
 unfolding limits
-union-within R S h k l = rw (union-short R S h k, le-ltb 64 (length (union R S)) l)
+union-within R S h k l = rw (union-short R S h k, le-ltb 64 (length (unionOf R S)) l)
 
-pub union-over : (R S : Cond) → Tidy R → Tidy S → 64 < length (union R S) → limits (union R S) ≡ refused 10
+pub union-over : (R S : Conjuncts) → Tidy R → Tidy S → 64 < length (unionOf R S) → limits (unionOf R S) ≡ refused 10
 unfolding limits
-union-over R S h k l = rw (union-short R S h k, lt-ltb 64 (length (union R S)) l)
+union-over R S h k l = rw (union-short R S h k, lt-ltb 64 (length (unionOf R S)) l)
 
 -- ---- answers
 
-pub answer-done : (r : Answer) (o : Out Cond) (S : Cond) → o ≡ answered r S → r ≡ Done → o ≡ ok S
+pub answer-done : (r : Answer) (o : Out Conjuncts) (S : Conjuncts) → o ≡ answered r S → r ≡ Done → o ≡ ok S
 answer-done r o S h e = subst (λ x. o ≡ answered x S) e h
 
-pub answer-refused : (r : Answer) (o : Out Cond) (S : Cond) (n : ℕ) → o ≡ answered r S → r ≡ Refused n → o ≡ refused n
+pub answer-refused : (r : Answer) (o : Out Conjuncts) (S : Conjuncts) (n : ℕ) → o ≡ answered r S → r ≡ Refused n → o ≡ refused n
 answer-refused r o S n h e = subst (λ x. o ≡ answered x S) e h
 
 -- the walk of the piece on the labels from p up to q, on the region at b, that answered r and took s to t
@@ -100,7 +100,7 @@ module _ (s t : List ℕ) (b : ℕ) (room : b + 23235 ≤ length s) (same-length
       below-trans b s t u (within-below b (b + 7745) s t (omega arith) w) (within-below b (b + 15490) t u (omega arith) v),
     )
 
-    pub branch-closed : (o : Out Cond) → o ≡ ok (setOf t (b + 15490)) → Within (b + 15490) s t → setOf u b ≡ setOf t (b + 15490) → Within b t u
+    pub branch-closed : (o : Out Conjuncts) → o ≡ ok (setOf t (b + 15490)) → Within (b + 15490) s t → setOf u b ≡ setOf t (b + 15490) → Within b t u
         → (o ≡ ok (setOf u b)) × Below b s u
     branch-closed o e w f v =
         (e ∙ ap ok (sym f), below-trans b s t u (within-below b (b + 15490) s t (omega arith) w) (within-below b b t u (omega arith) v))
@@ -115,7 +115,7 @@ module _ (s t : List ℕ) (b : ℕ) (room : b + 23235 ≤ length s) (same-length
           below-trans b s t u (within-below b (b + 7745) s t (omega arith) w) (within-below b (b + 15490) t u (omega arith) v),
         )
 
-    module _ (w : Within (b + 15490) s t) (united : limits (union (setOf s b) (setOf s (b + 15490))) ≡ ok (setOf t (b + 15490))) where
+    module _ (w : Within (b + 15490) s t) (united : limits (unionOf (setOf s b) (setOf s (b + 15490))) ≡ ok (setOf t (b + 15490))) where
       before : setOf t (b + 7745) ≡ setOf s (b + 7745)
       before = frame s t (b + 15490) (b + 7745) same-length (omega arith) (inr (omega arith)) w
 

@@ -7,7 +7,7 @@ use Prim.Native.Nat.{ℕ, suc, _+_, _-_, _≤_, _<_}
 use native.Mathlib.Omega.{arith}
 use lib.ListN.{length}
 use Rattle.model.specs.Code.{Code, Stmt}
-use Rattle.model.specs.Conjunct.{Cond, union, same, limits}
+use Rattle.model.specs.Conjunct.{Conjuncts, unionOf, same, limits}
 use Rattle.model.specs.Refusals.{Out, ok, refused}
 use Rattle.model.specs.Walk.{rounds, walk}
 use Rattle.model.proofs.Laid.{Laid}
@@ -23,12 +23,12 @@ use Rattle.walk.specs.declared.Round.the-variants.{Settled, Again, Refus
 use Rattle.walk.specs.declared.Round.{Round}
 use Rattle.walk.proofs.Regions.{below-self, below-trans, below-less, below-set, Walked, walked-done, walked-refused}
 
-module _ (body : Cond → Out Cond) (D : Cond) (k : ℕ) where
-  pub rounds-over : 16 ≤ k → (S : Cond) → rounds (16 - k) body D S ≡ refused 11
+module _ (body : Conjuncts → Out Conjuncts) (D : Conjuncts) (k : ℕ) where
+  pub rounds-over : 16 ≤ k → (S : Conjuncts) → rounds (16 - k) body D S ≡ refused 11
   unfolding rounds
   rounds-over h S = let e : 16 - k ≡ 0 = omega arith in rw e
 
-  module _ (h : k < 16) (S : Cond) where
+  module _ (h : k < 16) (S : Conjuncts) where
     one-more : 16 - k ≡ suc (16 - (k + 1))
     one-more = omega arith
 
@@ -36,21 +36,21 @@ module _ (body : Cond → Out Cond) (D : Cond) (k : ℕ) where
     unfolding rounds
     round-refused n e = rw (one-more, e)
 
-    module _ (B : Cond) (e : body S ≡ ok B) where
-      pub round-long : (n : ℕ) → limits (union D B) ≡ refused n → rounds (16 - k) body D S ≡ refused n
+    module _ (B : Conjuncts) (e : body S ≡ ok B) where
+      pub round-long : (n : ℕ) → limits (unionOf D B) ≡ refused n → rounds (16 - k) body D S ≡ refused n
       unfolding rounds
       round-long n l = rw (one-more, e, l)
 
-      pub round-settled : (S′ : Cond) → limits (union D B) ≡ ok S′ → same S S′ ≡ true → rounds (16 - k) body D S ≡ ok S′
+      pub round-settled : (S′ : Conjuncts) → limits (unionOf D B) ≡ ok S′ → same S S′ ≡ true → rounds (16 - k) body D S ≡ ok S′
       unfolding rounds
       round-settled S′ l s =
-          let last : Bool → Out Cond = λ z. elim z [ true ↦ ok S′ | false ↦ rounds (16 - (k + 1)) body D S′ ] in
+          let last : Bool → Out Conjuncts = λ z. elim z [ true ↦ ok S′ | false ↦ rounds (16 - (k + 1)) body D S′ ] in
           rw (one-more, e, l) (ap last s)
 
-      pub round-again : (S′ : Cond) → limits (union D B) ≡ ok S′ → same S S′ ≡ false → rounds (16 - k) body D S ≡ rounds (16 - (k + 1)) body D S′
+      pub round-again : (S′ : Conjuncts) → limits (unionOf D B) ≡ ok S′ → same S S′ ≡ false → rounds (16 - k) body D S ≡ rounds (16 - (k + 1)) body D S′
       unfolding rounds
       round-again S′ l s =
-          let last : Bool → Out Cond = λ z. elim z [ true ↦ ok S′ | false ↦ rounds (16 - (k + 1)) body D S′ ] in
+          let last : Bool → Out Conjuncts = λ z. elim z [ true ↦ ok S′ | false ↦ rounds (16 - (k + 1)) body D S′ ] in
           rw (one-more, e, l) (ap last s)
 
 -- ---- the rounds so far: from the sets of s₀, s is at the start of the round k
@@ -65,13 +65,13 @@ module _ (stmt : ℕ → Stmt) (mate : ℕ → ℕ) (p q b : ℕ) where
     pub same-rounds : (c : Code) → Laid stmt mate c p q → rounds 16 (walk c) (setOf s₀ b) (setOf s₀ b) ≡ rounds (16 - k) (walk c) (setOf s₀ b) (setOf s (b + 7745))
 
   -- the rounds of every body on the set of a list's region give o
-  abbrev pub Rounded : List ℕ → Out Cond → Type 0
+  abbrev pub Rounded : List ℕ → Out Conjuncts → Type 0
   Rounded e o = (c : Code) → Laid stmt mate c p q → rounds 16 (walk c) (setOf e b) (setOf e b) ≡ o
 
   -- the set was copied from e to s₀
   module _ (e s₀ : List ℕ)
       (opened : (setOf s₀ b ≡ setOf e b) × (setOf s₀ (b + 7745) ≡ setOf e b) × (setOf s₀ (b + 15490) ≡ setOf e b) × Below b e s₀) where
-    from-first : (o : Out Cond) → Rounded s₀ o → Rounded e o
+    from-first : (o : Out Conjuncts) → Rounded s₀ o → Rounded e o
     from-first o h c k = subst (λ D. rounds 16 (walk c) D D ≡ o) (opened .0) (h c k)
 
     pub goes-first : Tidy (setOf e b) → Goes s₀ 0 s₀
@@ -133,10 +133,10 @@ module _ (stmt : ℕ → Stmt) (mate : ℕ → ℕ) (p q b : ℕ) where
             to-u : Below b s₀ u
             to-u = below-trans b s₀ t u to-t (closed .1)
 
-            limits-t : (o : Out Cond) → limits (union (setOf t b) (setOf t (b + 15490))) ≡ o → limits (union (setOf s₀ b) (setOf t (b + 15490))) ≡ o
-            limits-t o l = subst (λ D. limits (union D (setOf t (b + 15490))) ≡ o) start-t l
+            limits-t : (o : Out Conjuncts) → limits (unionOf (setOf t b) (setOf t (b + 15490))) ≡ o → limits (unionOf (setOf s₀ b) (setOf t (b + 15490))) ≡ o
+            limits-t o l = subst (λ D. limits (unionOf D (setOf t (b + 15490))) ≡ o) start-t l
 
-            same-s : (S : Cond) (y : Bool) → same (setOf t (b + 7745)) S ≡ y → same (setOf s (b + 7745)) S ≡ y
+            same-s : (S : Conjuncts) (y : Bool) → same (setOf t (b + 7745)) S ≡ y → same (setOf s (b + 7745)) S ≡ y
             same-s S y l = subst (λ R. same R S ≡ y) last-t l
 
             pub goes-long : (n : ℕ) → x ≡ Never n → Rounded e (refused n) × Below b e u
@@ -164,7 +164,7 @@ module _ (stmt : ℕ → Stmt) (mate : ℕ → ℕ) (p q b : ℕ) where
                   same-length = same-u ∙ same-t ∙ g .same-length;
                   kept = l .2 ∙ start-t;
                   copied = l .3;
-                  tidy = gives-ok Tidy (limits (union (setOf t b) (setOf t (b + 15490)))) (setOf u (b + 7745)) (l .0) (union-tidy (setOf t b) (setOf t (b + 15490)) (y .0) (y .1));
+                  tidy = gives-ok Tidy (limits (unionOf (setOf t b) (setOf t (b + 15490)))) (setOf u (b + 7745)) (l .0) (union-tidy (setOf t b) (setOf t (b + 15490)) (y .0) (y .1));
                   below = to-u;
                   same-rounds = λ c′ z′.
                       g .same-rounds c′ z′

@@ -4,7 +4,7 @@ use mathlib.Core.Path.{_≡_, refl, sym, ap, subst, _∙_}
 use Prim.Native.Nat.{ℕ, zero, suc, _+_, _-_, _≤_, _<_}
 use native.Mathlib.Omega.{arith}
 use Rattle.model.specs.Code.{Instr, Code, done, step, branch, loop, Stmt, plain, end}
-use Rattle.model.specs.Conjunct.{Cond}
+use Rattle.model.specs.Conjunct.{Conjuncts}
 use Rattle.model.specs.Refusals.{ok, refused, _>>=_}
 use Rattle.model.specs.Run.{append}
 use Rattle.model.specs.Walk.{walk}
@@ -15,9 +15,9 @@ use Rattle.model.proofs.Skip.{walk-skip}
 use Rattle.model.proofs.Tidied.{walk-tidy}
 use Rattle.model.proofs.TidySets.{Tidy}
 use Rattle.model.proofs.Walks.{walk-append}
-use Rattle.mentions.specs.Mentioned.{Speaks, Quiet, Passed}
-use Rattle.mentions.specs.declared.Mentions.{Mentions}
-use Rattle.mentions.proofs.Skipped.{quiet-touches}
+use Rattle.footprint.specs.Footprints.{CoversSet, SparedAll, PlainAndSpared}
+use Rattle.footprint.specs.declared.Footprint.{Footprint}
+use Rattle.footprint.proofs.Skipped.{quiet-touches}
 use Rattle.walk.specs.Turn.{firstOf, Sole}
 use Rattle.walk.proofs.Entered.{single-some}
 use Rattle.walk.proofs.Unique.{laid-unique}
@@ -81,14 +81,14 @@ module _ (stmt : ℕ → Stmt) (mate : ℕ → ℕ) where
   -- ---- the walk so far
 
   -- the walk of the piece on the labels from p up to q on S₀ is that of what is left, up to r, on S
-  pub record Stands (depth p q r : ℕ) (S₀ S : Cond) : Type 0 where
+  pub record Stands (depth p q r : ℕ) (S₀ S : Conjuncts) : Type 0 where
     pub left : Code
     pub lies : Laid stmt mate left p r
     pub nested : Nested depth left
     pub same : (c : Code) → Laid stmt mate c p q → walk c S₀ ≡ walk left S
     pub tidy : Tidy S
 
-  pub stands-first : (depth p q : ℕ) (S : Cond) (c : Code) → Laid stmt mate c p q → Nested depth c → Tidy S → Stands depth p q q S S
+  pub stands-first : (depth p q : ℕ) (S : Conjuncts) (c : Code) → Laid stmt mate c p q → Nested depth c → Tidy S → Stands depth p q q S S
   stands-first depth p q S c h n t = record {
     left = c;
     lies = h;
@@ -97,13 +97,13 @@ module _ (stmt : ℕ → Stmt) (mate : ℕ → ℕ) where
     tidy = t;
   }
 
-  pub stands-done : (depth p q r : ℕ) (S₀ S : Cond) → Stands depth p q r S₀ S → r ≤ p → (c : Code) → Laid stmt mate c p q → walk c S₀ ≡ ok S
+  pub stands-done : (depth p q r : ℕ) (S₀ S : Conjuncts) → Stands depth p q r S₀ S → r ≤ p → (c : Code) → Laid stmt mate c p q → walk c S₀ ≡ ok S
   unfolding walk
   stands-done depth p q r S₀ S h b c k =
       let e : p ≡ r = omega (arith, laid-le stmt mate (h .left) p r (h .lies)) in
       h .same c k ∙ ap (λ x. walk x S) (laid-unique stmt mate (h .left) done p r (h .lies) e)
 
-  module _ (depth p q l r : ℕ) (S₀ S : Cond) (h : Stands depth p q r S₀ S) (b : p < r) (first : l ≡ firstOf (stmt (r - 1)) mate (r - 1)) where
+  module _ (depth p q l r : ℕ) (S₀ S : Conjuncts) (h : Stands depth p q r S₀ S) (b : p < r) (first : l ≡ firstOf (stmt (r - 1)) mate (r - 1)) where
     parts : Parted (h .left) p l r
     parts = parted (h .left) p l r (h .lies) b first
 
@@ -120,7 +120,7 @@ module _ (stmt : ℕ → Stmt) (mate : ℕ → ℕ) where
     left-walk : walk (h .left) S ≡ (walk (parts .last) S >>= walk (parts .front))
     left-walk = ap (λ x. walk x S) (parts .whole) ∙ walk-append (parts .front) (parts .last) S
 
-    pub stands-turned : (S′ : Cond) → ((w : Code) → Laid stmt mate w l r → walk w S ≡ ok S′) → Stands depth p q l S₀ S′
+    pub stands-turned : (S′ : Conjuncts) → ((w : Code) → Laid stmt mate w l r → walk w S ≡ ok S′) → Stands depth p q l S₀ S′
     stands-turned S′ k =
         let e = k (parts .last) (parts .last-lies) in
         record {
@@ -135,14 +135,14 @@ module _ (stmt : ℕ → Stmt) (mate : ℕ → ℕ) where
     stands-refused n k c g = h .same c g ∙ left-walk ∙ ap (_>>= walk (parts .front)) (k (parts .last) (parts .last-lies))
 
     -- it changes nothing that the set speaks of
-    pub stands-passed : (m : Mentions) → Speaks m S → Quiet m stmt l r → Stands depth p q l S₀ S
+    pub stands-passed : (m : Footprint) → CoversSet m S → SparedAll m stmt l r → Stands depth p q l S₀ S
     stands-passed m s k = stands-turned S (λ w g. walk-skip w S (quiet-touches m S s stmt mate w l r g k) (h .tidy))
 
   -- the statements from l on, one by one from the last
-  pub stands-over : (depth p q l r : ℕ) (S₀ S : Cond) → Stands depth p q r S₀ S → (m : Mentions) → Speaks m S → p ≤ l → l ≤ r → Passed m stmt l r → Stands depth p q l S₀ S
+  pub stands-over : (depth p q l r : ℕ) (S₀ S : Conjuncts) → Stands depth p q r S₀ S → (m : Footprint) → CoversSet m S → p ≤ l → l ≤ r → PlainAndSpared m stmt l r → Stands depth p q l S₀ S
   stands-over depth p q l r S₀ S h m s b e k = go (r - l) r (omega arith) h k
     where
-      go : (n i : ℕ) → i ≡ n + l → Stands depth p q i S₀ S → Passed m stmt l i → Stands depth p q l S₀ S
+      go : (n i : ℕ) → i ≡ n + l → Stands depth p q i S₀ S → PlainAndSpared m stmt l i → Stands depth p q l S₀ S
       go zero i a g w = let e : i ≡ l = omega arith in subst (λ j. Stands depth p q j S₀ S) e g
       go (suc n) i a g w =
           let x = w .each-plain (i - 1) (omega arith) (omega arith) in

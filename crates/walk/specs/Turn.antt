@@ -6,7 +6,7 @@ use mathlib.Core.Bool.{true, false}
 use mathlib.Core.List.{List}
 use Prim.Native.Nat.{ℕ, _+_}
 use Rattle.model.specs.Code.{Code, done, step, branch, loop, Stmt, plain, if, else, end, while}
-use Rattle.model.specs.Conjunct.{Cond, union, same, limits}
+use Rattle.model.specs.Conjunct.{Conjuncts, unionOf, same, limits}
 use Rattle.model.specs.Refusals.{ok, refused}
 use Rattle.model.proofs.Depth.{Nested}
 use Rattle.sets.specs.Region.{setOf}
@@ -35,11 +35,11 @@ Single program table depth p q = (c : Code) × Lies program table c p q × Neste
 
 -- the end of a round from S, with the body's walk B: the settled set in the region at b, or the next one in both regions after it,
 -- or a refusal
-abbrev pub Closed : Round → Cond → Cond → Cond → ℕ → List ℕ → Type 0
-Closed Settled D S B b t = (limits (union D B) ≡ ok (setOf t b)) × (same S (setOf t b) ≡ true)
+abbrev pub Closed : Round → Conjuncts → Conjuncts → Conjuncts → ℕ → List ℕ → Type 0
+Closed Settled D S B b t = (limits (unionOf D B) ≡ ok (setOf t b)) × (same S (setOf t b) ≡ true)
 Closed Again D S B b t =
-    (limits (union D B) ≡ ok (setOf t (b + 7745)))
+    (limits (unionOf D B) ≡ ok (setOf t (b + 7745)))
     × (same S (setOf t (b + 7745)) ≡ false)
     × (setOf t b ≡ D)
     × (setOf t (b + 15490) ≡ setOf t (b + 7745))
-Closed (Refused n) D S B b t = limits (union D B) ≡ refused n
+Closed (Refused n) D S B b t = limits (unionOf D B) ≡ refused n

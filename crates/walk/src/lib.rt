@@ -6,10 +6,10 @@ ghost use mathlib.Core.Path.{_≡_};
 ghost use Prim.Native.Nat.{_+_, _*_, _≤_, _<_};
 ghost use lib.ListN.{length, getD};
 ghost use Rattle.model.specs.Code.{Code};
-ghost use Rattle.model.specs.Conjunct.{union, limits};
+ghost use Rattle.model.specs.Conjunct.{unionOf, limits};
 ghost use Rattle.model.specs.Walk.{joined, rounds, walk};
 ghost use Rattle.model.proofs.TidySets.{Tidy};
-ghost use Rattle.program.specs.Reading.{Placed, IsRead, tablesOf, stmtAt};
+ghost use Rattle.program.specs.Reading.{Placed, ProgramIsRead, tablesOf, stmtAt};
 ghost use Rattle.sets.specs.Region.{setOf, Within, Apart};
 ghost use Rattle.rules.specs.Answers.{answered, Below};
 ghost use Rattle.walk.specs.Piece.{Lies, Piece};
@@ -29,7 +29,7 @@ enum Round {
 // The union with the set of another region, within the limits.
 fn unite(s: &mut [u64], to: usize, from: usize) -> Answer
     requires { ⌜ (to + 7745 ≤ length (now s)) × (from + 7745 ≤ length (now s)) × Apart to from × Tidy (setOf (now s) from) × Tidy (setOf (now s) to) ⌝ }
-    ensures { λ r. ⌜ (limits (union (setOf (now (s .entry)) from) (setOf (now (s .entry)) to)) ≡ answered r (setOf (now (s .exit)) to)) × Within to (now (s .entry)) (now (s .exit)) ⌝ }
+    ensures { λ r. ⌜ (limits (unionOf (setOf (now (s .entry)) from) (setOf (now (s .entry)) to)) ≡ answered r (setOf (now (s .exit)) to)) × Within to (now (s .entry)) (now (s .exit)) ⌝ }
 {
     if sets::union(s, to, from) {
         return Answer::Done;
@@ -58,7 +58,7 @@ fn switch_branch(s: &mut [u64], b: usize)
 // After the branches of an if: the union of what they gave, in the region at b.
 fn close_branch(s: &mut [u64], b: usize) -> Answer
     requires { ⌜ (b + 23235 ≤ length (now s)) × Tidy (setOf (now s) (b + 7745)) × Tidy (setOf (now s) (b + 15490)) ⌝ }
-    ensures { λ r. ⌜ (limits (union (setOf (now (s .entry)) (b + 7745)) (setOf (now (s .entry)) (b + 15490))) ≡ answered r (setOf (now (s .exit)) b)) × Below b (now (s .entry)) (now (s .exit)) ⌝ }
+    ensures { λ r. ⌜ (limits (unionOf (setOf (now (s .entry)) (b + 7745)) (setOf (now (s .entry)) (b + 15490))) ≡ answered r (setOf (now (s .exit)) b)) × Below b (now (s .entry)) (now (s .exit)) ⌝ }
 {
     let first = b + 7745;
     let other = b + 15490;
@@ -141,7 +141,7 @@ fn branch(
     e: usize,
     f: usize,
 ) -> Answer
-    requires { ⌜ IsRead (now program) layout × (f ≤ layout .statements) × (depth ≤ 3) × (b + (2 * depth + 4) * 7745 ≤ length (now s)) × Tidy (setOf (now s) b) × Piece (now program) (now table) depth p e × Piece (now program) (now table) depth (e + 1) f ⌝ }
+    requires { ⌜ ProgramIsRead (now program) layout × (f ≤ layout .statements) × (depth ≤ 3) × (b + (2 * depth + 4) * 7745 ≤ length (now s)) × Tidy (setOf (now s) b) × Piece (now program) (now table) depth p e × Piece (now program) (now table) depth (e + 1) f ⌝ }
     ensures { λ r. ⌜ ((y n : Code) → Lies (now (program .entry)) (now (table .entry)) y p e → Lies (now (program .entry)) (now (table .entry)) n (e + 1) f → joined (walk y) (walk n) (setOf (now (s .entry)) b) ≡ answered r (setOf (now (s .exit)) b)) × Below b (now (s .entry)) (now (s .exit)) ⌝ }
 {
     open_branch(s, b);
@@ -168,7 +168,7 @@ fn rounds(
     p: usize,
     q: usize,
 ) -> Answer
-    requires { ⌜ IsRead (now program) layout × (q ≤ layout .statements) × (depth ≤ 3) × (b + (2 * depth + 4) * 7745 ≤ length (now s)) × Tidy (setOf (now s) b) × Piece (now program) (now table) depth p q ⌝ }
+    requires { ⌜ ProgramIsRead (now program) layout × (q ≤ layout .statements) × (depth ≤ 3) × (b + (2 * depth + 4) * 7745 ≤ length (now s)) × Tidy (setOf (now s) b) × Piece (now program) (now table) depth p q ⌝ }
     ensures { λ r. ⌜ ((c : Code) → Lies (now (program .entry)) (now (table .entry)) c p q → rounds 16 (walk c) (setOf (now (s .entry)) b) (setOf (now (s .entry)) b) ≡ answered r (setOf (now (s .exit)) b)) × Below b (now (s .entry)) (now (s .exit)) ⌝ }
 {
     open_rounds(s, b);
@@ -207,7 +207,7 @@ fn turn(
     p: usize,
     q: usize,
 ) -> Answer
-    requires { ⌜ IsRead (now program) layout × (q ≤ layout .statements) × (depth ≤ 4) × (b + (2 * depth + 2) * 7745 ≤ length (now s)) × Tidy (setOf (now s) b) × Single (now program) (now table) depth p q ⌝ }
+    requires { ⌜ ProgramIsRead (now program) layout × (q ≤ layout .statements) × (depth ≤ 4) × (b + (2 * depth + 2) * 7745 ≤ length (now s)) × Tidy (setOf (now s) b) × Single (now program) (now table) depth p q ⌝ }
     ensures { λ r. ⌜ ((c : Code) → Lies (now (program .entry)) (now (table .entry)) c p q → walk c (setOf (now (s .entry)) b) ≡ answered r (setOf (now (s .exit)) b)) × Below b (now (s .entry)) (now (s .exit)) ⌝ }
 {
     let d = decoding::decoded(program, layout, p);
@@ -241,23 +241,23 @@ pub fn walk(
     p: usize,
     q: usize,
 ) -> Answer
-    requires { ⌜ IsRead (now program) layout × (q ≤ layout .statements) × (depth ≤ 4) × (b + (2 * depth + 2) * 7745 ≤ length (now s)) × Tidy (setOf (now s) b) × Piece (now program) (now table) depth p q ⌝ }
+    requires { ⌜ ProgramIsRead (now program) layout × (q ≤ layout .statements) × (depth ≤ 4) × (b + (2 * depth + 2) * 7745 ≤ length (now s)) × Tidy (setOf (now s) b) × Piece (now program) (now table) depth p q ⌝ }
     ensures { λ r. ⌜ ((c : Code) → Lies (now (program .entry)) (now (table .entry)) c p q → walk c (setOf (now (s .entry)) b) ≡ answered r (setOf (now (s .exit)) b)) × Below b (now (s .entry)) (now (s .exit)) ⌝ }
 {
-    let mut m = mentions::mentioned(s, b);
-    let mut r = mentions::passed(program, layout, m, p, q);
+    let mut m = footprint::of_set(s, b);
+    let mut r = footprint::spared_plain(program, layout, m, p, q);
     while p < r {
         let l = beginning(program, layout, table, r - 1);
-        if mentions::quiet(program, layout, m, l, r) {
-            r = mentions::passed(program, layout, m, p, l);
+        if footprint::spares_all(program, layout, m, l, r) {
+            r = footprint::spared_plain(program, layout, m, p, l);
         } else {
             match turn(program, layout, table, s, depth, b, l, r) {
                 Answer::Refused(n) => {
                     return Answer::Refused(n);
                 }
                 Answer::Done => {
-                    m = mentions::mentioned(s, b);
-                    r = mentions::passed(program, layout, m, p, l);
+                    m = footprint::of_set(s, b);
+                    r = footprint::spared_plain(program, layout, m, p, l);
                 }
             }
         }

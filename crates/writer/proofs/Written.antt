@@ -13,13 +13,13 @@ use Rattle.model.proofs.Lists.{all-imp, all-getD}
 use Rattle.model.proofs.NodeBytes.{conjunct-size}
 use Rattle.model.specs.Bytes.{bytes4}
 use Rattle.model.specs.Condition.{conjunctBytes, pairBytes, conjunctsAt, encode}
-use Rattle.model.specs.Conjunct.{Conj, Cond, bytes}
+use Rattle.model.specs.Conjunct.{Conj, Conjuncts, bytes}
 use Rattle.model.specs.Lists.{All}
 use Rattle.bytes_le.proofs.Overlays.{overlay-append}
 use Rattle.bytes_le.specs.Overlay.{overlay}
 use Rattle.program.proofs.Known.{counts-known}
 use Rattle.program.proofs.Tables.{sized}
-use Rattle.program.specs.Reading.{IsRead, tablesOf}
+use Rattle.program.specs.Reading.{ProgramIsRead, tablesOf}
 use Rattle.program.specs.declared.Layout.{Layout}
 use Rattle.node.specs.Word.{nodeOf, nodesOf, fileBytes}
 
@@ -86,12 +86,12 @@ module _ (types : List ℕ) (e : Conj) (h : All (FileNode types) e) (o m k : Lis
 -- ---- the conjuncts of a set
 
 -- one conjunct more
-pub size-more : (S : Cond) (i : ℕ) → i < length S → size (take (suc i) S) ≡ size (take i S) + length (getD S i [])
+pub size-more : (S : Conjuncts) (i : ℕ) → i < length S → size (take (suc i) S) ≡ size (take i S) + length (getD S i [])
 size-more [] i h = absurd (omega arith)
 size-more (e ∷ S) zero h = omega arith
 size-more (e ∷ S) (suc i) h = omega (arith, size-more S i (omega arith))
 
-module _ (types : List ℕ) (S : Cond) (h : All (All (FileNode types)) S) (o m k : List ℕ) (a i j : ℕ) (l : i < length S) (d : Conj) (one : d ≡ getD S i []) where
+module _ (types : List ℕ) (S : Conjuncts) (h : All (All (FileNode types)) S) (o m k : List ℕ) (a i j : ℕ) (l : i < length S) (d : Conj) (one : d ≡ getD S i []) where
   pub conjuncts-more : j ≡ a + 8 * size (take i S) → m ≡ overlay o a (flatMap conjunctBytes (take i S)) → (All (FileNode types) d → k ≡ overlay m j (conjunctBytes d))
       → k ≡ overlay o a (flatMap conjunctBytes (take (i + 1) S))
   conjuncts-more e p q =
@@ -103,7 +103,7 @@ module _ (types : List ℕ) (S : Cond) (h : All (All (FileNode types)) S) (o m k
 -- ---- the pairs
 
 -- one pair more
-more-pairs : (S : Cond) (at i : ℕ) → i < length S
+more-pairs : (S : Conjuncts) (at i : ℕ) → i < length S
     → pairBytes at (take (suc i) S) ≡ pairBytes at (take i S) ++ (bytes4 (at + 8 * size (take i S)) ++ bytes4 (8 * length (getD S i [])))
 unfolding pairBytes
 more-pairs [] at i h = absurd (omega arith)
@@ -112,7 +112,7 @@ more-pairs (e ∷ S) at (suc i) h =
     let z : at + 8 * length e + 8 * size (take i S) ≡ at + 8 * (length e + size (take i S)) = omega arith in
     ap (bytes4 at ++ bytes4 (8 * length e) ++_) (more-pairs S (at + 8 * length e) i (omega arith)) ∙ rw z (sym (append-assoc (bytes4 at ++ bytes4 (8 * length e)) _ _))
 
-module _ (S : Cond) (o m k : List ℕ) (a begin i at n : ℕ) (l : i < length S) where
+module _ (S : Conjuncts) (o m k : List ℕ) (a begin i at n : ℕ) (l : i < length S) where
   pub pairs-more : at ≡ begin + 8 * size (take i S) → n ≡ length (getD S i []) → m ≡ overlay o a (pairBytes begin (take i S))
       → k ≡ overlay m (a + 8 * i) (bytes4 at ++ bytes4 (8 * n)) → k ≡ overlay o a (pairBytes begin (take (i + 1) S))
   pairs-more e f p q =
@@ -121,7 +121,7 @@ module _ (S : Cond) (o m k : List ℕ) (a begin i at n : ℕ) (l : i < length S)
 
 -- ---- the file
 
-module _ (types : List ℕ) (S : Cond) (h : All (Formed types) S) where
+module _ (types : List ℕ) (S : Conjuncts) (h : All (Formed types) S) where
   pub nodes-of-file : All (All (FileNode types)) S
   nodes-of-file = all-imp (λ e f. f .nodes) S h
 
@@ -129,11 +129,11 @@ module _ (types : List ℕ) (S : Cond) (h : All (Formed types) S) where
   file-length r e = omega (arith, length-encode types S nodes-of-file)
 
 -- a program that is read has at most 32 fields
-pub fields-few : (s : List ℕ) (L : Layout) → IsRead s L → length (tablesOf s .fields) ≤ 32
+pub fields-few : (s : List ℕ) (L : Layout) → ProgramIsRead s L → length (tablesOf s .fields) ≤ 32
 fields-few s L h = rw (sized s L (h .placed) .fields) (counts-known s L h .0)
 
 -- its five parts, stored one behind the other: c is the count of conjuncts, and the types are copied from ts
-module _ (types : List ℕ) (S : Cond) (ts : List ℕ) (c : ℕ) (same : ts ≡ types) (count : c ≡ length S) where
+module _ (types : List ℕ) (S : Conjuncts) (ts : List ℕ) (c : ℕ) (same : ts ≡ types) (count : c ≡ length S) where
   abbrev begin : ℕ
   begin = conjunctsAt (length ts) c
 

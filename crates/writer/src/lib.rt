@@ -10,7 +10,7 @@ ghost use Rattle.model.specs.Condition.{conjunctBytes, pairBytes, encode};
 ghost use Rattle.model.proofs.Formed.{FileNode, Formed};
 ghost use Rattle.model.proofs.FileBytes.{size};
 ghost use Rattle.bytes_le.specs.Overlay.{overlay};
-ghost use Rattle.program.specs.Reading.{IsRead, tablesOf};
+ghost use Rattle.program.specs.Reading.{ProgramIsRead, tablesOf};
 ghost use Rattle.node.specs.Word.{fileBytes};
 ghost use Rattle.conjunct.specs.Value.{conjOf};
 ghost use Rattle.sets.specs.Region.{setOf};
@@ -88,7 +88,7 @@ fn put_conjuncts(out: &mut [u8], a: usize, s: &[u64], b: usize, words: &mut [u64
 // The condition file of the set in the region at b of s, with the types of the program's fields;
 // how many bytes it has.
 pub fn write(program: &[u8], layout: Layout, s: &[u64], b: usize, out: &mut [u8]) -> usize
-    requires { ⌜ IsRead (now program) layout × (b + 7745 ≤ length (now s)) × (61992 ≤ length (now out)) × All (Formed (tablesOf (now program) .fields)) (setOf (now s) b) ⌝ }
+    requires { ⌜ ProgramIsRead (now program) layout × (b + 7745 ≤ length (now s)) × (61992 ≤ length (now out)) × All (Formed (tablesOf (now program) .fields)) (setOf (now s) b) ⌝ }
     ensures { λ r. ⌜ (r ≡ length (encode (tablesOf (now (program .entry)) .fields) (setOf (now (s .entry)) b))) × (r ≤ 61992) × (now (out .exit) ≡ overlay (now (out .entry)) 0 (encode (tablesOf (now (program .entry)) .fields) (setOf (now (s .entry)) b))) ⌝ }
 {
     let types = program::field_types(program, layout);

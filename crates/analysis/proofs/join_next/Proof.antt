@@ -6,7 +6,7 @@ use native.Mathlib.Omega.{arith}
 use lib.ListN.{length}
 use borrow.Author.Needs.{needs}
 use borrow.Author.Tests.{not-true, not-false}
-use Rattle.climb.proofs.Walked.{refused-done}
+use Rattle.enclosing.proofs.Walked.{refused-done}
 use Rattle.analysis.proofs.Uniting.{joined-over, joined-done, joined-tidy}
 use Rattle.analysis.proofs.join_next.Statement.{statement}
 use Rattle.analysis.proofs.join_next.Tie as tie

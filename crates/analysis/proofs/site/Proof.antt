@@ -5,7 +5,7 @@ use borrow.Author.Needs.{needs}
 use Rattle.model.proofs.TidySets.{Tidy}
 use Rattle.node.specs.Word.{nodeOf}
 use Rattle.sets.specs.Region.{setOf}
-use Rattle.climb.proofs.Walked.{refused-done}
+use Rattle.enclosing.proofs.Walked.{refused-done}
 use Rattle.analysis.proofs.OneSite.{region-tidy, union-stays, sited-refused, sited-done}
 use Rattle.analysis.proofs.site.Statement.{statement}
 use Rattle.analysis.proofs.site.Tie as tie
@@ -16,8 +16,8 @@ variable-requires c κs = search needs
 single-requires : tie.Need-single-requires
 single-requires c κs = search needs
 
-climb-requires : tie.Need-climb-requires
-climb-requires c κs =
+walk-out-requires : tie.Need-walk-out-requires
+walk-out-requires c κs =
     let a = c .before .before .before .before .before .before .before .before .before .args in
     let p = c .before .before .before .before .before .before .before .before .before .pre in
     let v = c .before .before .before .single in
@@ -36,7 +36,7 @@ join-next-requires c κs =
     let p = c .before .before .before .before .before .before .before .before .before .before .before .before .before .before .before .pre in
     let v = c .before .before .before .before .before .before .before .before .before .single in
     let w = c .before .before .before .before .before .before .before .before .before .before .before .variable in
-    let u = c .before .before .before .before .before .climb in
+    let u = c .before .before .before .before .before .walk-out in
     let same = union-stays (a .program .now) (a .table .now) (a .layout .statements) (a .i) (a .x) (a .ty) (nodeOf (w .result)) (a .s .now) (v .last .0) (u .last .1 .1 .1 .0) (u .result) (p .2) (w .ensures) (v .ensures .0) (v .kept .0) (v .ensures .1) (u .kept .1 .1 .1 .0) (u .ensures .1) (u .ensures .0) in
     (omega (arith, p .2, v .kept .0, u .kept .1 .1 .1 .0), subst Tidy (sym same) (p .3))
 
@@ -49,7 +49,7 @@ returns c =
     let p = c .before .before .before .before .before .before .before .before .before .before .before .before .before .before .before .pre in
     let v = c .before .before .before .before .before .before .before .before .before .single in
     let w = c .before .before .before .before .before .before .before .before .before .before .before .variable in
-    let u = c .before .before .before .before .before .climb in (
+    let u = c .before .before .before .before .before .walk-out in (
       sited-refused (a .program .now) (a .table .now) (a .layout .statements) (a .i) (a .x) (a .ty) (nodeOf (w .result)) (a .s .now) (v .last .0) (u .last .1 .1 .1 .0) (u .result) (p .2) (w .ensures) (v .ensures .0) (v .kept .0) (v .ensures .1) (u .kept .1 .1 .1 .0) (u .ensures .1) (u .ensures .0) _ (c .before .a .given .1),
       λ e. absurd (refused-done _ e),
     )
@@ -63,7 +63,7 @@ returns-2 c =
     let p = c .before .before .before .before .before .before .before .before .before .before .before .before .before .before .before .before .before .before .pre in
     let v = c .before .before .before .before .before .before .before .before .before .before .before .before .single in
     let w = c .before .before .before .before .before .before .before .before .before .before .before .before .before .before .variable in
-    let u = c .before .before .before .before .before .before .before .before .climb in
+    let u = c .before .before .before .before .before .before .before .before .walk-out in
     let j = c .before .before .join-next in (
       sited-done (a .program .now) (a .table .now) (a .layout .statements) (a .i) (a .x) (a .ty) (nodeOf (w .result)) (a .s .now) (v .last .0) (u .last .1 .1 .1 .0) (u .result) (p .2) (w .ensures) (v .ensures .0) (v .kept .0) (v .ensures .1) (u .kept .1 .1 .1 .0) (u .ensures .1) (u .ensures .0) (c .before .before .before .before .enum-told .given .1) (j .result) (setOf (j .last .0) 0) (j .ensures .0),
       j .ensures .1,
@@ -75,7 +75,7 @@ site-spec =
     (tie.spec
     variable-requires
     single-requires
-    climb-requires
+    walk-out-requires
     enum-known-a
     enum-told
     join-next-requires

@@ -1,6 +1,6 @@
 -- `capi::gate_check` meets its contract. Assumes nothing.
 use mathlib.Core.Path.{sym, ap, _∙_}
-use Rattle.model.specs.Filter.{filter}
+use Rattle.model.specs.Filter.{filterInput}
 use Rattle.capi.proofs.Leaving.{verdictWord, verdict-left}
 use borrow.Author.Needs.{needs}
 use Rattle.capi.proofs.gate_check.Statement.{statement}
@@ -29,19 +29,19 @@ returns : tie.Need-returns
 returns c =
     let a = c .before .before .before .before .before .before .before .args in
     let call = c .before .before .before .before .check in
-    verdict-left (filter (a .condition .now) (a .sheet .now)) (call .result) (c .refusal .result) (call .ensures) (c .refusal .ensures ∙ sym (ap verdictWord (c .before .before .v .given .1)))
+    verdict-left (filterInput (a .condition .now) (a .sheet .now)) (call .result) (c .refusal .result) (call .ensures) (c .refusal .ensures ∙ sym (ap verdictWord (c .before .before .v .given .1)))
 
 returns-2 : tie.Need-returns-2
 returns-2 c =
     let a = c .before .before .before .before .before .args in
     let call = c .before .before .check in
-    verdict-left (filter (a .condition .now) (a .sheet .now)) (call .result) 0 (call .ensures) (sym (ap verdictWord (c .enum-told .given .1)))
+    verdict-left (filterInput (a .condition .now) (a .sheet .now)) (call .result) 0 (call .ensures) (sym (ap verdictWord (c .enum-told .given .1)))
 
 returns-3 : tie.Need-returns-3
 returns-3 c =
     let a = c .before .before .before .before .before .args in
     let call = c .before .before .check in
-    verdict-left (filter (a .condition .now) (a .sheet .now)) (call .result) 1 (call .ensures) (sym (ap verdictWord (c .enum-told2 .given .1)))
+    verdict-left (filterInput (a .condition .now) (a .sheet .now)) (call .result) 1 (call .ensures) (sym (ap verdictWord (c .enum-told2 .given .1)))
 
 pub gate-check-spec : {M : Type 1} → statement M
 gate-check-spec =

@@ -5,7 +5,7 @@ use mathlib.Core.Bool.{true}
 use borrow.Author.Needs.{needs}
 use Rattle.model.specs.Lists.{every}
 use Rattle.model.specs.Program.{typeRight}
-use Rattle.input.specs.Answers.{IsRead as InputIsRead}
+use Rattle.input.specs.Answers.{InputIsRead}
 use Rattle.condition.specs.Answers.{typesOf}
 use Rattle.evaluator.specs.Readings.{Decoded}
 use Rattle.filter.specs.Decoding.{inputIn}

@@ -4,7 +4,7 @@ use mathlib.Core.List.{List}
 use Prim.Native.Nat.{ℕ}
 use lib.ListN.{take}
 use borrow.Author.Needs.{needs}
-use Rattle.model.specs.Filter.{filter}
+use Rattle.model.specs.Filter.{filterInput}
 use Rattle.filter.specs.Verdict.{verdictOf}
 use Rattle.guard.proofs.Apart.{derived-analysis, not-filtered, is-held, part-first}
 use Rattle.guard.proofs.filter_and_run.Statement.{statement}
@@ -40,7 +40,7 @@ run-passed-requires c κs =
     let g = c .before .before .before .before .before .before .before .before .before .before .before .before .before .before in
     let file = g .args .file .now in
     let input = g .args .input .now in
-    let passes = sym (ap verdictOf (c .before .before .before .enum-told2 .given .1)) ∙ c .before .before .before .before .before .check .ensures ∙ ap (λ (C : List ℕ). filter C input) (part-first file (g .args .n)) in
+    let passes = sym (ap verdictOf (c .before .before .before .enum-told2 .given .1)) ∙ c .before .before .before .before .before .check .ensures ∙ ap (λ (C : List ℕ). filterInput C input) (part-first file (g .args .n)) in
     (g .pre .0, g .pre .1, g .pre .2, g .pre .3, g .pre .4, passes)
 
 returns : tie.Need-returns
@@ -49,7 +49,7 @@ returns c =
     let file = g .args .file .now in
     let input = g .args .input .now in
     let n = c .before .verdict .given .0 .0 in
-    let f = sym (ap (λ (C : List ℕ). filter C input) (part-first file (g .args .n))) ∙ sym (c .before .before .before .check .ensures) ∙ ap verdictOf (c .before .verdict .given .1) in
+    let f = sym (ap (λ (C : List ℕ). filterInput C input) (part-first file (g .args .n))) ∙ sym (c .before .before .before .check .ensures) ∙ ap verdictOf (c .before .verdict .given .1) in
     (not-filtered (g .args .program .now) input (g .args .limit) (g .args .choices .now) (g .args .log .now) (take (g .args .n) file) (derived-analysis (g .args .program .now) (g .args .n) file (g .pre .4)) n f, refl, refl)
 
 returns-2 : tie.Need-returns-2
@@ -57,7 +57,7 @@ returns-2 c =
     let g = c .before .before .before .before .before .before .before .before .before .before .before in
     let file = g .args .file .now in
     let input = g .args .input .now in
-    let f = sym (ap (λ (C : List ℕ). filter C input) (part-first file (g .args .n))) ∙ sym (c .before .before .check .ensures) ∙ ap verdictOf (c .enum-told .given .1) in
+    let f = sym (ap (λ (C : List ℕ). filterInput C input) (part-first file (g .args .n))) ∙ sym (c .before .before .check .ensures) ∙ ap verdictOf (c .enum-told .given .1) in
     (is-held (g .args .program .now) input (g .args .limit) (g .args .choices .now) (g .args .log .now) (take (g .args .n) file) (derived-analysis (g .args .program .now) (g .args .n) file (g .pre .4)) f, refl, refl)
 
 same-length : tie.Need-same-length

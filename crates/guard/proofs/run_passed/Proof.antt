@@ -4,7 +4,7 @@ use lib.ListN.{length, take}
 use borrow.Author.Needs.{needs}
 use Rattle.model.specs.Refusals.{ok, refused}
 use Rattle.guard.specs.Answers.{ranWith}
-use Rattle.interpreter.specs.Answers.{answerOf, Kept}
+use Rattle.interpreter.specs.Answers.{runAnswer, Kept}
 use Rattle.guard.proofs.Apart.{apart, derived-analysis, not-run, is-run, ran-lent}
 use Rattle.guard.proofs.run_passed.Statement.{statement}
 use Rattle.guard.proofs.run_passed.Tie as tie
@@ -38,7 +38,7 @@ returns c =
     let told = c .before .ran .given .1 in
     let e = c .before .before .before .before .before .before .before .run .ensures in
     let words = length (a .scratch .now) in
-    let r = ran-lent words program input (a .limit) (a .choices .now) (a .log .now) (refused n) (pre .3) (sym (ap (λ o. answerOf o log′) told) ∙ e .0) in
+    let r = ran-lent words program input (a .limit) (a .choices .now) (a .log .now) (refused n) (pre .3) (sym (ap (λ o. runAnswer o log′) told) ∙ e .0) in
     (not-run program input (a .limit) (a .choices .now) (a .log .now) (take (a .n) (a .file .now)) (derived-analysis program (a .n) (a .file .now) (pre .4)) n (sym (pre .5)) r, refl, subst (λ o. Kept o (a .log .now) log′) told (e .1))
 
 same-length-3 : tie.Need-same-length-3
@@ -63,9 +63,9 @@ returns-2 c =
     let R = ranWith (numbers .0) (numbers .1 .0) (numbers .1 .1 .0) log′ in
     let e = c .before .before .before .before .before .before .before .before .before .before .before .run .ensures in
     let words = length (a .scratch .now) in
-    let r = ran-lent words program input (a .limit) (a .choices .now) (a .log .now) (ok R) (pre .3) (sym (ap (λ o. answerOf o log′) told) ∙ e .0) in (
+    let r = ran-lent words program input (a .limit) (a .choices .now) (a .log .now) (ok R) (pre .3) (sym (ap (λ o. runAnswer o log′) told) ∙ e .0) in (
       (C, is-run program input (a .limit) (a .choices .now) (a .log .now) C (derived-analysis program (a .n) (a .file .now) (pre .4)) R (sym (pre .5)) r, c .before .before .put-bytes .ensures),
-      apart program input (a .limit) (a .choices .now) (a .log .now) (pre .4 .output) (pre .4 .words) words (a .n) (pre .4 .before) (a .file .now) (R .end) (R .steps) (R .records) log′ (pre .4 .derives) (pre .5) (sym (ap (λ o. answerOf o log′) told) ∙ e .0),
+      apart program input (a .limit) (a .choices .now) (a .log .now) (pre .4 .output) (pre .4 .words) words (a .n) (pre .4 .before) (a .file .now) (R .end) (R .steps) (R .records) log′ (pre .4 .derives) (pre .5) (sym (ap (λ o. runAnswer o log′) told) ∙ e .0),
     )
 
 pub run-passed-spec : {M : Type 1} → statement M

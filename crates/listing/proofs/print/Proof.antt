@@ -3,7 +3,7 @@ use mathlib.Core.Path.{sym, ap, _∙_}
 use native.Mathlib.Omega.{arith}
 use lib.Seq.{length-take-le}
 use borrow.Author.Needs.{needs}
-use Rattle.condition.specs.Answers.{outOf}
+use Rattle.condition.specs.Answers.{conditionAnswer}
 use Rattle.listing.proofs.print.Statement.{statement}
 use Rattle.listing.proofs.print.Tie as tie
 
@@ -31,7 +31,7 @@ enum-known-r-2 : tie.Need-enum-known-r-2
 enum-known-r-2 c = search needs
 
 conjuncts-requires : tie.Need-conjuncts-requires
-conjuncts-requires c κs = sym (c .before .before .before .read .ensures) ∙ ap outOf (c .before .r2 .given .1)
+conjuncts-requires c κs = sym (c .before .before .before .read .ensures) ∙ ap conditionAnswer (c .before .r2 .given .1)
 
 returns-2 : tie.Need-returns-2
 returns-2 c = search needs

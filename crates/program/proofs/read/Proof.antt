@@ -7,7 +7,7 @@ use borrow.Author.Tests.{not-true, not-false}
 use Rattle.model.specs.Code.{treeOf}
 use Rattle.model.specs.Program.{layoutOf}
 use Rattle.model.specs.Refusals.{ok}
-use Rattle.program.specs.Reading.{tablesOf, answerOf, stmtsOf}
+use Rattle.program.specs.Reading.{tablesOf, programAnswer, stmtsOf}
 use Rattle.program.specs.Stacks.{Matched}
 use Rattle.program.proofs.Answers.{fails-2, fails-3, fails-4, fails-5, fails-6, fails-7, fails-8, passes-8}
 use Rattle.program.proofs.Chain.{check-ok, check-refused, table-read, table-refused}
@@ -72,7 +72,7 @@ returns-4 c =
     let k = table-read s (c .before .before .before .before .before .before .before .before .before .before .sections .result) L (c .before .before .before .before .before .before .before .before .before .before .sections .ensures) (c .before .before .before .before .before .before .before .before .table .given .1) in
     let e₃ = sym (c .before .before .before .before .before .before .counts-right .ensures (tablesOf s) (sized s L (k .1))) ∙ not-false (c .before .before .before .before .before .before .counts-right .result) (c .before .before .before .before .before .if1 .left) in
     let e₄ = sym (c .before .before .before .before .types-right .ensures) ∙ not-false (c .before .before .before .before .types-right .result) (c .before .before .before .if2 .left) in
-    fails-5 s (k .0) e₃ e₄ (check-refused _ 5 _ (layoutOf s) (sym (ap answerOf (c .enum-told3 .given .1)) ∙ c .before .before .forms .ensures))
+    fails-5 s (k .0) e₃ e₄ (check-refused _ 5 _ (layoutOf s) (sym (ap programAnswer (c .enum-told3 .given .1)) ∙ c .before .before .forms .ensures))
 
 all-agree-requires : tie.Need-all-agree-requires
 all-agree-requires c κs =
@@ -88,7 +88,7 @@ returns-5 c =
     let k = table-read s (c .before .before .before .before .before .before .before .before .before .before .before .before .sections .result) L (c .before .before .before .before .before .before .before .before .before .before .before .before .sections .ensures) (c .before .before .before .before .before .before .before .before .before .before .table .given .1) in
     let e₃ = sym (c .before .before .before .before .before .before .before .before .counts-right .ensures (tablesOf s) (sized s L (k .1))) ∙ not-false (c .before .before .before .before .before .before .before .before .counts-right .result) (c .before .before .before .before .before .before .before .if1 .left) in
     let e₄ = sym (c .before .before .before .before .before .before .types-right .ensures) ∙ not-false (c .before .before .before .before .before .before .types-right .result) (c .before .before .before .before .before .if2 .left) in
-    let e₅ = check-ok _ 5 _ (layoutOf s) (sym (ap answerOf (c .before .before .enum-told2 .given .1)) ∙ c .before .before .before .before .forms .ensures) .0 in
+    let e₅ = check-ok _ 5 _ (layoutOf s) (sym (ap programAnswer (c .before .before .enum-told2 .given .1)) ∙ c .before .before .before .before .forms .ensures) .0 in
     fails-6 s (k .0) e₃ e₄ e₅ (sym (c .before .all-agree .ensures) ∙ not-true (c .before .all-agree .result) (c .if3 .taken))
 
 immediates-right-requires : tie.Need-immediates-right-requires
@@ -107,7 +107,7 @@ returns-6 c =
     let k = table-read s (c .before .before .before .before .before .before .before .before .before .before .before .before .before .before .sections .result) L (c .before .before .before .before .before .before .before .before .before .before .before .before .before .before .sections .ensures) (c .before .before .before .before .before .before .before .before .before .before .before .before .table .given .1) in
     let e₃ = sym (c .before .before .before .before .before .before .before .before .before .before .counts-right .ensures (tablesOf s) (sized s L (k .1))) ∙ not-false (c .before .before .before .before .before .before .before .before .before .before .counts-right .result) (c .before .before .before .before .before .before .before .before .before .if1 .left) in
     let e₄ = sym (c .before .before .before .before .before .before .before .before .types-right .ensures) ∙ not-false (c .before .before .before .before .before .before .before .before .types-right .result) (c .before .before .before .before .before .before .before .if2 .left) in
-    let e₅ = check-ok _ 5 _ (layoutOf s) (sym (ap answerOf (c .before .before .before .before .enum-told2 .given .1)) ∙ c .before .before .before .before .before .before .forms .ensures) .0 in
+    let e₅ = check-ok _ 5 _ (layoutOf s) (sym (ap programAnswer (c .before .before .before .before .enum-told2 .given .1)) ∙ c .before .before .before .before .before .before .forms .ensures) .0 in
     let e₆ = sym (c .before .before .before .all-agree .ensures) ∙ not-false (c .before .before .before .all-agree .result) (c .before .before .if3 .left) in
     fails-7 s (k .0) e₃ e₄ e₅ e₆ (sym (c .before .immediates-right .ensures) ∙ not-true (c .before .immediates-right .result) (c .if4 .taken))
 
@@ -125,7 +125,7 @@ returns-7 c =
     let k = table-read s (c .before .before .before .before .before .before .before .before .before .before .before .before .before .before .before .before .sections .result) L (c .before .before .before .before .before .before .before .before .before .before .before .before .before .before .before .before .sections .ensures) (c .before .before .before .before .before .before .before .before .before .before .before .before .before .before .table .given .1) in
     let e₃ = sym (c .before .before .before .before .before .before .before .before .before .before .before .before .counts-right .ensures (tablesOf s) (sized s L (k .1))) ∙ not-false (c .before .before .before .before .before .before .before .before .before .before .before .before .counts-right .result) (c .before .before .before .before .before .before .before .before .before .before .before .if1 .left) in
     let e₄ = sym (c .before .before .before .before .before .before .before .before .before .before .types-right .ensures) ∙ not-false (c .before .before .before .before .before .before .before .before .before .before .types-right .result) (c .before .before .before .before .before .before .before .before .before .if2 .left) in
-    let e₅ = check-ok _ 5 _ (layoutOf s) (sym (ap answerOf (c .before .before .before .before .before .before .enum-told2 .given .1)) ∙ c .before .before .before .before .before .before .before .before .forms .ensures) .0 in
+    let e₅ = check-ok _ 5 _ (layoutOf s) (sym (ap programAnswer (c .before .before .before .before .before .before .enum-told2 .given .1)) ∙ c .before .before .before .before .before .before .before .before .forms .ensures) .0 in
     let e₆ = sym (c .before .before .before .before .before .all-agree .ensures) ∙ not-false (c .before .before .before .before .before .all-agree .result) (c .before .before .before .before .if3 .left) in
     let e₇ = sym (c .before .before .before .immediates-right .ensures) ∙ not-false (c .before .before .before .immediates-right .result) (c .before .before .if4 .left) in
     fails-8 s (k .0) e₃ e₄ e₅ e₆ e₇ (subst (λ (z : Bool). Matched z (treeOf (stmtsOf (tablesOf s)))) (not-true (c .before .blocks-right .result) (c .if5 .taken)) (c .before .blocks-right .ensures))
@@ -137,7 +137,7 @@ returns-8 c =
     let k = table-read s (c .before .before .before .before .before .before .before .before .before .before .before .before .before .before .before .before .sections .result) L (c .before .before .before .before .before .before .before .before .before .before .before .before .before .before .before .before .sections .ensures) (c .before .before .before .before .before .before .before .before .before .before .before .before .before .before .table .given .1) in
     let e₃ = sym (c .before .before .before .before .before .before .before .before .before .before .before .before .counts-right .ensures (tablesOf s) (sized s L (k .1))) ∙ not-false (c .before .before .before .before .before .before .before .before .before .before .before .before .counts-right .result) (c .before .before .before .before .before .before .before .before .before .before .before .if1 .left) in
     let e₄ = sym (c .before .before .before .before .before .before .before .before .before .before .types-right .ensures) ∙ not-false (c .before .before .before .before .before .before .before .before .before .before .types-right .result) (c .before .before .before .before .before .before .before .before .before .if2 .left) in
-    let e₅ = check-ok _ 5 _ (layoutOf s) (sym (ap answerOf (c .before .before .before .before .before .before .enum-told2 .given .1)) ∙ c .before .before .before .before .before .before .before .before .forms .ensures) .0 in
+    let e₅ = check-ok _ 5 _ (layoutOf s) (sym (ap programAnswer (c .before .before .before .before .before .before .enum-told2 .given .1)) ∙ c .before .before .before .before .before .before .before .before .forms .ensures) .0 in
     let e₆ = sym (c .before .before .before .before .before .all-agree .ensures) ∙ not-false (c .before .before .before .before .before .all-agree .result) (c .before .before .before .before .if3 .left) in
     let e₇ = sym (c .before .before .before .immediates-right .ensures) ∙ not-false (c .before .before .before .immediates-right .result) (c .before .before .if4 .left) in
     let m = subst (λ (z : Bool). Matched z (treeOf (stmtsOf (tablesOf s)))) (not-false (c .before .blocks-right .result) (c .if5 .left)) (c .before .blocks-right .ensures) in

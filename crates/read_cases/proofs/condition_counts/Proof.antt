@@ -2,7 +2,7 @@
 -- Assumes nothing.
 use mathlib.Core.Path.{sym, _∙_, ap}
 use borrow.Author.Needs.{needs}
-use Rattle.condition.specs.Answers.{outOf}
+use Rattle.condition.specs.Answers.{conditionAnswer}
 use Rattle.read_cases.proofs.condition_counts.Statement.{statement}
 use Rattle.read_cases.proofs.condition_counts.Tie as tie
 
@@ -43,7 +43,7 @@ say-requires : tie.Need-say-requires
 say-requires c κs = search needs
 
 types-requires : tie.Need-types-requires
-types-requires c κs = sym (c .before .before .before .before .before .before .before .before .before .read .ensures) ∙ ap outOf (c .before .before .before .before .before .before .before .r2 .given .1)
+types-requires c κs = sym (c .before .before .before .before .before .before .before .before .before .read .ensures) ∙ ap conditionAnswer (c .before .before .before .before .before .before .before .r2 .given .1)
 
 slice-aggregate-sheet-line : tie.Need-slice-aggregate-sheet-line
 slice-aggregate-sheet-line c = search needs

@@ -11,7 +11,7 @@ use Rattle.conjunct.specs.Value.{conjOf}
 use Rattle.rules.proofs.Additions.{added-store, added-in, added-full}
 use Rattle.rules.proofs.ByKind.{writes-kind}
 use Rattle.model.proofs.Skip.{before-none}
-use Rattle.rules.specs.Adding.{Short, Added}
+use Rattle.rules.specs.Adding.{NoneLong, Added}
 use Rattle.rules.specs.declared.Answer.the-variants.{Done, Refused}
 use Rattle.rules.proofs.add_before.Statement.{statement}
 use Rattle.rules.proofs.add_before.Tie as tie
@@ -32,7 +32,7 @@ returns c =
     let i = c .before .before .before .insert in
     let e = conjOf (a .e .now) (a .n) in
     let w = sym (c .before .before .before .before .before .before .touched .ensures) ∙ not-true _ (c .before .before .before .before .before .if1 .taken) in
-    (subst (λ R. Added (Refused 10) (λ G. a .d .kind ≡ 9 → Short G) R (a .room) (a .s .now) (i .last .0)) (sym (before-none (a .label) (instrOf (a .d)) e w (g .pre .8))) (added-full e (a .room) (a .s .now) (i .last .0) (i .result) (not-true _ (c .if2 .taken)) (a .d .kind) (g .pre .1) (g .pre .0 .1) (i .ensures .0)), i .ensures .1)
+    (subst (λ R. Added (Refused 10) (λ G. a .d .kind ≡ 9 → NoneLong G) R (a .room) (a .s .now) (i .last .0)) (sym (before-none (a .label) (instrOf (a .d)) e w (g .pre .8))) (added-full e (a .room) (a .s .now) (i .last .0) (i .result) (not-true _ (c .if2 .taken)) (a .d .kind) (g .pre .1) (g .pre .0 .1) (i .ensures .0)), i .ensures .1)
 
 same-length-2 : tie.Need-same-length-2
 same-length-2 c = search needs
@@ -44,7 +44,7 @@ returns-2 c =
     let i = c .before .before .before .insert in
     let e = conjOf (a .e .now) (a .n) in
     let w = sym (c .before .before .before .before .before .before .touched .ensures) ∙ not-true _ (c .before .before .before .before .before .if1 .taken) in
-    (subst (λ R. Added Done Short R (a .room) (a .s .now) (i .last .0)) (sym (before-none (a .label) (instrOf (a .d)) e w (g .pre .8))) (added-in e (a .room) (a .s .now) (i .last .0) (i .result) (not-false _ (c .if2 .left)) (i .ensures .0)), i .ensures .1)
+    (subst (λ R. Added Done NoneLong R (a .room) (a .s .now) (i .last .0)) (sym (before-none (a .label) (instrOf (a .d)) e w (g .pre .8))) (added-in e (a .room) (a .s .now) (i .last .0) (i .result) (not-false _ (c .if2 .left)) (i .ensures .0)), i .ensures .1)
 
 assign-one-requires : tie.Need-assign-one-requires
 assign-one-requires c κs =

@@ -6,7 +6,7 @@ use native.Mathlib.Omega.{arith}
 use lib.ListN.{length, getD, drop}
 use borrow.Author.Tests.{not-true, not-false}
 use borrow.Author.Needs.{needs}
-use Rattle.model.specs.Conjunct.{Atom, atom, var, union, renumber}
+use Rattle.model.specs.Conjunct.{Atom, atom, var, unionOf, renumber}
 use Rattle.model.specs.Walk.{subsets}
 use Rattle.node.specs.Word.{nodeOf, nodesOf}
 use Rattle.conjunct.specs.Value.{conjOf}
@@ -21,7 +21,7 @@ use Rattle.rules.proofs.add_subsets.Tie as tie
 abbrev Inv-loop : tie.InvT-loop
 Inv-loop s₀ room e n atoms k v out₀ seen₀ j₀ s out seen j =
     (j₀ ≡ 2 ^ k) × (j ≤ j₀) × (length s ≡ length s₀) × (length out ≡ length out₀) × (length seen ≡ length seen₀) × Within room s₀ s
-    × ((ks : List Atom) (x ty : ℕ) → conjOf atoms k ≡ map atom ks → nodeOf v ≡ var x ty → setOf s room ≡ union (drop j (Chosen ks x ty (conjOf e n))) (setOf s₀ room))
+    × ((ks : List Atom) (x ty : ℕ) → conjOf atoms k ≡ map atom ks → nodeOf v ≡ var x ty → setOf s room ≡ unionOf (drop j (Chosen ks x ty (conjOf e n))) (setOf s₀ room))
 
 abbrev μ-loop : tie.MeasureT-loop
 μ-loop s₀ room e n atoms k v out₀ seen₀ j₀ s out seen j = j

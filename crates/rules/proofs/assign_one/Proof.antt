@@ -5,7 +5,7 @@ use native.Mathlib.Omega.{arith}
 use Rattle.conjunct.specs.Value.{conjOf}
 use Rattle.numbering.proofs.Fresh.{right-fresh}
 use Rattle.rules.proofs.Assigning.{assigned-few, assigned-over, assigned-in}
-use Rattle.rules.specs.Adding.{sideOf, Short}
+use Rattle.rules.specs.Adding.{sideOf, NoneLong}
 use Rattle.rules.proofs.assign_one.Statement.{statement}
 use Rattle.rules.proofs.assign_one.Tie as tie
 
@@ -44,7 +44,7 @@ returns c =
     let a = g .args in
     let r = c .before .before .before .before .before .before .before .before .before .right-side in
     let u = c .before .before .before .before .before .before .substitute in
-    (assigned-over (a .d) (a .label) (conjOf (a .e .now) (a .n)) (g .pre .6) (r .result) (r .ensures .1) (u .result) (u .last .1 .1 .1 .1 .0) (u .ensures) (c .enum-told .given .1) (a .room) (a .s .now) (a .s .now) (λ G. a .d .kind ≡ 9 → Short G), λ i h. refl)
+    (assigned-over (a .d) (a .label) (conjOf (a .e .now) (a .n)) (g .pre .6) (r .result) (r .ensures .1) (u .result) (u .last .1 .1 .1 .1 .0) (u .ensures) (c .enum-told .given .1) (a .room) (a .s .now) (a .s .now) (λ G. a .d .kind ≡ 9 → NoneLong G), λ i h. refl)
 
 same-length-3 : tie.Need-same-length-3
 same-length-3 c = search needs
@@ -63,7 +63,7 @@ returns-2 c =
     let u = c .before .before .before .before .before .before .before .before .before .before .before .before .substitute in
     let m = c .before .before .before .before .before .before .t .given in
     let i = c .before .before .insert in
-    (assigned-in (a .d) (a .label) (conjOf (a .e .now) (a .n)) (g .pre .6) (r .result) (r .ensures .1) (u .result) (u .last .1 .1 .1 .1 .0) (u .ensures) (m .0 .0) (m .1) (a .room) (a .s .now) (i .last .0) (λ G. a .d .kind ≡ 9 → Short G) (g .pre .1) (i .result) (i .ensures .0), i .ensures .1)
+    (assigned-in (a .d) (a .label) (conjOf (a .e .now) (a .n)) (g .pre .6) (r .result) (r .ensures .1) (u .result) (u .last .1 .1 .1 .1 .0) (u .ensures) (m .0 .0) (m .1) (a .room) (a .s .now) (i .last .0) (λ G. a .d .kind ≡ 9 → NoneLong G) (g .pre .1) (i .result) (i .ensures .0), i .ensures .1)
 
 pub assign-one-spec : {M : Type 1} → statement M
 assign-one-spec =

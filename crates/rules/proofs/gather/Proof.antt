@@ -5,7 +5,7 @@ use Prim.Native.Nat.{_+_, _-_, _≤_}
 use native.Mathlib.Omega.{arith}
 use lib.ListN.{length, drop}
 use borrow.Author.Needs.{needs}
-use Rattle.model.specs.Conjunct.{Conj, Cond}
+use Rattle.model.specs.Conjunct.{Conj, Conjuncts}
 use Rattle.model.specs.Walk.{before, gather}
 use Rattle.machine.specs.Decoding.{instrOf}
 use Rattle.conjunct.specs.Value.{conjOf}
@@ -13,7 +13,7 @@ use Rattle.sets.proofs.Rows.{within-trans}
 use Rattle.sets.specs.Region.{setOf, Within}
 use Rattle.rules.proofs.ByKind.{before-one}
 use Rattle.rules.proofs.Gathering.{gather-none, gathered-few, gathered-canon, own-numbered, gathered-more, gathered-refused, store-premise, rule-refused, rule-done}
-use Rattle.rules.specs.Adding.{Short}
+use Rattle.rules.specs.Adding.{NoneLong}
 use Rattle.rules.proofs.gather.Statement.{statement}
 use Rattle.rules.proofs.gather.Tie as tie
 
@@ -77,7 +77,7 @@ loop-again c =
     let next : lp .k - 1 + 1 ≡ lp .k = omega (arith, c .before .before .before .before .before .before .before .before .before .before .before .before .before .before .before .before .before .before .loop-test .taken) in
     let few : lp .k ≤ length (setOf (a .s .now) (a .b)) = omega (arith, lp .inv .0, lp .inv .1) in
     let r = c .before .before .before .before .before .before .before .before .add-before in
-    let P : Cond → Type 0 = λ G. a .d .kind ≡ 9 → Short G in
+    let P : Conjuncts → Type 0 = λ G. a .d .kind ≡ 9 → NoneLong G in
     let t = gathered-more f (a .s .now) (lp .s) (r .last .0) (a .b) (a .room) (lp .k) (lp .k - 1) (conjOf (e .last .1 .1 .1 .0) (e .result)) (g .pre .0) (g .pre .1) (lp .inv .3) (lp .inv .7) next few (e .ensures .1) P (lp .inv .8) (r .result) (c .enum-told .given .1) (r .ensures .0) in (
       omega (arith, lp .inv .0),
       lp .inv .1,
@@ -115,7 +115,7 @@ returns c =
     let next : lp .k - 1 + 1 ≡ lp .k = omega (arith, c .before .before .before .before .before .before .before .before .before .before .before .before .before .before .before .before .before .before .before .loop-test .taken) in
     let few : lp .k ≤ length (setOf (a .s .now) (a .b)) = omega (arith, lp .inv .0, lp .inv .1) in
     let r = c .before .before .before .before .before .before .before .before .before .add-before in
-    let P : Cond → Type 0 = λ G. a .d .kind ≡ 9 → Short G in
+    let P : Conjuncts → Type 0 = λ G. a .d .kind ≡ 9 → NoneLong G in
     let n = c .before .answer .given .0 .0 in
     let t = gathered-refused f (a .s .now) (lp .s) (r .last .0) (a .b) (a .room) (lp .k) (lp .k - 1) (conjOf (e .last .1 .1 .1 .0) (e .result)) (g .pre .0) (g .pre .1) (lp .inv .3) (lp .inv .7) next few (e .ensures .1) P (lp .inv .8) (r .result) n (c .before .answer .given .1) (r .ensures .0) (store-premise (a .d) (a .label) (a .s .now) (a .b)) in
     (rule-refused (a .label) (instrOf (a .d)) (setOf (a .s .now) (a .b)) n t, within-trans (a .room) (a .s .now) (lp .s) (r .last .0) (lp .inv .7) (r .ensures .1))

@@ -3,7 +3,7 @@ use mathlib.Core.Path.{subst}
 use borrow.Author.Needs.{needs}
 use Rattle.conjunct.specs.Value.{conjOf}
 use Rattle.rules.proofs.ByKind.{before-cell, before-cells}
-use Rattle.rules.specs.Adding.{Short, Added}
+use Rattle.rules.specs.Adding.{NoneLong, Added}
 use Rattle.rules.proofs.store_one.Statement.{statement}
 use Rattle.rules.proofs.store_one.Tie as tie
 
@@ -30,7 +30,7 @@ returns c =
     let g = c .before .before .before .before .before .before .before .before .before .before .before .before .before .before .before .before .before in
     let a = g .args in
     let r = c .before .before .before .before .before .before .store-cell in
-    (λ l. subst (λ R. Added (r .result) Short R (a .room) (a .s .now) (r .last .0)) (before-cell (a .d) l (conjOf (a .e .now) (a .n)) (g .pre .4) (c .before .before .before .before .before .before .before .before .before .before .if1 .taken)) (r .ensures .0 (a .d .c) (a .d .ty) (c .before .before .before .before .before .before .before .before .before .before .before .variable .ensures)), r .ensures .1)
+    (λ l. subst (λ R. Added (r .result) NoneLong R (a .room) (a .s .now) (r .last .0)) (before-cell (a .d) l (conjOf (a .e .now) (a .n)) (g .pre .4) (c .before .before .before .before .before .before .before .before .before .before .if1 .taken)) (r .ensures .0 (a .d .c) (a .d .ty) (c .before .before .before .before .before .before .before .before .before .before .before .variable .ensures)), r .ensures .1)
 
 store-subsets-requires : tie.Need-store-subsets-requires
 store-subsets-requires c κs = search needs
@@ -49,7 +49,7 @@ returns-2 c =
     let g = c .before .before .before .before .before .before .before .before .before .before .before .before .before .before .before .before .before in
     let a = g .args in
     let r = c .before .before .before .before .before .before .store-subsets in
-    (λ l. subst (λ R. Added (r .result) Short R (a .room) (a .s .now) (r .last .0)) (before-cells (a .d) l (conjOf (a .e .now) (a .n)) (g .pre .4) (c .before .before .before .before .before .before .before .before .before .before .if1 .left)) (r .ensures .0 (a .d .c) (a .d .ty) (c .before .before .before .before .before .before .before .before .before .before .before .variable .ensures)), r .ensures .1)
+    (λ l. subst (λ R. Added (r .result) NoneLong R (a .room) (a .s .now) (r .last .0)) (before-cells (a .d) l (conjOf (a .e .now) (a .n)) (g .pre .4) (c .before .before .before .before .before .before .before .before .before .before .if1 .left)) (r .ensures .0 (a .d .c) (a .d .ty) (c .before .before .before .before .before .before .before .before .before .before .before .variable .ensures)), r .ensures .1)
 
 pub store-one-spec : {M : Type 1} → statement M
 store-one-spec =

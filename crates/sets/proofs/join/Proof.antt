@@ -5,7 +5,7 @@ use native.Mathlib.Omega.{arith}
 use lib.ListN.{length, drop}
 use borrow.Author.Needs.{needs}
 use borrow.Author.Tests.{not-true, not-false}
-use Rattle.model.specs.Conjunct.{union}
+use Rattle.model.specs.Conjunct.{unionOf}
 use Rattle.conjunct.specs.Value.{conjOf}
 use Rattle.sets.proofs.Inserting.{turn-over, turn-done, union-none}
 use Rattle.sets.proofs.Rows.{within-trans}
@@ -14,7 +14,7 @@ use Rattle.sets.proofs.join.Statement.{statement}
 use Rattle.sets.proofs.join.Tie as tie
 
 abbrev Inv-loop : tie.InvT-loop
-Inv-loop s₀ to from words₀ k₀ s words k = (k ≤ k₀) × (k₀ ≡ length (setOf s₀ from)) × (length s ≡ length s₀) × (length words ≡ length words₀) × Within to s₀ s × (setOf s to ≡ union (drop k (setOf s₀ from)) (setOf s₀ to))
+Inv-loop s₀ to from words₀ k₀ s words k = (k ≤ k₀) × (k₀ ≡ length (setOf s₀ from)) × (length s ≡ length s₀) × (length words ≡ length words₀) × Within to s₀ s × (setOf s to ≡ unionOf (drop k (setOf s₀ from)) (setOf s₀ to))
 
 abbrev μ-loop : tie.MeasureT-loop
 μ-loop s₀ to from words₀ k₀ s words k = k

@@ -10,7 +10,7 @@ use borrow.Author.Needs.{needs}
 use Rattle.program.specs.Reading.{tablesOf, statementOf, stmtAt}
 use Rattle.sets.specs.Region.{setOf}
 use Rattle.machine.specs.Decoding.{instrOf}
-use Rattle.mentions.specs.Mentioned.{Speaks}
+use Rattle.footprint.specs.Footprints.{CoversSet}
 use Rattle.rules.specs.Answers.{answered, Below}
 use Rattle.model.specs.Code.{Stmt}
 use Rattle.model.proofs.Laid.{Laid, laid-le}
@@ -36,9 +36,9 @@ use Rattle.walk.proofs.walk.Reads as walk
 use Rattle.walk.proofs.walk.Kinds as walk-kinds
 use Rattle.walk.proofs.+branch+rounds+turn+walk.Lts-walk as walk-lts
 use Rattle.decoding.proofs.decoded.Reads as decoded-reads
-use Rattle.mentions.proofs.mentioned.Reads as mentioned-reads
-use Rattle.mentions.proofs.passed.Reads as passed-reads
-use Rattle.mentions.proofs.quiet.Reads as quiet-reads
+use Rattle.footprint.proofs.of_set.Reads as of-set-reads
+use Rattle.footprint.proofs.spared_plain.Reads as spared-plain-reads
+use Rattle.footprint.proofs.spares_all.Reads as spares-all-reads
 use Rattle.walk.proofs.beginning.Reads as beginning-reads
 use Rattle.walk.proofs.close_branch.Reads as close-branch-reads
 use Rattle.walk.proofs.close_round.Reads as close-round-reads
@@ -566,7 +566,7 @@ walk-Inv-loop program layout table s₀ depth b p q m₀ r₀ s m r =
     (r ≤ q)
     × (length s ≡ length s₀)
     × Below b s₀ s
-    × Speaks m (setOf s b)
+    × CoversSet m (setOf s b)
     × Stands (stmts program) (mates table) depth p q r (setOf s₀ b) (setOf s b)
 
 abbrev walk-μ-loop : walk-lts.MeasureT-loop
@@ -574,13 +574,13 @@ walk-μ-loop program layout table s₀ depth b p q m₀ r₀ s m r = r
 
 -- what `walk` may ask of its callees, and what it learns
 abbrev walk-told : ℕ → walk-lts.Claims
-walk-told t = (mentioned-reads.Asked, mentioned-reads.Learnt, passed-reads.Asked, passed-reads.Learnt, beginning-reads.Asked, beginning-reads.Learnt, quiet-reads.Asked, quiet-reads.Learnt, turn-below t, turn.Post)
+walk-told t = (of-set-reads.Asked, of-set-reads.Learnt, spared-plain-reads.Asked, spared-plain-reads.Learnt, beginning-reads.Asked, beginning-reads.Learnt, spares-all-reads.Asked, spares-all-reads.Learnt, turn-below t, turn.Post)
 
-walk-mentioned-requires : (t : ℕ) → walk-lts.Need-mentioned-requires (walk-told t) (walk-at t) walk.Post walk-Inv-loop walk-μ-loop
-walk-mentioned-requires t c κs = search needs
+walk-of-set-requires : (t : ℕ) → walk-lts.Need-of-set-requires (walk-told t) (walk-at t) walk.Post walk-Inv-loop walk-μ-loop
+walk-of-set-requires t c κs = search needs
 
-walk-passed-requires : (t : ℕ) → walk-lts.Need-passed-requires (walk-told t) (walk-at t) walk.Post walk-Inv-loop walk-μ-loop
-walk-passed-requires t c κs =
+walk-spared-plain-requires : (t : ℕ) → walk-lts.Need-spared-plain-requires (walk-told t) (walk-at t) walk.Post walk-Inv-loop walk-μ-loop
+walk-spared-plain-requires t c κs =
     let i = c .before .before .before .before .before in
     let a = i .args in
     let p = i .pre .1 in
@@ -593,7 +593,7 @@ walk-loop-holds t c =
     let i = c .before .before .before .before .before .before in
     let a = i .args in
     let p = i .pre .1 in
-    let o = c .passed in
+    let o = c .spared-plain in
     let S = setOf (a .s .now) (a .b) in
     let stmt = stmts (a .program .now) in
     let mate = mates (a .table .now) in
@@ -601,8 +601,8 @@ walk-loop-holds t c =
       o .ensures .1,
       refl,
       below-self (a .b) (a .s .now),
-      c .before .mentioned .ensures,
-      stands-over stmt mate (a .depth) (a .p) (a .q) (o .result) (a .q) S S y (c .before .mentioned .result) (c .before .mentioned .ensures) (o .ensures .0) (o .ensures .1) (o .ensures .2),
+      c .before .of-set .ensures,
+      stands-over stmt mate (a .depth) (a .p) (a .q) (o .result) (a .q) S S y (c .before .of-set .result) (c .before .of-set .ensures) (o .ensures .0) (o .ensures .1) (o .ensures .2),
     )
 
 walk-sub-beginning : (t : ℕ) → walk-lts.Need-sub-beginning (walk-told t) (walk-at t) walk.Post walk-Inv-loop walk-μ-loop
@@ -611,15 +611,15 @@ walk-sub-beginning t c = search needs
 walk-beginning-requires : (t : ℕ) → walk-lts.Need-beginning-requires (walk-told t) (walk-at t) walk.Post walk-Inv-loop walk-μ-loop
 walk-beginning-requires t c κs = search needs
 
-walk-quiet-requires : (t : ℕ) → walk-lts.Need-quiet-requires (walk-told t) (walk-at t) walk.Post walk-Inv-loop walk-μ-loop
-walk-quiet-requires t c κs =
+walk-spares-all-requires : (t : ℕ) → walk-lts.Need-spares-all-requires (walk-told t) (walk-at t) walk.Post walk-Inv-loop walk-μ-loop
+walk-spares-all-requires t c κs =
     let h = c .before .before in
     let i = h .before .before .before .before .before .before .before in
     let p = i .pre .1 in
     (p .0 .placed, omega (arith, h .loop .inv .0, p .1))
 
-walk-passed-requires-2 : (t : ℕ) → walk-lts.Need-passed-requires-2 (walk-told t) (walk-at t) walk.Post walk-Inv-loop walk-μ-loop
-walk-passed-requires-2 t c κs =
+walk-spared-plain-requires-2 : (t : ℕ) → walk-lts.Need-spared-plain-requires-2 (walk-told t) (walk-at t) walk.Post walk-Inv-loop walk-μ-loop
+walk-spared-plain-requires-2 t c κs =
     let f = c .before .before in
     let g = f .before in
     let h = g .before in
@@ -641,7 +641,7 @@ walk-loop-less t c =
     let stmt = stmts (a .program .now) in
     let mate = mates (a .table .now) in
     let y = stands-bounds stmt mate (a .depth) (a .p) (a .q) (f .beginning .result) (h .loop .r) (setOf (a .s .now) (a .b)) (setOf (h .loop .s) (a .b)) (h .loop .inv .4) (g .loop-test .taken) (f .beginning .ensures) in
-    omega (arith, y .1, c .passed2 .ensures .1)
+    omega (arith, y .1, c .spared-plain2 .ensures .1)
 
 walk-loop-again : (t : ℕ) → walk-lts.Need-loop-again (walk-told t) (walk-at t) walk.Post walk-Inv-loop walk-μ-loop
 walk-loop-again t c =
@@ -650,11 +650,11 @@ walk-loop-again t c =
     let h = g .before in
     let i = h .before .before .before .before .before .before .before in
     let a = i .args in
-    let o = c .passed2 in
+    let o = c .spared-plain2 in
     let stmt = stmts (a .program .now) in
     let mate = mates (a .table .now) in
     let y = stands-bounds stmt mate (a .depth) (a .p) (a .q) (f .beginning .result) (h .loop .r) (setOf (a .s .now) (a .b)) (setOf (h .loop .s) (a .b)) (h .loop .inv .4) (g .loop-test .taken) (f .beginning .ensures) in
-    let z = stands-passed stmt mate (a .depth) (a .p) (a .q) (f .beginning .result) (h .loop .r) (setOf (a .s .now) (a .b)) (setOf (h .loop .s) (a .b)) (h .loop .inv .4) (g .loop-test .taken) (f .beginning .ensures) (h .loop .m) (h .loop .inv .3) (c .before .before .quiet .ensures (c .before .if1 .taken)) in (
+    let z = stands-passed stmt mate (a .depth) (a .p) (a .q) (f .beginning .result) (h .loop .r) (setOf (a .s .now) (a .b)) (setOf (h .loop .s) (a .b)) (h .loop .inv .4) (g .loop-test .taken) (f .beginning .ensures) (h .loop .m) (h .loop .inv .3) (c .before .before .spares-all .ensures (c .before .if1 .taken)) in (
       omega (arith, y .1, o .ensures .1, h .loop .inv .0),
       h .loop .inv .1,
       h .loop .inv .2,
@@ -698,8 +698,8 @@ walk-returns t c =
 walk-enum-told : (t : ℕ) → walk-lts.Need-enum-told (walk-told t) (walk-at t) walk.Post walk-Inv-loop walk-μ-loop
 walk-enum-told t c = search needs
 
-walk-mentioned-requires-2 : (t : ℕ) → walk-lts.Need-mentioned-requires-2 (walk-told t) (walk-at t) walk.Post walk-Inv-loop walk-μ-loop
-walk-mentioned-requires-2 t c κs =
+walk-of-set-requires-2 : (t : ℕ) → walk-lts.Need-of-set-requires-2 (walk-told t) (walk-at t) walk.Post walk-Inv-loop walk-μ-loop
+walk-of-set-requires-2 t c κs =
     let w = c .before .before .before .before .before in
     let f = w .before .before .before .before in
     let g = f .before in
@@ -709,8 +709,8 @@ walk-mentioned-requires-2 t c κs =
     let p = i .pre .1 in
     omega (arith, p .3, h .loop .inv .1, w .turn .kept .1 .1 .1 .0)
 
-walk-passed-requires-3 : (t : ℕ) → walk-lts.Need-passed-requires-3 (walk-told t) (walk-at t) walk.Post walk-Inv-loop walk-μ-loop
-walk-passed-requires-3 t c κs =
+walk-spared-plain-requires-3 : (t : ℕ) → walk-lts.Need-spared-plain-requires-3 (walk-told t) (walk-at t) walk.Post walk-Inv-loop walk-μ-loop
+walk-spared-plain-requires-3 t c κs =
     let f = c .before .before .before .before .before .before .before .before .before .before in
     let g = f .before in
     let h = g .before in
@@ -732,7 +732,7 @@ walk-loop-less-2 t c =
     let stmt = stmts (a .program .now) in
     let mate = mates (a .table .now) in
     let y = stands-bounds stmt mate (a .depth) (a .p) (a .q) (f .beginning .result) (h .loop .r) (setOf (a .s .now) (a .b)) (setOf (h .loop .s) (a .b)) (h .loop .inv .4) (g .loop-test .taken) (f .beginning .ensures) in
-    omega (arith, y .1, c .passed3 .ensures .1)
+    omega (arith, y .1, c .spared-plain3 .ensures .1)
 
 walk-loop-again-2 : (t : ℕ) → walk-lts.Need-loop-again-2 (walk-told t) (walk-at t) walk.Post walk-Inv-loop walk-μ-loop
 walk-loop-again-2 t c =
@@ -744,7 +744,7 @@ walk-loop-again-2 t c =
     let h = g .before in
     let i = h .before .before .before .before .before .before .before in
     let a = i .args in
-    let o = c .passed3 in
+    let o = c .spared-plain3 in
     let v = w .turn .last .1 .1 .1 .0 in
     let stmt = stmts (a .program .now) in
     let mate = mates (a .table .now) in
@@ -753,8 +753,8 @@ walk-loop-again-2 t c =
       omega (arith, y .1, o .ensures .1, h .loop .inv .0),
       w .turn .kept .1 .1 .1 .0 ∙ h .loop .inv .1,
       below-trans (a .b) (a .s .now) (h .loop .s) v (h .loop .inv .2) (w .turn .ensures .1),
-      k .mentioned2 .ensures,
-      stands-over stmt mate (a .depth) (a .p) (a .q) (o .result) (f .beginning .result) (setOf (a .s .now) (a .b)) (setOf v (a .b)) z (k .mentioned2 .result) (k .mentioned2 .ensures) (o .ensures .0) (o .ensures .1) (o .ensures .2),
+      k .of-set2 .ensures,
+      stands-over stmt mate (a .depth) (a .p) (a .q) (o .result) (f .beginning .result) (setOf (a .s .now) (a .b)) (setOf v (a .b)) z (k .of-set2 .result) (k .of-set2 .ensures) (o .ensures .0) (o .ensures .1) (o .ensures .2),
     )
 
 walk-same-length-2 : (t : ℕ) → walk-lts.Need-same-length-2 (walk-told t) (walk-at t) walk.Post walk-Inv-loop walk-μ-loop
@@ -842,13 +842,13 @@ pub +branch+rounds+turn+walk-spec : {M : Type 1} → statement M
     walk.Post
     walk-Inv-loop
     walk-μ-loop
-    (walk-mentioned-requires t)
-    (walk-passed-requires t)
+    (walk-of-set-requires t)
+    (walk-spared-plain-requires t)
     (walk-loop-holds t)
     (walk-sub-beginning t)
     (walk-beginning-requires t)
-    (walk-quiet-requires t)
-    (walk-passed-requires-2 t)
+    (walk-spares-all-requires t)
+    (walk-spared-plain-requires-2 t)
     (walk-loop-less t)
     (walk-loop-again t)
     (walk-turn-requires t)
@@ -856,8 +856,8 @@ pub +branch+rounds+turn+walk-spec : {M : Type 1} → statement M
     (walk-same-length t)
     (walk-returns t)
     (walk-enum-told t)
-    (walk-mentioned-requires-2 t)
-    (walk-passed-requires-3 t)
+    (walk-of-set-requires-2 t)
+    (walk-spared-plain-requires-3 t)
     (walk-loop-less-2 t)
     (walk-loop-again-2 t)
     (walk-same-length-2 t)

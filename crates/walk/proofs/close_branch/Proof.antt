@@ -1,7 +1,7 @@
 -- `walk::close_branch` meets its contract. Assumes nothing.
 use mathlib.Core.Logic.{inl, inr}
 use native.Mathlib.Omega.{arith}
-use Rattle.model.specs.Conjunct.{union, limits}
+use Rattle.model.specs.Conjunct.{unionOf, limits}
 use Rattle.sets.specs.Region.{setOf}
 use Prim.Native.Nat.{_+_}
 use Rattle.walk.proofs.Regions.{within-below, answer-done, answer-refused, branch-closed}
@@ -44,7 +44,7 @@ returns-2 c =
     let a = c .before .before .before .before .before .before .before .before .before .before .before .args in
     let u = c .before .before .before .before .before .before .before .before .unite in
     let w = c .before .before .copy in
-    let o = limits (union (setOf (a .s .now) (a .b + 7745)) (setOf (a .s .now) (a .b + 15490))) in
+    let o = limits (unionOf (setOf (a .s .now) (a .b + 7745)) (setOf (a .s .now) (a .b + 15490))) in
     let e = answer-done (u .result) o (setOf (u .last .0) (a .b + 15490)) (u .ensures .0) (c .before .before .before .before .enum-told .given .1) in
     branch-closed (a .s .now) (u .last .0) (a .b) (omega arith) (u .kept .0) (w .last .0) (w .kept .0) o e (u .ensures .1) (w .ensures .0) (w .ensures .1)
 

@@ -2,7 +2,7 @@
 use mathlib.Core.Logic.{inl, inr}
 use mathlib.Core.Path.{_∙_, sym}
 use native.Mathlib.Omega.{arith}
-use Rattle.model.specs.Conjunct.{union, limits}
+use Rattle.model.specs.Conjunct.{unionOf, limits}
 use Rattle.sets.specs.Region.{setOf}
 use Prim.Native.Nat.{_+_}
 use Rattle.walk.proofs.Regions.{within-below, answer-done, answer-refused, closed-settled, closed-again}
@@ -39,7 +39,7 @@ returns c =
     let a = c .before .before .before .before .before .before .before .before .before .before .before .before .before .before .args in
     let u = c .before .before .before .before .before .before .before .before .before .before .before .unite in
     let w = c .before .before .copy in
-    let o = limits (union (setOf (a .s .now) (a .b)) (setOf (a .s .now) (a .b + 15490))) in
+    let o = limits (unionOf (setOf (a .s .now) (a .b)) (setOf (a .s .now) (a .b + 15490))) in
     let e = answer-done (u .result) o (setOf (u .last .0) (a .b + 15490)) (u .ensures .0) (c .before .before .before .before .before .before .before .enum-told .given .1) in
     closed-settled (a .s .now) (u .last .0) (a .b) (omega arith) (u .kept .0) (w .last .0) (w .kept .0) (u .ensures .1) e (sym (c .before .before .before .before .before .equal .ensures) ∙ c .before .before .before .before .if1 .taken) (w .ensures .0) (w .ensures .1)
 
@@ -63,7 +63,7 @@ returns-3 c =
     let a = c .before .before .before .before .before .before .before .before .before .before .before .before .before .before .args in
     let u = c .before .before .before .before .before .before .before .before .before .before .before .unite in
     let w = c .before .before .copy2 in
-    let o = limits (union (setOf (a .s .now) (a .b)) (setOf (a .s .now) (a .b + 15490))) in
+    let o = limits (unionOf (setOf (a .s .now) (a .b)) (setOf (a .s .now) (a .b + 15490))) in
     let e = answer-done (u .result) o (setOf (u .last .0) (a .b + 15490)) (u .ensures .0) (c .before .before .before .before .before .before .before .enum-told .given .1) in
     closed-again (a .s .now) (u .last .0) (a .b) (omega arith) (u .kept .0) (w .last .0) (w .kept .0) (u .ensures .1) e (sym (c .before .before .before .before .before .equal .ensures) ∙ c .before .before .before .before .if1 .left) (w .ensures .0) (w .ensures .1)
 

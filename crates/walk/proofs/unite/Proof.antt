@@ -2,7 +2,7 @@
 use mathlib.Core.Path.{sym, ap, subst, _∙_}
 use Prim.Native.Nat.{_≤_}
 use lib.ListN.{length}
-use Rattle.model.specs.Conjunct.{union}
+use Rattle.model.specs.Conjunct.{unionOf}
 use Rattle.model.specs.Refusals.{ok}
 use Rattle.sets.specs.Region.{setOf, Joined}
 use Rattle.walk.proofs.Regions.{set-few, union-within, union-over}
@@ -24,7 +24,7 @@ returns c =
     let R = setOf (a .s .now) (a .from) in
     let S = setOf (a .s .now) (a .to) in
     let e = subst (λ r. Joined r (a .from) (a .to) (a .s .now) (u .last .0)) (c .if1 .taken) (u .ensures .0) in
-    let few : length (union R S) ≤ 64 = subst (λ x. length x ≤ 64) e (set-few (u .last .0) (a .to)) in
+    let few : length (unionOf R S) ≤ 64 = subst (λ x. length x ≤ 64) e (set-few (u .last .0) (a .to)) in
     (union-within R S (p .3) (p .4) few ∙ ap ok (sym e), u .ensures .1)
 
 same-length-2 : tie.Need-same-length-2

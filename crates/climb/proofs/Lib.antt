@@ -1,4 +1,0 @@
-pub mod Around
-pub mod Leaving
-pub mod Walked
-pub mod Climbing

@@ -1,0 +1,4 @@
+pub mod Around
+pub mod Leaving
+pub mod Walked
+pub mod WalkingOut
