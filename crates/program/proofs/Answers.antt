@@ -1,56 +1,110 @@
--- The reader's answer, by the first of checks 2 to 8 that fails.
--- Assumes nothing.
-use mathlib.Core.Path.{_≡_}
-use mathlib.Core.Bool.{true, false}
+-- The reader's answer as a chain of checks, 2 to 8; and what the answer to the middle ones says where they pass and where one refuses.
+use mathlib.Core.Path.{_≡_, refl, sym, ap, _∙_}
+use mathlib.Core.Bool.{Bool, true, false}
 use mathlib.Core.List.{List, map}
-use Prim.Native.Nat.{ℕ}
-use Rattle.model.specs.Lists.{every}
-use Rattle.model.specs.Refusals.{Out, ok, refused, mapped}
+use Prim.Native.Nat.{ℕ, _+_, _*_}
+use native.Mathlib.Omega.{arith}
 use Rattle.model.specs.Code.{Code, treeOf}
-use Rattle.model.specs.Program.{Tables, Layout, layoutOf, sectionsRight, countsRight, typesRight, formRight, typesAgree, immediateRight, stmtOf, readProgram}
-use Rattle.program.specs.Reading.{tablesOf}
+use Rattle.model.specs.Lists.{every}
+use Rattle.model.specs.Program.{Layout as Sections, Program, layoutOf, sectionsRight, countsRight, typesRight, formRight, typesAgree, immediateRight, readProgram}
+use Rattle.model.specs.Refusals.{Out, ok, refused, _>>=_, mapped, check}
+use Rattle.model.proofs.Results.{refused-ok}
+use Rattle.program.specs.declared.Layout.{Layout}
+use Rattle.program.specs.Reading.{layoutFrom, Placed, tablesOf, stmtsOf, statementChecks, blockCheck, tableChecks}
+
+-- ---- the whole
+
+-- a part of a result behind a test
+mapped-past : {A B : Type 0} (f : A → B) (b : Bool) (n : ℕ) (o : Out A) → mapped f (check b n o) ≡ check b n (mapped f o)
+mapped-past f true n o = refl
+mapped-past f false n o = refl
+
+mapped-bind : {A B C : Type 0} (g : B → C) (h : A → C) (f : A → B) (o : Out A) → ((a : A) → g (f a) ≡ h a) → mapped g (o >>= λ a. ok (f a)) ≡ mapped h o
+mapped-bind g h f (ok a) e = ap ok (e a)
+mapped-bind g h f (refused n) e = refl
+
+pub by-checks : (s : List ℕ) → mapped (λ P. layoutOf s) (readProgram s) ≡ check (sectionsRight s) 2 (tableChecks s)
+unfolding readProgram
+by-checks s =
+    let T = tablesOf s in
+    let g : Program → Sections = λ P. layoutOf s in
+    let tree : Out Program = treeOf (stmtsOf T) >>= λ c. ok (record { tables = T; code = c }) in
+    let in₇ = check (every (immediateRight T) (T .statements)) 7 tree in
+    let in₆ = check (every (typesAgree T) (T .statements)) 6 in₇ in
+    let in₅ = check (every (formRight T) (T .statements)) 5 in₆ in
+    let in₄ = check (typesRight T) 4 in₅ in
+    mapped-past g (sectionsRight s) 2 (check (countsRight T) 3 in₄)
+    ∙ ap (check (sectionsRight s) 2) (mapped-past g (countsRight T) 3 in₄
+    ∙ ap (check (countsRight T) 3) (mapped-past g (typesRight T) 4 in₅
+    ∙ ap (check (typesRight T) 4) (mapped-past g (every (formRight T) (T .statements)) 5 in₆
+    ∙ ap (check (every (formRight T) (T .statements)) 5) (mapped-past g (every (typesAgree T) (T .statements)) 6 in₇
+    ∙ ap (check (every (typesAgree T) (T .statements)) 6) (mapped-past g (every (immediateRight T) (T .statements)) 7 tree
+    ∙ ap (check (every (immediateRight T) (T .statements)) 7) (mapped-bind g (λ c. layoutOf s) (λ c. record { tables = T; code = c }) (treeOf (stmtsOf T)) (λ c. refl)))))))
+
+-- ---- checks 5 to 7
+
+module _ {A : Type 0} (b₅ b₆ b₇ : Bool) (y : A) where
+  -- the three tests in their order, and then o
+  abbrev three : Out A → Out A
+  three o = check b₅ 5 (check b₆ 6 (check b₇ 7 o))
+
+  three-pass : (x : A) → ok x ≡ three (ok y) → (b₅ ≡ true) × (b₆ ≡ true) × (b₇ ≡ true) × (x ≡ y)
+  three-pass = go b₅ b₆ b₇
+    where
+      go : (p q r : Bool) (x : A) → ok x ≡ check p 5 (check q 6 (check r 7 (ok y))) → (p ≡ true) × (q ≡ true) × (r ≡ true) × (x ≡ y)
+      go true true true x e = (refl, refl, refl, cc)
+      go true true false x e = absurd (refused-ok 7 x (sym e))
+      go true false r x e = absurd (refused-ok 6 x (sym e))
+      go false q r x e = absurd (refused-ok 5 x (sym e))
+
+  three-refused : (m : ℕ) (o x : Out A) → x ≡ refused m → x ≡ three (ok y) → x ≡ three o
+  three-refused m o x = go b₅ b₆ b₇
+    where
+      go : (p q r : Bool) → x ≡ refused m → x ≡ check p 5 (check q 6 (check r 7 (ok y))) → x ≡ check p 5 (check q 6 (check r 7 o))
+      go true true true e h = cc
+      go true true false e h = h
+      go true false r e h = h
+      go false q r e h = h
 
 module _ (s : List ℕ) where
-  abbrev pub answer : Out Layout
-  answer = mapped (λ P. layoutOf s) (readProgram s)
+  -- the tests, by their numbers
+  abbrev form : Bool
+  form = every (formRight (tablesOf s)) (tablesOf s .statements)
 
-  abbrev T : Tables
-  T = tablesOf s
+  abbrev agree : Bool
+  agree = every (typesAgree (tablesOf s)) (tablesOf s .statements)
 
-  pub fails-2 : sectionsRight s ≡ false → refused 2 ≡ answer
-  unfolding readProgram
-  fails-2 a = rw a
+  abbrev inside : Bool
+  inside = every (immediateRight (tablesOf s)) (tablesOf s .statements)
 
-  module _ (e₂ : sectionsRight s ≡ true) where
-    pub fails-3 : countsRight T ≡ false → refused 3 ≡ answer
-    unfolding readProgram
-    fails-3 a = rw (e₂, a)
+  -- where they pass, what follows them counts
+  pub statements-pass : (x y : Sections) → ok x ≡ statementChecks s (ok y) → ((o : Out Sections) → o ≡ statementChecks s o) × (x ≡ y)
+  statements-pass x y e =
+      let k = three-pass form agree inside y x e in
+      (λ o. rw (k .0, k .1, k .2), k .3)
 
-    module _ (e₃ : countsRight T ≡ true) where
-      pub fails-4 : typesRight T ≡ false → refused 4 ≡ answer
-      unfolding readProgram
-      fails-4 a = rw (e₂, e₃, a)
+  -- where one refuses, it refuses whatever follows
+  pub statements-refused : (m : ℕ) (y : Sections) (o x : Out Sections) → x ≡ refused m → x ≡ statementChecks s (ok y) → x ≡ statementChecks s o
+  statements-refused m y o x e h = three-refused form agree inside y m o x e h
 
-      module _ (e₄ : typesRight T ≡ true) where
-        pub fails-5 : every (formRight T) (T .statements) ≡ false → refused 5 ≡ answer
-        unfolding readProgram
-        fails-5 a = rw (e₂, e₃, e₄, a)
+-- ---- a layout that is the byte string's own, twice
 
-        module _ (e₅ : every (formRight T) (T .statements) ≡ true) where
-          pub fails-6 : every (typesAgree T) (T .statements) ≡ false → refused 6 ≡ answer
-          unfolding readProgram
-          fails-6 a = rw (e₂, e₃, e₄, e₅, a)
-
-          module _ (e₆ : every (typesAgree T) (T .statements) ≡ true) where
-            pub fails-7 : every (immediateRight T) (T .statements) ≡ false → refused 7 ≡ answer
-            unfolding readProgram
-            fails-7 a = rw (e₂, e₃, e₄, e₅, e₆, a)
-
-            module _ (e₇ : every (immediateRight T) (T .statements) ≡ true) where
-              pub fails-8 : treeOf (map (stmtOf T) (T .statements)) ≡ refused 8 → refused 8 ≡ answer
-              unfolding readProgram
-              fails-8 a = rw (e₂, e₃, e₄, e₅, e₆, e₇, a)
-
-              pub passes-8 : (c : Code) → treeOf (map (stmtOf T) (T .statements)) ≡ ok c → ok (layoutOf s) ≡ answer
-              unfolding readProgram
-              passes-8 c a = rw (e₂, e₃, e₄, e₅, e₆, e₇, a)
+pub placed-same : (s : List ℕ) (K L : Layout) → layoutFrom K ≡ layoutOf s → Placed s L → Placed s K
+placed-same s K L e h =
+    let same : layoutFrom K ≡ layoutFrom L = e ∙ sym (h .layout) in
+    let e₁ : K .«fields_at» ≡ L .«fields_at» = ap (λ (M : Sections). M .fieldsAt) same in
+    let e₂ : K .fields ≡ L .fields = ap (λ (M : Sections). M .fields) same in
+    let e₃ : K .«variables_at» ≡ L .«variables_at» = ap (λ (M : Sections). M .variablesAt) same in
+    let e₄ : K .variables ≡ L .variables = ap (λ (M : Sections). M .variables) same in
+    let e₅ : K .«arrays_at» ≡ L .«arrays_at» = ap (λ (M : Sections). M .arraysAt) same in
+    let e₆ : K .arrays ≡ L .arrays = ap (λ (M : Sections). M .arrays) same in
+    let e₇ : K .«statements_at» ≡ L .«statements_at» = ap (λ (M : Sections). M .statementsAt) same in
+    let e₈ : K .statements ≡ L .statements = ap (λ (M : Sections). M .statements) same in
+    record {
+      layout = e;
+      fields = omega (arith, h .fields);
+      variables = omega (arith, h .variables);
+      arrays = omega (arith, h .arrays);
+      statements = omega (arith, h .statements);
+      small = h .small;
+    }

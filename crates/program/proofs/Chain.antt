@@ -8,7 +8,7 @@ use native.Mathlib.Omega.{arith}
 use borrow.Author.Tests.{leb-true, eqb-true, le-leb, eq-eqb, eqb-false}
 use lib.Dec.{leb, eqb}
 use lib.ListN.{length}
-use Rattle.model.specs.Refusals.{ok, refused, check}
+use Rattle.model.specs.Refusals.{Out, ok, refused, check}
 use Rattle.model.specs.Bytes.{u32At, Pair, pairAt, entries, chained}
 use Rattle.model.specs.Program.{Layout as Layout′, layoutOf, sectionsRight}
 use Rattle.model.proofs.Tests.{case, and-left, and-right}
@@ -29,17 +29,34 @@ pub check-refused : {A : Type 0} (b : Bool) (n m : ℕ) (y : A) → refused m �
 check-refused true n m y e = cc
 check-refused false n m y e = refl
 
+-- a refusal that a test gave has the test's number
+pub check-number : {A : Type 0} (b : Bool) (n m : ℕ) (y : A) → refused m ≡ check b n (ok y) → m ≡ n
+check-number true n m y e = cc
+check-number false n m y e = cc
+
+-- where a test has refused, it refuses whatever follows it
+pub handed-on : {A : Type 0} (b : Bool) (n m : ℕ) (y : A) (o x : Out A) → x ≡ refused m → x ≡ check b n (ok y) → x ≡ check b n o
+handed-on true n m y o x e h = cc
+handed-on false n m y o x e h = h
+
 -- ---- one section
 
+-- the section at a place starts where it has to; its offset and length
+abbrev pub Taken : List ℕ → (place start at len : ℕ) → Type 0
+Taken s place start at len = (u32At s place ≡ start) × (at ≡ u32At s place) × (len ≡ u32At s (place + 4))
+
 module _ (s : List ℕ) (place start : ℕ) (r : SectionRead) (h : sectionOf r ≡ check (eqb (u32At s place) start) 2 (ok (pairAt s place))) where
-  pub section-taken : (at len : ℕ) → r ≡ Section at len → (u32At s place ≡ start) × (at ≡ u32At s place) × (len ≡ u32At s (place + 4))
+  pub section-taken : (at len : ℕ) → r ≡ Section at len → Taken s place start at len
   section-taken at len e =
       let p : Pair = record { offset = at; len = len } in
       let k = check-ok (eqb (u32At s place) start) 2 p (pairAt s place) (sym (ap sectionOf e) ∙ h) in
       (eqb-true (u32At s place) start (k .0), ap (λ (q : Pair). q .offset) (k .1), ap (λ (q : Pair). q .len) (k .1))
 
-  pub section-refused : (n : ℕ) → r ≡ Refused n → u32At s place ≡ start → ⊥
-  section-refused n e = eqb-false (u32At s place) start (check-refused (eqb (u32At s place) start) 2 n (pairAt s place) (sym (ap sectionOf e) ∙ h))
+  -- a section that is refused does not start where it has to, and the number is 2
+  pub section-refused : (n : ℕ) → r ≡ Refused n → ((u32At s place ≡ start → ⊥) × (n ≡ 2))
+  section-refused n e =
+      let k : refused n ≡ check (eqb (u32At s place) start) 2 (ok (pairAt s place)) = sym (ap sectionOf e) ∙ h in
+      (eqb-false (u32At s place) start (check-refused (eqb (u32At s place) start) 2 n (pairAt s place) k), check-number (eqb (u32At s place) start) 2 n (pairAt s place) k)
 
 pub section-short : (r : SectionRead) (at len : ℕ) → InFourBytes r → r ≡ Section at len → (at < 2 ^ 32) × (len < 2 ^ 32)
 section-short r at len h e = subst InFourBytes e h

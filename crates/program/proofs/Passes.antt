@@ -1,13 +1,17 @@
 -- A pass over a list, element by element: the test of the rest is the test of the whole.
 -- Assumes nothing.
-use mathlib.Core.Path.{_≡_, _∙_}
-use mathlib.Core.Bool.{Bool, true, false, _&&_}
+use mathlib.Core.Path.{_≡_, refl, sym, ap, _∙_}
+use mathlib.Core.Bool.{Bool, true, false, _&&_, and-assoc}
 use mathlib.Core.List.{List}
 use Prim.Native.Nat.{ℕ, _+_, _≤_, _<_}
 use native.Mathlib.Numerals.{add-one}
 use lib.ListN.{length, getD, drop, drop-of-length-le}
 use lib.Seq.{drop-cons}
 use Rattle.model.specs.Lists.{every}
+
+and-true : (a : Bool) → (a && true) ≡ a
+and-true true = refl
+and-true false = refl
 
 module _ {A : Type 0} (f : A → Bool) (d : A) (xs : List A) (i : ℕ) where
   pass-step : i < length xs → every f (drop i xs) ≡ (f (getD xs i d) && every f (drop (i + 1) xs))
@@ -23,3 +27,11 @@ module _ {A : Type 0} (f : A → Bool) (d : A) (xs : List A) (i : ℕ) where
   pub pass-ends : length xs ≤ i → every f xs ≡ every f (drop i xs) → every f xs ≡ true
   unfolding every
   pass-ends h w = w ∙ rw (drop-of-length-le xs h)
+
+  -- a pass that gathers the answers of a test in a flag
+  pub pass-gathers : (a : Bool) → i < length xs → every f xs ≡ (a && every f (drop i xs)) → every f xs ≡ (a && f (getD xs i d) && every f (drop (i + 1) xs))
+  pass-gathers a h w = w ∙ ap (a &&_) (pass-step h) ∙ sym (and-assoc a (f (getD xs i d)) (every f (drop (i + 1) xs)))
+
+  pub pass-gathered : (a : Bool) → length xs ≤ i → every f xs ≡ (a && every f (drop i xs)) → every f xs ≡ a
+  unfolding every
+  pass-gathered a h w = w ∙ ap (λ ys. a && every f ys) (drop-of-length-le xs h) ∙ and-true a

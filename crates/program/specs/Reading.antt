@@ -4,10 +4,11 @@ use mathlib.Core.Path.{_≡_}
 use mathlib.Core.List.{List, map}
 use Prim.Native.Nat.{ℕ, _+_, _*_, _≤_, _<_, _^_}
 use lib.ListN.{length, getD}
-use Rattle.model.specs.Refusals.{Out, ok, refused}
+use Rattle.model.specs.Lists.{every}
+use Rattle.model.specs.Refusals.{Out, ok, refused, mapped, check, tooManyEntries, wrongTypes, wrongStatement, typesDisagree, wrongImmediate}
 use Rattle.model.specs.Bytes.{Pair}
-use Rattle.model.specs.Code.{Stmt, end}
-use Rattle.model.specs.Program.{Statement, Tables, tablesAt, layoutOf, stmtOf, Program, readProgram}
+use Rattle.model.specs.Code.{Stmt, end, treeOf}
+use Rattle.model.specs.Program.{Statement, Tables, tablesAt, layoutOf, countsRight, typesRight, formRight, typesAgree, immediateRight, stmtOf, Program, readProgram}
 use Rattle.model.specs.Program.{Layout as Sections}
 use Rattle.program.specs.declared.Layout.{Layout}
 use Rattle.program.specs.declared.Entry.{Entry}
@@ -74,6 +75,24 @@ stmtsOf T = map (stmtOf T) (T .statements)
 -- the statement with a label; past the last one an end
 abbrev pub stmtAt : Tables → ℕ → Stmt
 stmtAt T i = getD (stmtsOf T) i end
+
+-- checks 5, 6 and 7, each over all statements, and then o
+abbrev pub statementChecks : List ℕ → Out Sections → Out Sections
+statementChecks s o =
+    let T = tablesOf s in
+    check (every (formRight T) (T .statements)) wrongStatement
+    (check (every (typesAgree T) (T .statements)) typesDisagree
+    (check (every (immediateRight T) (T .statements)) wrongImmediate o))
+
+-- check 8
+abbrev pub blockCheck : List ℕ → Out Sections
+blockCheck s = mapped (λ c. layoutOf s) (treeOf (stmtsOf (tablesOf s)))
+
+-- checks 3 to 8
+abbrev pub tableChecks : List ℕ → Out Sections
+tableChecks s =
+    let T = tablesOf s in
+    check (countsRight T) tooManyEntries (check (typesRight T) wrongTypes (statementChecks s (blockCheck s)))
 
 -- the tables have as many entries as the layout says
 pub record Sized (T : Tables) (L : Layout) : Type 0 where
