@@ -13,12 +13,13 @@ use lib.Seq.{drop-cons, drop-length}
 use borrow.Author.Tests.{eq-eqb, ne-eqb, lt-ltb, le-ltb}
 use Rattle.model.specs.Lists.{every}
 use Rattle.model.specs.Refusals.{ok, refused, check}
+use Rattle.model.proofs.Results.{refused-ok}
 use Rattle.model.specs.Bytes.{Pair, pairAt, entries, pairsAt, chained}
 use Rattle.model.specs.Program.{typeRight}
 use Rattle.model.specs.Condition.{nodeAt, nodeRight}
 use Rattle.model.proofs.Results.{check-ok}
 use Rattle.model.proofs.Parts.{entries-step}
-use Rattle.condition.specs.Answers.{nodeFrom, nodeOut, partRight}
+use Rattle.condition.specs.Answers.{formed, nodeFrom, nodeOut, partRight}
 use Rattle.condition.specs.declared.Node.{Node}
 use Rattle.condition.specs.declared.NodeRead.{NodeRead}
 use Rattle.condition.specs.declared.NodeRead.the-variants.{Node as Entry, Refused as Wrong}
@@ -90,6 +91,24 @@ module _ (types s : List ℕ) (n k : ℕ) (more : k < n) (r : NodeRead) (answer 
   unfolding every
   forms-off m e = rw (forms-step, check-wrong (nodeRight types s (8 * k)) 12 m (nodeAt s (8 * k)) (sym (ap nodeOut e) ∙ answer))
 
+  -- the refusal has the number 12
+  pub forms-number : (m : ℕ) → r ≡ Wrong m → m ≡ 12
+  forms-number m e = go (nodeRight types s (8 * k)) (sym (ap nodeOut e) ∙ answer)
+    where
+      go : (b : Bool) → refused m ≡ check b 12 (ok (nodeAt s (8 * k))) → m ≡ 12
+      go true h = cc
+      go false h = cc
+
 pub forms-end : (types s : List ℕ) (n k : ℕ) → n ≤ k → every (λ b. b) (formsFrom types s n k) ≡ true
 unfolding every entries
 forms-end types s n k h = let e : n - k ≡ 0 = omega arith in rw e
+
+-- ---- the answer to a test of the form
+
+pub formed-true : (b : Bool) → ok tt ≡ formed b → b ≡ true
+formed-true true e = refl
+formed-true false e = cc
+
+pub formed-false : (b : Bool) (n : ℕ) → refused n ≡ formed b → (b ≡ false) × (n ≡ 12)
+formed-false true n e = absurd (refused-ok n tt e)
+formed-false false n e = (refl, cc)

@@ -9,7 +9,7 @@ use lib.ListN.{length, getD}
 use Rattle.arith.specs.Step.{fits}
 use Rattle.arith.specs.Words.{immediate}
 use Rattle.model.specs.Lists.{every}
-use Rattle.model.specs.Refusals.{Out, ok, refused, mapped}
+use Rattle.model.specs.Refusals.{Out, ok, refused, mapped, check, wrongCondition}
 use Rattle.model.specs.Bytes.{byteAt, u16At, u32At, part, Pair, pairAt, entries, pairsAt}
 use Rattle.model.specs.Values.{add, sub, mul, div}
 use Rattle.model.specs.Program.{typeRight}
@@ -18,6 +18,8 @@ use Rattle.model.specs.Condition.{Condition, nodeAt, nodeRight, nodesRight, con
 use Rattle.condition.specs.declared.Node.{Node}
 use Rattle.condition.specs.declared.NodeRead.{NodeRead}
 use Rattle.condition.specs.declared.NodeRead.the-variants.{Node as Entry, Refused as Wrong}
+use Rattle.condition.specs.declared.ConjunctRead.{ConjunctRead}
+use Rattle.condition.specs.declared.ConjunctRead.the-variants.{Formed, Refused as Unformed}
 use Rattle.condition.specs.declared.Counts.{Counts}
 use Rattle.condition.specs.declared.ConditionRead.{ConditionRead}
 use Rattle.condition.specs.declared.ConditionRead.the-variants.{Counts as Form, Refused}
@@ -55,6 +57,11 @@ pub record NodeIs (v : Node) (s : List ℕ) (a : ℕ) : Type 0 where
   pub source : v .field ≡ u16At s (a + 2)
   pub number : v .imm ≡ u32At s (a + 4)
 
+-- the entry that was read has the numbers that stand at a place
+abbrev pub EntryIs : NodeRead → List ℕ → ℕ → Type 0
+EntryIs (Entry v) s a = NodeIs v s a
+EntryIs (Wrong n) s a = Unit {0}
+
 abbrev pub nodeOut : NodeRead → Out ModelNode
 nodeOut (Entry v) = ok (nodeFrom v)
 nodeOut (Wrong n) = refused n
@@ -76,6 +83,15 @@ pairPart s a = part s (pairAt s a .offset) (pairAt s a .len)
 -- the tests of one pair
 unfoldable pub pairRight : List ℕ → List ℕ → Pair → Bool
 pairRight types s p = lengthRight p && nodesRight types s p && whole (conjunctAt s p) && numbered (conjunctAt s p)
+
+-- a conjunct is in its form, or the number of the refusal
+abbrev pub conjunctAnswer : ConjunctRead → Out (Unit {0})
+conjunctAnswer Formed = ok tt
+conjunctAnswer (Unformed n) = refused n
+
+-- by a test of the form
+abbrev pub formed : Bool → Out (Unit {0})
+formed b = check b wrongCondition (ok tt)
 
 -- ---- the file
 

@@ -3,15 +3,15 @@
 ghost use mathlib.Core.Path.{_≡_};
 ghost use mathlib.Core.Bool.{true, _&&_};
 ghost use mathlib.Core.List.{[], map};
-ghost use Prim.Native.Nat.{_+_, _*_, _/_, _%_, _≤_, _<_, compare};
+ghost use Prim.Native.Nat.{ℕ, _+_, _*_, _/_, _%_, _≤_, _<_, compare};
 ghost use lib.ListN.{length, getD};
 ghost use Rattle.model.specs.Lists.{every};
-ghost use Rattle.model.specs.Refusals.{ok, check, mapped};
+ghost use Rattle.model.specs.Refusals.{ok, refused, check, mapped};
 ghost use Rattle.model.specs.Bytes.{part, pairAt, pairsAt, chained};
 ghost use Rattle.model.specs.Program.{typeRight};
 ghost use Rattle.model.specs.Conjunct.{_then_, orderNumbers};
 ghost use Rattle.model.specs.Condition.{conjunctsAt, nodeAt, nodeRight, conjunctAt, whole, numbered, isBefore, rising, readCondition};
-ghost use Rattle.condition.specs.Answers.{constantRight, readingRight, operationRight, rightBy, NodeIs, nodeOut, partNodes, partRight, pairPart, pairRight, sizes, conditionAnswer, ConditionIsRead, typesOf, conjunctsOf};
+ghost use Rattle.condition.specs.Answers.{constantRight, readingRight, operationRight, rightBy, NodeIs, EntryIs, nodeOut, conjunctAnswer, formed, partNodes, partRight, pairPart, pairRight, sizes, conditionAnswer, ConditionIsRead, typesOf, conjunctsOf};
 
 // A node by its numbers.
 pub struct Node {
@@ -24,6 +24,12 @@ pub struct Node {
 // A node in its form, or the number of the refusal.
 pub enum NodeRead {
     Node(Node),
+    Refused(u8),
+}
+
+// A conjunct is in its form, or the number of the refusal.
+enum ConjunctRead {
+    Formed,
     Refused(u8),
 }
 
@@ -111,7 +117,7 @@ fn node_right(types: &[u8], v: Node) -> bool
 // The node with a number in a part, if it has its form.
 pub fn read_node(types: &[u8], part: &[u8], k: usize) -> NodeRead
     requires { ⌜ 8 * k + 8 ≤ length (now part) ⌝ }
-    ensures { λ r. ⌜ nodeOut r ≡ check (nodeRight (now (types .entry)) (now (part .entry)) (8 * k)) 12 (ok (nodeAt (now (part .entry)) (8 * k))) ⌝ }
+    ensures { λ r. ⌜ (nodeOut r ≡ check (nodeRight (now (types .entry)) (now (part .entry)) (8 * k)) 12 (ok (nodeAt (now (part .entry)) (8 * k)))) × EntryIs r (now (part .entry)) (8 * k) ⌝ }
 {
     let v = node_at(part, k);
     if node_right(types, v) {
@@ -120,61 +126,60 @@ pub fn read_node(types: &[u8], part: &[u8], k: usize) -> NodeRead
     NodeRead::Refused(12)
 }
 
-// Every node of a part has its form.
-fn nodes_right(types: &[u8], part: &[u8]) -> bool
-    ensures { λ r. ⌜ r ≡ partRight (now (types .entry)) (now (part .entry)) ⌝ }
+// The number that the answer of the node reader holds, where it is a refusal.
+fn node_refusal(read: NodeRead) -> u8
+    ensures { λ r. ⌜ ((n : ℕ) → nodeOut read ≡ refused n → r ≡ n) ⌝ }
 {
-    let n = part.len() / 8;
-    let mut k: usize = 0;
-    while k < n {
-        let r = read_node(types, part, k);
-        let NodeRead::Node(_) = r else {
-            return false;
-        };
-        k += 1;
+    match read {
+        NodeRead::Node(_) => 0,
+        NodeRead::Refused(n) => n,
     }
-    true
 }
 
-// A part is one whole expression in which types agree. The types on the stack stand from the
-// bottom up.
-fn is_whole(part: &[u8]) -> bool
+// Every node of a part has its form, and the part is one whole expression in which types agree. The
+// types on the stack stand from the bottom up.
+fn read_nodes(types: &[u8], part: &[u8]) -> ConjunctRead
     requires { ⌜ length (now part) ≤ 960 ⌝ }
-    ensures { λ r. ⌜ r ≡ whole (partNodes (now (part .entry))) ⌝ }
+    ensures { λ r. ⌜ conjunctAnswer r ≡ formed (partRight (now (types .entry)) (now (part .entry)) && whole (partNodes (now (part .entry)))) ⌝ }
 {
     let n = part.len() / 8;
     let mut stack: [u8; 128] = [0; 128];
     let mut height: usize = 0;
     let mut k: usize = 0;
     while k < n {
-        let v = node_at(part, k);
-        let kind = v.kind;
+        let read = read_node(types, part, k);
+        let NodeRead::Node(v) = read else {
+            return ConjunctRead::Refused(node_refusal(read));
+        };
         let ty = v.ty;
         k += 1;
-        if kind < 2 {
+        if v.kind < 2 {
             stack[height] = ty;
             height += 1;
             continue;
         }
-        if kind < 6 {
+        if v.kind < 6 {
             if height < 2 {
-                return false;
+                return ConjunctRead::Refused(12);
             }
             if stack[height - 1] != ty {
-                return false;
+                return ConjunctRead::Refused(12);
             }
             if stack[height - 2] != ty {
-                return false;
+                return ConjunctRead::Refused(12);
             }
             height -= 1;
             continue;
         }
         if height == 0 {
-            return false;
+            return ConjunctRead::Refused(12);
         }
         stack[height - 1] = ty;
     }
-    height == 1
+    if height != 1 {
+        return ConjunctRead::Refused(12);
+    }
+    ConjunctRead::Formed
 }
 
 // The n of each field count from 1 by first appearance: each is one met before or the next one.
@@ -281,55 +286,64 @@ fn part_at(condition: &[u8], at: usize) -> &[u8]
 }
 
 // A part is a conjunct in its form.
-fn conjunct_right(types: &[u8], part: &[u8]) -> bool
+fn read_conjunct(types: &[u8], part: &[u8]) -> ConjunctRead
     requires { ⌜ (length (now types) ≤ 32) × (length (now part) ≤ 960) ⌝ }
-    ensures { λ r. ⌜ r ≡ (partRight (now (types .entry)) (now (part .entry)) && whole (partNodes (now (part .entry))) && numbered (partNodes (now (part .entry)))) ⌝ }
+    ensures { λ r. ⌜ conjunctAnswer r ≡ formed (partRight (now (types .entry)) (now (part .entry)) && whole (partNodes (now (part .entry))) && numbered (partNodes (now (part .entry)))) ⌝ }
 {
-    let formed = nodes_right(types, part);
-    if !formed {
-        return false;
+    let read = read_nodes(types, part);
+    let ConjunctRead::Formed = read else {
+        return read;
+    };
+    if !is_numbered(types, part) {
+        return ConjunctRead::Refused(12);
     }
-    let one = is_whole(part);
-    if !one {
-        return false;
-    }
-    is_numbered(types, part)
+    ConjunctRead::Formed
 }
 
 // The conjunct of a pair: 1 to 120 nodes, in its form.
-fn pair_right(condition: &[u8], fields: usize, at: usize) -> bool
+fn read_pair(condition: &[u8], fields: usize, at: usize) -> ConjunctRead
     requires { ⌜ (fields ≤ 32) × (8 + fields ≤ length (now condition)) × (at + 8 ≤ length (now condition)) × (pairAt (now condition) at .offset + pairAt (now condition) at .len ≤ length (now condition)) ⌝ }
-    ensures { λ r. ⌜ r ≡ pairRight (part (now (condition .entry)) 8 fields) (now (condition .entry)) (pairAt (now (condition .entry)) at) ⌝ }
+    ensures { λ r. ⌜ conjunctAnswer r ≡ formed (pairRight (part (now (condition .entry)) 8 fields) (now (condition .entry)) (pairAt (now (condition .entry)) at)) ⌝ }
 {
     let held = part_at(condition, at);
     let len = held.len();
     if len == 0 {
-        return false;
+        return ConjunctRead::Refused(12);
     }
     if 960 < len {
-        return false;
+        return ConjunctRead::Refused(12);
     }
     if len % 8 != 0 {
-        return false;
+        return ConjunctRead::Refused(12);
     }
     let end = 8 + fields;
-    conjunct_right(&condition[8..end], held)
+    read_conjunct(&condition[8..end], held)
 }
 
 // Every conjunct is in its form.
-fn conjuncts_right(condition: &[u8], fields: usize, count: usize) -> bool
+fn read_conjuncts(condition: &[u8], fields: usize, count: usize) -> ConjunctRead
     requires { ⌜ (fields ≤ 32) × (chained (conjunctsAt fields count) (pairsAt (now condition) (8 + fields) count) (length (now condition)) ≡ true) ⌝ }
-    ensures { λ r. ⌜ r ≡ every (pairRight (part (now (condition .entry)) 8 fields) (now (condition .entry))) (pairsAt (now (condition .entry)) (8 + fields) count) ⌝ }
+    ensures { λ r. ⌜ conjunctAnswer r ≡ formed (every (pairRight (part (now (condition .entry)) 8 fields) (now (condition .entry))) (pairsAt (now (condition .entry)) (8 + fields) count)) ⌝ }
 {
     let mut i: usize = 0;
     while i < count {
-        let right = pair_right(condition, fields, 8 + fields + 8 * i);
-        if !right {
-            return false;
-        }
+        let read = read_pair(condition, fields, 8 + fields + 8 * i);
+        let ConjunctRead::Formed = read else {
+            return read;
+        };
         i += 1;
     }
-    true
+    ConjunctRead::Formed
+}
+
+// The number that the answer of the conjuncts' reader holds, where it is a refusal.
+fn conjunct_refusal(read: ConjunctRead) -> u8
+    ensures { λ r. ⌜ ((n : ℕ) → conjunctAnswer read ≡ refused n → r ≡ n) ⌝ }
+{
+    match read {
+        ConjunctRead::Formed => 0,
+        ConjunctRead::Refused(n) => n,
+    }
 }
 
 // The conjuncts stand in rising order, none twice: each before the next.
@@ -378,10 +392,10 @@ pub fn read(condition: &[u8]) -> ConditionRead
     if !typed {
         return ConditionRead::Refused(12);
     }
-    let formed = conjuncts_right(condition, fields, conjuncts);
-    if !formed {
-        return ConditionRead::Refused(12);
-    }
+    let formed = read_conjuncts(condition, fields, conjuncts);
+    let ConjunctRead::Formed = formed else {
+        return ConditionRead::Refused(conjunct_refusal(formed));
+    };
     let sorted = is_rising(condition, fields, conjuncts);
     if !sorted {
         return ConditionRead::Refused(12);

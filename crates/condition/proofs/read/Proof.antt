@@ -1,17 +1,76 @@
--- `condition::read` meets its contract.
--- Assumes nothing.
-use mathlib.Core.Path.{refl, sym, _∙_, ap}
+-- `condition::read` meets its contract: by the tests of the form, one after the other.
+use mathlib.Core.Path.{_≡_, refl, sym, ap, _∙_}
+use mathlib.Core.Bool.{true, false}
+use mathlib.Core.List.{List, map}
+use Prim.Native.Nat.{ℕ, _+_, _≤_}
 use native.Mathlib.Omega.{arith}
+use lib.ListN.{length}
+use borrow.Author.Needs.{needs}
 use borrow.Author.Tests.{not-true, not-false}
+use Rattle.model.specs.Bytes.{part, pairsAt, chained}
+use Rattle.model.specs.Condition.{Condition, conjunctsAt, conjunctAt, rising, readCondition}
 use Rattle.model.specs.Lists.{every}
 use Rattle.model.specs.Program.{typeRight}
-use Rattle.condition.proofs.Table.{types-taken, refuses, accepts, form-short, form-many, form-wide, form-cut, form-unchained, form-untyped, form-wrong, form-is}
-use borrow.Author.Needs.{needs}
+use Rattle.model.specs.Refusals.{refused, mapped}
+use Rattle.condition.specs.Answers.{conjunctAnswer, pairRight, sizes}
+use Rattle.condition.proofs.Passes.{formed-true, formed-false}
+use Rattle.condition.proofs.Table.{types-taken, formBy, refuses, accepts, form-short, form-many, form-wide, form-cut, form-unchained, form-untyped, form-wrong, form-is}
 use Rattle.condition.proofs.read.Statement.{statement}
 use Rattle.condition.proofs.read.Tie as tie
 
+-- ---- the places: where the counts were read, and where each test has passed
+
+abbrev bytes : tie.After-u32-at2 → List ℕ
+bytes c = c .before .before .before .before .args .condition .now
+
+abbrev many : tie.After-u32-at2 → ℕ
+many c = c .before .u32-at .result
+
+abbrev fields : tie.After-u32-at2 → ℕ
+fields c = c .u32-at2 .result
+
+abbrev counted : tie.Else4 → tie.After-u32-at2
+counted c = c .before .before .before
+
+abbrev linked : tie.Else5 → tie.Else4
+linked c = c .before .before
+
+abbrev typed : tie.Else6 → tie.Else5
+typed c = c .before .before .before
+
+abbrev read : tie.After-enum-told → tie.After-read-conjuncts
+read c = c .before .before
+
+-- ---- what is known there
+
+not-read : (c : tie.After-u32-at2) → formBy (bytes c) (many c) (fields c) ≡ false → refused 12 ≡ mapped sizes (readCondition (bytes c))
+not-read c e = refuses (bytes c) (many c) (fields c) (c .before .u32-at .ensures .0) (c .u32-at2 .ensures .0) e
+
+chain : (c : tie.Else5) → let k = counted (linked c) in chained (conjunctsAt (fields k) (many k)) (pairsAt (bytes k) (8 + fields k) (many k)) (length (bytes k)) ≡ true
+chain c = sym (c .before .is-chained .ensures) ∙ not-false (c .before .is-chained .result) (c .if5 .left)
+
+types : (c : tie.Else6) → let k = counted (linked (typed c)) in every typeRight (part (bytes k) 8 (fields k)) ≡ true
+types c =
+    let k = counted (linked (typed c)) in
+    ap (every typeRight) (sym (types-taken (bytes k) (fields k))) ∙ sym (c .before .types-right .ensures) ∙ not-false (c .before .types-right .result) (c .if6 .left)
+
+pairs : (c : tie.After-enum-told) → let k = counted (linked (typed (read c .before))) in every (pairRight (part (bytes k) 8 (fields k)) (bytes k)) (pairsAt (bytes k) (8 + fields k) (many k)) ≡ true
+pairs c = formed-true _ (sym (ap conjunctAnswer (c .enum-told .given .1)) ∙ read c .read-conjuncts .ensures)
+
+-- the form is the order
+ordered : (c : tie.After-enum-told) → let k = counted (linked (typed (read c .before))) in formBy (bytes k) (many k) (fields k) ≡ rising (map (conjunctAt (bytes k)) (pairsAt (bytes k) (8 + fields k) (many k)))
+ordered c =
+    let t = typed (read c .before) in
+    let w = linked t in
+    let k = counted w in
+    form-is (bytes k) (many k) (fields k) (k .before .before .if1 .left) (w .before .before .if2 .left) (w .before .if3 .left) (chain t) (types (read c .before)) (pairs c)
+
+-- ---- the answers
+
 returns : tie.Need-returns
-returns c = refuses (c .before .before .args .condition .now) _ _ refl refl (form-short (c .before .before .args .condition .now) _ _ (c .if1 .taken))
+returns c =
+    let s = c .before .before .args .condition .now in
+    refuses s _ _ refl refl (form-short s _ _ (c .if1 .taken))
 
 u32-at-requires : tie.Need-u32-at-requires
 u32-at-requires c κs = search needs
@@ -21,19 +80,13 @@ u32-at-requires-2 c κs = search needs
 
 returns-2 : tie.Need-returns-2
 returns-2 c =
-    let g = c .before .before .before .before .before .args in
-    let s = g .condition .now in
-    let x = c .before .before .u32-at in
-    let y = c .before .u32-at2 in
-    refuses s (x .result) (y .result) (x .ensures .0) (y .ensures .0) (form-many s (x .result) (y .result) (c .before .before .before .if1 .left) (c .if2 .taken))
+    let k = c .before in
+    not-read k (form-many (bytes k) (many k) (fields k) (k .before .before .if1 .left) (c .if2 .taken))
 
 returns-3 : tie.Need-returns-3
 returns-3 c =
-    let g = c .before .before .before .before .before .before .args in
-    let s = g .condition .now in
-    let x = c .before .before .before .u32-at in
-    let y = c .before .before .u32-at2 in
-    refuses s (x .result) (y .result) (x .ensures .0) (y .ensures .0) (form-wide s (x .result) (y .result) (c .before .before .before .before .if1 .left) (c .before .if2 .left) (c .if3 .taken))
+    let k = c .before .before in
+    not-read k (form-wide (bytes k) (many k) (fields k) (k .before .before .if1 .left) (c .before .if2 .left) (c .if3 .taken))
 
 add-at : tie.Need-add-at
 add-at c = search needs
@@ -46,22 +99,18 @@ add-start c = search needs
 
 returns-4 : tie.Need-returns-4
 returns-4 c =
-    let g = c .before .before .before .before .before .before .before .args in
-    let s = g .condition .now in
-    let x = c .before .before .before .before .u32-at in
-    let y = c .before .before .before .u32-at2 in
-    refuses s (x .result) (y .result) (x .ensures .0) (y .ensures .0) (form-cut s (x .result) (y .result) (c .before .before .before .before .before .if1 .left) (c .before .before .if2 .left) (c .before .if3 .left) (c .if4 .taken))
+    let k = c .before .before .before in
+    not-read k (form-cut (bytes k) (many k) (fields k) (k .before .before .if1 .left) (c .before .before .if2 .left) (c .before .if3 .left) (c .if4 .taken))
 
 is-chained-requires : tie.Need-is-chained-requires
 is-chained-requires c κs = search needs
 
 returns-5 : tie.Need-returns-5
 returns-5 c =
-    let g = c .before .before .before .before .before .before .before .before .before .args in
-    let s = g .condition .now in
-    let x = c .before .before .before .before .before .before .u32-at in
-    let y = c .before .before .before .before .before .u32-at2 in
-    refuses s (x .result) (y .result) (x .ensures .0) (y .ensures .0) (form-unchained s (x .result) (y .result) (c .before .before .before .before .before .before .before .if1 .left) (c .before .before .before .before .if2 .left) (c .before .before .before .if3 .left) (sym (c .before .is-chained .ensures) ∙ not-true _ (c .if5 .taken)))
+    let w = c .before .before in
+    let k = counted w in
+    let broken = sym (c .before .is-chained .ensures) ∙ not-true (c .before .is-chained .result) (c .if5 .taken) in
+    not-read k (form-unchained (bytes k) (many k) (fields k) (k .before .before .if1 .left) (w .before .before .if2 .left) (w .before .if3 .left) broken)
 
 sub-types-right : tie.Need-sub-types-right
 sub-types-right c = search needs
@@ -77,41 +126,51 @@ types-right-requires c κs = search needs
 
 returns-6 : tie.Need-returns-6
 returns-6 c =
-    let g = c .before .before .before .before .before .before .before .before .before .before .before .before .args in
-    let s = g .condition .now in
-    let x = c .before .before .before .before .before .before .before .before .before .u32-at in
-    let y = c .before .before .before .before .before .before .before .before .u32-at2 in
-    refuses s (x .result) (y .result) (x .ensures .0) (y .ensures .0) (form-untyped s (x .result) (y .result) (c .before .before .before .before .before .before .before .before .before .before .if1 .left) (c .before .before .before .before .before .before .before .if2 .left) (c .before .before .before .before .before .before .if3 .left) (sym (c .before .before .before .before .is-chained .ensures) ∙ not-false _ (c .before .before .before .if5 .left)) (ap (every typeRight) (sym (types-taken s (y .result))) ∙ sym (c .before .types-right .ensures) ∙ not-true _ (c .if6 .taken)))
+    let t = c .before .before .before in
+    let w = linked t in
+    let k = counted w in
+    let wrong = ap (every typeRight) (sym (types-taken (bytes k) (fields k))) ∙ sym (c .before .types-right .ensures) ∙ not-true (c .before .types-right .result) (c .if6 .taken) in
+    not-read k (form-untyped (bytes k) (many k) (fields k) (k .before .before .if1 .left) (w .before .before .if2 .left) (w .before .if3 .left) (chain t) wrong)
 
-conjuncts-right-requires : tie.Need-conjuncts-right-requires
-conjuncts-right-requires c κs = (c .before .before .before .before .before .before .if3 .left, (sym (c .before .before .before .before .is-chained .ensures) ∙ not-false _ (c .before .before .before .if5 .left)))
+read-conjuncts-requires : tie.Need-read-conjuncts-requires
+read-conjuncts-requires c κs = (linked (typed c) .before .if3 .left, chain (typed c))
+
+enum-told : tie.Need-enum-told
+enum-told c = search needs
+
+enum-told-2 : tie.Need-enum-told-2
+enum-told-2 c = search needs
+
+conjunct-refusal-requires : tie.Need-conjunct-refusal-requires
+conjunct-refusal-requires c κs = search needs
 
 returns-7 : tie.Need-returns-7
 returns-7 c =
-    let g = c .before .before .before .before .before .before .before .before .before .before .before .before .before .before .args in
-    let s = g .condition .now in
-    let x = c .before .before .before .before .before .before .before .before .before .before .before .u32-at in
-    let y = c .before .before .before .before .before .before .before .before .before .before .u32-at2 in
-    refuses s (x .result) (y .result) (x .ensures .0) (y .ensures .0) (form-wrong s (x .result) (y .result) (c .before .before .before .before .before .before .before .before .before .before .before .before .if1 .left) (c .before .before .before .before .before .before .before .before .before .if2 .left) (c .before .before .before .before .before .before .before .before .if3 .left) (sym (c .before .before .before .before .before .before .is-chained .ensures) ∙ not-false _ (c .before .before .before .before .before .if5 .left)) (ap (every typeRight) (sym (types-taken s (y .result))) ∙ sym (c .before .before .before .types-right .ensures) ∙ not-false _ (c .before .before .if6 .left)) (sym (c .before .conjuncts-right .ensures) ∙ not-true _ (c .if7 .taken)))
+    let g = c .before .enum-told2 .given in
+    let r = c .before .before .before in
+    let t = typed (r .before) in
+    let w = linked t in
+    let k = counted w in
+    let off = formed-false _ (g .0 .0) (sym (ap conjunctAnswer (g .1)) ∙ r .read-conjuncts .ensures) in
+    let number = c .conjunct-refusal .ensures (g .0 .0) (ap conjunctAnswer (g .1)) ∙ off .1 in
+    rw number
+    (not-read k (form-wrong (bytes k) (many k) (fields k) (k .before .before .if1 .left) (w .before .before .if2 .left) (w .before .if3 .left) (chain t) (types (r .before)) (off .0)))
 
 is-rising-requires : tie.Need-is-rising-requires
-is-rising-requires c κs = ((sym (c .before .before .before .before .before .before .is-chained .ensures) ∙ not-false _ (c .before .before .before .before .before .if5 .left)), (sym (c .before .conjuncts-right .ensures) ∙ not-false _ (c .if7 .left)))
+is-rising-requires c κs = (chain (typed (read c .before)), pairs c)
 
 returns-8 : tie.Need-returns-8
 returns-8 c =
-    let g = c .before .before .before .before .before .before .before .before .before .before .before .before .before .before .before .before .args in
-    let s = g .condition .now in
-    let x = c .before .before .before .before .before .before .before .before .before .before .before .before .before .u32-at in
-    let y = c .before .before .before .before .before .before .before .before .before .before .before .before .u32-at2 in
-    refuses s (x .result) (y .result) (x .ensures .0) (y .ensures .0) (form-is s (x .result) (y .result) (c .before .before .before .before .before .before .before .before .before .before .before .before .before .before .if1 .left) (c .before .before .before .before .before .before .before .before .before .before .before .if2 .left) (c .before .before .before .before .before .before .before .before .before .before .if3 .left) (sym (c .before .before .before .before .before .before .before .before .is-chained .ensures) ∙ not-false _ (c .before .before .before .before .before .before .before .if5 .left)) (ap (every typeRight) (sym (types-taken s (y .result))) ∙ sym (c .before .before .before .before .before .types-right .ensures) ∙ not-false _ (c .before .before .before .before .if6 .left)) (sym (c .before .before .before .conjuncts-right .ensures) ∙ not-false _ (c .before .before .if7 .left)) ∙ sym (c .before .is-rising .ensures) ∙ not-true _ (c .if8 .taken))
+    let k = counted (linked (typed (read (c .before .before) .before))) in
+    not-read k (ordered (c .before .before) ∙ sym (c .before .is-rising .ensures) ∙ not-true (c .before .is-rising .result) (c .if7 .taken))
 
 returns-9 : tie.Need-returns-9
 returns-9 c =
-    let g = c .before .before .before .before .before .before .before .before .before .before .before .before .before .before .before .before .args in
-    let s = g .condition .now in
-    let x = c .before .before .before .before .before .before .before .before .before .before .before .before .before .u32-at in
-    let y = c .before .before .before .before .before .before .before .before .before .before .before .before .u32-at2 in
-    accepts s (x .result) (y .result) (x .ensures .0) (y .ensures .0) (omega arith) (form-is s (x .result) (y .result) (c .before .before .before .before .before .before .before .before .before .before .before .before .before .before .if1 .left) (c .before .before .before .before .before .before .before .before .before .before .before .if2 .left) (c .before .before .before .before .before .before .before .before .before .before .if3 .left) (sym (c .before .before .before .before .before .before .before .before .is-chained .ensures) ∙ not-false _ (c .before .before .before .before .before .before .before .if5 .left)) (ap (every typeRight) (sym (types-taken s (y .result))) ∙ sym (c .before .before .before .before .before .types-right .ensures) ∙ not-false _ (c .before .before .before .before .if6 .left)) (sym (c .before .before .before .conjuncts-right .ensures) ∙ not-false _ (c .before .before .if7 .left)) ∙ sym (c .before .is-rising .ensures) ∙ not-false _ (c .if8 .left))
+    let w = linked (typed (read (c .before .before) .before)) in
+    let k = counted w in
+    let room : 8 + fields k ≤ length (bytes k) = omega (arith, w .if4 .left) in
+    accepts (bytes k) (many k) (fields k) (k .before .u32-at .ensures .0) (k .u32-at2 .ensures .0) room
+    (ordered (c .before .before) ∙ sym (c .before .is-rising .ensures) ∙ not-false (c .before .is-rising .result) (c .if7 .left))
 
 pub read-spec : {M : Type 1} → statement M
 read-spec =
@@ -133,7 +192,10 @@ read-spec =
     part-types-right-end
     types-right-requires
     returns-6
-    conjuncts-right-requires
+    read-conjuncts-requires
+    enum-told
+    enum-told-2
+    conjunct-refusal-requires
     returns-7
     is-rising-requires
     returns-8

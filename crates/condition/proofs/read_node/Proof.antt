@@ -1,5 +1,4 @@
 -- `condition::read_node` meets its contract.
--- Assumes nothing.
 use mathlib.Core.Path.{sym, _∙_}
 use Prim.Native.Nat.{_-_}
 use Rattle.condition.proofs.Nodes.{node-passes, node-fails}
@@ -14,10 +13,14 @@ node-right-requires : tie.Need-node-right-requires
 node-right-requires c κs = search needs
 
 returns : tie.Need-returns
-returns c = node-passes _ (c .before .before .node-at .result) _ _ (c .before .before .node-at .ensures) (sym (c .before .node-right .ensures) ∙ c .if1 .taken)
+returns c =
+    let v = c .before .before .node-at in
+    (node-passes _ (v .result) _ _ (v .ensures) (sym (c .before .node-right .ensures) ∙ c .if1 .taken), v .ensures)
 
 returns-2 : tie.Need-returns-2
-returns-2 c = node-fails _ (c .before .before .node-at .result) _ _ (c .before .before .node-at .ensures) (sym (c .before .node-right .ensures) ∙ c .if1 .left)
+returns-2 c =
+    let v = c .before .before .node-at in
+    (node-fails _ (v .result) _ _ (v .ensures) (sym (c .before .node-right .ensures) ∙ c .if1 .left), tt)
 
 pub read-node-spec : {M : Type 1} → statement M
 read-node-spec = tie.close (tie.spec node-at-requires node-right-requires returns returns-2)
