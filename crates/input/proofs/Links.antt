@@ -85,11 +85,6 @@ module _ (ty : ℕ) (p : Pair) (start o l w : ℕ) (eo : o ≡ p .offset) (el : 
   unfolding linkOf
   link-right e f h = rw (← eo, ← el, ← ew, eq-eqb o start e, eq-eqb (l % w) 0 f, le-leb l (128 * w) h, ← e)
 
--- a wrong part ends the pass
-link-refused : (b : Bool) (x n : ℕ) (k : ℕ → Out (Unit {0})) → refused n ≡ check b 13 (ok x) → (check b 13 (ok x) >>= k) ≡ refused 13
-link-refused true x n k e = let z : _≡_ {A = ℕ} 0 1 = cc in absurd (omega arith)
-link-refused false x n k e = refl
-
 -- ---- one turn of the pass
 
 pub linked-turn : (s types : List ℕ) (f start : ℕ) → f < length types
@@ -110,11 +105,5 @@ module _ (s types : List ℕ) (f start : ℕ) (h : f < length types) (r : PartRe
   pub linked-on : (e : ℕ) → r ≡ Ends e → linked s (drop f types) (8 * f) start ≡ linked s (drop (f + 1) types) (8 * (f + 1)) e
   linked-on e g = linked-turn s types f start h ∙ rw (← answer, g)
 
-  pub linked-off : (n : ℕ) → r ≡ Wrong n → linked s (drop f types) (8 * f) start ≡ refused 13
-  unfolding linkOf
-  linked-off n g =
-      let t = getD types f 0 in
-      let p = pairAt s (8 * f) in
-      linked-turn s types f start h
-      ∙ link-refused (eqb (p .offset) start && eqb (p .len % width t) 0 && leb (p .len) (128 * width t)) (start + p .len) n (linked s (drop (f + 1) types) (8 * (f + 1)))
-      (sym (ap linkedOut g) ∙ answer)
+  pub linked-off : (n : ℕ) → r ≡ Wrong n → linked s (drop f types) (8 * f) start ≡ refused n
+  linked-off n g = linked-turn s types f start h ∙ rw (← answer, g)

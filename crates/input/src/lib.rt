@@ -2,10 +2,10 @@
 // where the next part begins; a field's readings as a part of the caller's slice; one reading as a
 // number. Assumes nothing.
 ghost use mathlib.Core.Path.{_≡_};
-ghost use Prim.Native.Nat.{_+_, _*_, _≤_, _<_};
+ghost use Prim.Native.Nat.{ℕ, _+_, _*_, _≤_, _<_};
 ghost use lib.ListN.{length};
 ghost use Rattle.arith.specs.Whole.{valueOf};
-ghost use Rattle.model.specs.Refusals.{mapped};
+ghost use Rattle.model.specs.Refusals.{refused, mapped};
 ghost use Rattle.model.specs.Bytes.{pairAt};
 ghost use Rattle.model.specs.Input.{width, bitsAt, readingAt, readInput};
 ghost use Rattle.input.specs.Answers.{inputAnswer, linkedOut, linkOf, InputIsRead, fieldPart, fieldReadings};
@@ -54,6 +54,16 @@ fn part_end(ty: u8, input: &[u8], at: usize, next: usize) -> PartRead
     PartRead::Ends(offset + len)
 }
 
+// The number that the answer for a part holds, where it is a refusal.
+fn part_refusal(read: PartRead) -> u8
+    ensures { λ r. ⌜ ((n : ℕ) → linkedOut read ≡ refused n → r ≡ n) ⌝ }
+{
+    match read {
+        PartRead::Ends(_) => 0,
+        PartRead::Refused(n) => n,
+    }
+}
+
 // Whether the input has its form, for fields of these types.
 pub fn read(types: &[u8], input: &[u8]) -> InputRead
     ensures { λ r. ⌜ inputAnswer r ≡ mapped (λ I. tt {0}) (readInput (now (types .entry)) (now (input .entry))) ⌝ }
@@ -67,7 +77,7 @@ pub fn read(types: &[u8], input: &[u8]) -> InputRead
     while f < fields {
         let r = part_end(types[f], input, 8 * f, next);
         let PartRead::Ends(end) = r else {
-            return InputRead::Refused(13);
+            return InputRead::Refused(part_refusal(r));
         };
         next = end;
         f += 1;

@@ -1,11 +1,13 @@
 -- `input::read` meets its contract. What is left of the pass from a field on gives the answer of the whole.
 -- Assumes nothing.
-use mathlib.Core.Path.{_≡_, refl, sym, _∙_}
+use mathlib.Core.Path.{_≡_, refl, sym, ap, _∙_}
 use Prim.Native.Nat.{_*_, _-_, _≤_}
 use native.Mathlib.Omega.{arith}
 use borrow.Author.Needs.{needs}
 use borrow.Author.Tests.{eq-eqb, ne-eqb}
 use lib.ListN.{length, drop}
+use Rattle.model.specs.Refusals.{refused}
+use Rattle.input.specs.Answers.{linkedOut}
 use Rattle.input.proofs.Links.{linked, read-linked, read-short, linked-on, linked-off, linked-end}
 use Rattle.input.proofs.read.Statement.{statement}
 use Rattle.input.proofs.read.Tie as tie
@@ -41,12 +43,17 @@ enum-known-r c = search needs
 enum-told : tie.Need-enum-told Inv-loop μ-loop
 enum-told c = search needs
 
+part-refusal-requires : tie.Need-part-refusal-requires Inv-loop μ-loop
+part-refusal-requires c κs = search needs
+
 returns-2 : tie.Need-returns-2 Inv-loop μ-loop
 returns-2 c =
-    let a = c .before .before .before .before .before in
+    let p = c .before .before .before in
+    let a = p .before .before .before in
     let g = a .before .before .before .before .args in
-    sym (read-linked (g .types .now) (g .input .now) ∙ a .loop .inv .3
-    ∙ linked-off (g .input .now) (g .types .now) (a .loop .f) (a .loop .next) (omega arith) (c .before .before .part-end .result) (c .before .before .part-end .ensures) _ (c .enum-told .given .1))
+    let e = c .before .enum-told .given in
+    let off = linked-off (g .input .now) (g .types .now) (a .loop .f) (a .loop .next) (omega arith) (p .part-end .result) (p .part-end .ensures) (e .0 .0) (e .1) in
+    ap refused (c .part-refusal .ensures (e .0 .0) (ap linkedOut (e .1))) ∙ sym (read-linked (g .types .now) (g .input .now) ∙ a .loop .inv .3 ∙ off)
 
 add-f : tie.Need-add-f Inv-loop μ-loop
 add-f c = search needs
@@ -94,6 +101,7 @@ read-spec =
     part-end-requires
     enum-known-r
     enum-told
+    part-refusal-requires
     returns-2
     add-f
     loop-less

@@ -1,0 +1,21 @@
+-- `input::part_refusal` meets its contract.
+use mathlib.Core.Path.{_≡_, sym, ap, _∙_}
+use borrow.Author.Needs.{needs}
+use Rattle.input.specs.Answers.{linkedOut}
+use Rattle.input.proofs.part_refusal.Statement.{statement}
+use Rattle.input.proofs.part_refusal.Tie as tie
+
+enum-told : tie.Need-enum-told
+enum-told c = search needs
+
+enum-known-read : tie.Need-enum-known-read
+enum-known-read c = search needs
+
+returns : tie.Need-returns
+returns c n e = let z = sym (ap linkedOut (c .enum-told .given .1)) ∙ e in cc
+
+returns-2 : tie.Need-returns-2
+returns-2 c n e = let z = sym (ap linkedOut (c .before .read .given .1)) ∙ e in cc
+
+pub part-refusal-spec : {M : Type 1} → statement M
+part-refusal-spec = tie.close (tie.spec enum-told enum-known-read returns returns-2)
