@@ -5,7 +5,7 @@ ghost use mathlib.Core.Bool.{Bool, not, _||_};
 ghost use Prim.Native.Nat.{ℕ, _+_, _*_, _%_, _^_, _<_};
 ghost use lib.Dec.{leb};
 ghost use lib.IntN.{ℤ, pos};
-ghost use Rattle.arith.specs.Types.{Row, bits, depth, height, limitOf};
+ghost use Rattle.arith.specs.Types.{Row, IsRow, bits, limitOf};
 ghost use Rattle.arith.specs.Whole.{valueOf, Holds};
 ghost use Rattle.arith.specs.Words.{wordOf, valueAt, immediate};
 ghost use Rattle.arith.specs.Step.{opOf, exactOf, lacksDivisor, fits, stepOf, outcomeOf, wrap, overflows};
@@ -45,12 +45,7 @@ pub enum Step {
     Overflow,
 }
 
-// A step's result wrapped to the type, and whether the step overflowed; as a number and as a word.
-pub struct Wrapped {
-    pub num: Num,
-    pub over: bool,
-}
-
+// The word of a step's result wrapped to the type, and whether the step overflowed.
 pub struct WrappedWord {
     pub word: u64,
     pub over: bool,
@@ -100,66 +95,29 @@ const RANGES: [Range; 8] = [
     },
 ];
 
+// The row of a type. A row that is named by a constant is loaded from constant memory; for an index
+// that is known at run time only, the compiler would build the table anew at each use.
 pub fn range_of(ty: u8) -> Range
     requires { ⌜ ty < 8 ⌝ }
     ensures { λ r. ⌜ Row ty r ⌝ }
 {
-    let i = ty as usize;
-    RANGES[i]
-}
-
-// How far a type goes below 0, and how far above.
-struct Ends {
-    low: u64,
-    high: u64,
-}
-
-// The ends of a type's range, as the table has them, for each step: a match compiles to loads from
-// constant memory, where the table is built anew at each use.
-fn ends_of(ty: u8) -> Ends
-    requires { ⌜ ty < 8 ⌝ }
-    ensures { λ e. ⌜ (e .low ≡ depth ty) × (e .high ≡ height ty) ⌝ }
-{
-    match ty % 8 {
-        0 => Ends { low: 0, high: 0xff },
-        1 => Ends {
-            low: 0,
-            high: 0xffff,
-        },
-        2 => Ends {
-            low: 0,
-            high: 0xffff_ffff,
-        },
-        3 => Ends {
-            low: 0,
-            high: 0xffff_ffff_ffff_ffff,
-        },
-        4 => Ends {
-            low: 0x80,
-            high: 0x7f,
-        },
-        5 => Ends {
-            low: 0x8000,
-            high: 0x7fff,
-        },
-        6 => Ends {
-            low: 0x8000_0000,
-            high: 0x7fff_ffff,
-        },
-        _ => Ends {
-            low: 0x8000_0000_0000_0000,
-            high: 0x7fff_ffff_ffff_ffff,
-        },
+    match ty {
+        0 => RANGES[0],
+        1 => RANGES[1],
+        2 => RANGES[2],
+        3 => RANGES[3],
+        4 => RANGES[4],
+        5 => RANGES[5],
+        6 => RANGES[6],
+        _ => RANGES[7],
     }
 }
 
 // The largest magnitude that a type has on the side of a sign.
-fn limit(ty: u8, neg: bool) -> u64
-    requires { ⌜ ty < 8 ⌝ }
-    ensures { λ l. ⌜ l ≡ limitOf ty neg ⌝ }
+fn limit(range: Range, neg: bool) -> u64
+    ensures { λ l. ⌜ ((ty : ℕ) → Row ty range → l ≡ limitOf ty neg) ⌝ }
 {
-    let e = ends_of(ty);
-    if neg { e.low } else { e.high }
+    if neg { range.lowest } else { range.highest }
 }
 
 // The exact sum, from the magnitudes.
@@ -309,26 +267,24 @@ fn within(w: Whole, l: u64) -> bool
 }
 
 // Whether a step with the exact result w overflows.
-fn overflowed(op: Op, ty: u8, b: Num, w: Whole) -> bool
-    requires { ⌜ ty < 8 ⌝ }
-    ensures { λ r. ⌜ ((z : ℤ) → Holds w z → r ≡ (lacksDivisor op (valueOf b) || not (fits ty z))) ⌝ }
+fn overflowed(op: Op, range: Range, b: Num, w: Whole) -> bool
+    ensures { λ r. ⌜ ((ty : ℕ) (z : ℤ) → Row ty range → Holds w z → r ≡ (lacksDivisor op (valueOf b) || not (fits ty z))) ⌝ }
 {
     if lacks(op, b) {
         return true;
     }
     let neg = w.neg;
-    let l = limit(ty, neg);
+    let l = limit(range, neg);
     !within(w, l)
 }
 
 // One step in whole numbers, on values that need not be of the type: its value, or that it
 // overflows in the type.
-pub fn checked_step(op: Op, ty: u8, a: Num, b: Num) -> Step
-    requires { ⌜ ty < 8 ⌝ }
-    ensures { λ s. ⌜ outcomeOf s ≡ stepOf op ty (valueOf a) (valueOf b) ⌝ }
+pub fn checked_step(op: Op, range: Range, a: Num, b: Num) -> Step
+    ensures { λ s. ⌜ ((ty : ℕ) → Row ty range → outcomeOf s ≡ stepOf op ty (valueOf a) (valueOf b)) ⌝ }
 {
     let w = exact(op, a, b);
-    if overflowed(op, ty, b, w) {
+    if overflowed(op, range, b, w) {
         return Step::Overflow;
     }
     Step::Value(Num {
@@ -338,42 +294,29 @@ pub fn checked_step(op: Op, ty: u8, a: Num, b: Num) -> Step
 }
 
 // The lowest bits of x, as many as the type has.
-fn low_bits(ty: u8, x: u64) -> u64
-    requires { ⌜ ty < 8 ⌝ }
-    ensures { λ r. ⌜ r ≡ x % 2 ^ bits ty ⌝ }
+fn low_bits(range: Range, x: u64) -> u64
+    requires { ⌜ IsRow range ⌝ }
+    ensures { λ r. ⌜ ((ty : ℕ) → Row ty range → r ≡ x % 2 ^ bits ty) ⌝ }
 {
-    let e = ends_of(ty);
-    x & (e.low + e.high)
+    x & (range.lowest + range.highest)
 }
 
 // A whole number wrapped to a type.
-fn fold(ty: u8, w: Whole) -> Num
-    requires { ⌜ ty < 8 ⌝ }
-    ensures { λ n. ⌜ ((z : ℤ) → Holds w z → valueOf n ≡ wrap ty z) ⌝ }
+fn fold(range: Range, w: Whole) -> Num
+    requires { ⌜ IsRow range ⌝ }
+    ensures { λ n. ⌜ ((ty : ℕ) (z : ℤ) → Row ty range → Holds w z → valueOf n ≡ wrap ty z) ⌝ }
 {
     let neg = w.neg;
     let low = w.low;
-    let e = ends_of(ty);
-    let l = limit(ty, neg);
-    let x = low_bits(ty, low);
+    let l = limit(range, neg);
+    let x = low_bits(range, low);
     if x <= l {
         return Num { neg, mag: x };
     }
     Num {
         neg: !neg,
-        mag: e.low + e.high - x + 1,
+        mag: range.lowest + range.highest - x + 1,
     }
-}
-
-// One step wrapped to the type, and whether it overflowed.
-pub fn wrapped_step(op: Op, ty: u8, a: Num, b: Num) -> Wrapped
-    requires { ⌜ ty < 8 ⌝ }
-    ensures { λ r. ⌜ (valueOf (r .num) ≡ wrap ty (exactOf op (valueOf a) (valueOf b))) × (r .over ≡ overflows op ty (valueOf a) (valueOf b)) ⌝ }
-{
-    let w = exact(op, a, b);
-    let over = overflowed(op, ty, b, w);
-    let num = fold(ty, w);
-    Wrapped { num, over }
 }
 
 // The word of 64 bits that holds a number, two's complement.
@@ -391,23 +334,22 @@ pub fn to_word(n: Num) -> u64
 }
 
 // The number that the lowest bits of w stand for in a type: a reading, an immediate, a word.
-pub fn of_bits(ty: u8, w: u64) -> Num
-    requires { ⌜ ty < 8 ⌝ }
-    ensures { λ n. ⌜ valueOf n ≡ wrap ty (pos w) ⌝ }
+pub fn of_bits(range: Range, w: u64) -> Num
+    requires { ⌜ IsRow range ⌝ }
+    ensures { λ n. ⌜ ((ty : ℕ) → Row ty range → valueOf n ≡ wrap ty (pos w)) ⌝ }
 {
-    fold(ty, kept(Num { neg: false, mag: w }))
+    fold(range, kept(Num { neg: false, mag: w }))
 }
 
 // The number that four bytes stand for as an immediate of a type: an i32 for a signed type, a u32
 // for the others.
 pub fn immediate(ty: u8, w: u64) -> Num
-    requires { ⌜ ty < 8 ⌝ }
     ensures { λ n. ⌜ valueOf n ≡ immediate ty w ⌝ }
 {
     if ty < 4 {
-        return of_bits(2, w);
+        return of_bits(range_of(2), w);
     }
-    of_bits(6, w)
+    of_bits(range_of(6), w)
 }
 
 // The number that a word of a type holds.
@@ -427,12 +369,11 @@ pub fn from_word(ty: u8, w: u64) -> Num
 }
 
 // Whether a number is a value of a type.
-pub fn is_of_type(ty: u8, n: Num) -> bool
-    requires { ⌜ ty < 8 ⌝ }
-    ensures { λ r. ⌜ r ≡ fits ty (valueOf n) ⌝ }
+pub fn is_of_type(range: Range, n: Num) -> bool
+    ensures { λ r. ⌜ ((ty : ℕ) → Row ty range → r ≡ fits ty (valueOf n)) ⌝ }
 {
     let m = n.mag;
-    m <= limit(ty, n.neg)
+    m <= limit(range, n.neg)
 }
 
 // The operation of a kind of statement or node, 2 to 6.
@@ -450,31 +391,32 @@ pub fn op_of(kind: u8) -> Op
 
 // The word of a whole number wrapped to a type: its lowest bits, moved up by the range's depth
 // before the cut and down again after it.
-fn word_in(ty: u8, w: Whole) -> u64
-    requires { ⌜ ty < 8 ⌝ }
-    ensures { λ r. ⌜ ((z : ℤ) → Holds w z → r ≡ wordOf (wrap ty z)) ⌝ }
+fn word_in(range: Range, w: Whole) -> u64
+    requires { ⌜ IsRow range ⌝ }
+    ensures { λ r. ⌜ ((ty : ℕ) (z : ℤ) → Row ty range → Holds w z → r ≡ wordOf (wrap ty z)) ⌝ }
 {
-    let e = ends_of(ty);
-    let d = e.low;
+    let d = range.lowest;
     let v = to_word(Num {
         neg: w.neg,
         mag: w.low,
     });
-    let t = low_bits(ty, std::num::wrapping_add_u64(v, d));
+    let t = low_bits(range, std::num::wrapping_add_u64(v, d));
     std::num::wrapping_sub_u64(t, d)
 }
 
-// One step on words whose type is from, wrapped to the type ty, and whether it overflowed.
-pub fn wrapped_words(op: Op, from: u8, ty: u8, a: u64, b: u64) -> WrappedWord
-    requires { ⌜ ty < 8 ⌝ }
-    ensures { λ r. ⌜ (r .word ≡ wordOf (wrap ty (exactOf op (valueAt from a) (valueAt from b)))) × (r .over ≡ overflows op ty (valueAt from a) (valueAt from b)) ⌝ }
+// One step on words whose type is from, wrapped to the type with this range, and whether it
+// overflowed.
+pub fn wrapped_words(op: Op, from: u8, range: Range, a: u64, b: u64) -> WrappedWord
+    requires { ⌜ IsRow range ⌝ }
+    ensures { λ r. ⌜ ((ty : ℕ) → Row ty range → (r .word ≡ wordOf (wrap ty (exactOf op (valueAt from a) (valueAt from b))))
+        × (r .over ≡ overflows op ty (valueAt from a) (valueAt from b))) ⌝ }
 {
     let x = from_word(from, a);
     let y = from_word(from, b);
     let w = exact(op, x, y);
-    let over = overflowed(op, ty, y, w);
+    let over = overflowed(op, range, y, w);
     WrappedWord {
-        word: word_in(ty, w),
+        word: word_in(range, w),
         over,
     }
 }

@@ -71,7 +71,7 @@ fn constant_right(ty: u8, field: usize, imm: u64) -> bool
     if field != 0 {
         return false;
     }
-    arith::is_of_type(ty, arith::immediate(ty, imm))
+    arith::is_of_type(arith::range_of(ty), arith::immediate(ty, imm))
 }
 
 // A reading of a listed field in its type.

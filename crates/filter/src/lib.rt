@@ -3,9 +3,10 @@
 // before any conjunct is evaluated. Assumes nothing.
 ghost use mathlib.Core.Path.{_≡_};
 ghost use mathlib.Core.Bool.{true};
-ghost use Prim.Native.Nat.{_+_, _*_, _≤_, _<_};
+ghost use Prim.Native.Nat.{ℕ, _+_, _*_, _/_, _≤_, _<_};
 ghost use lib.IntN.{pos};
 ghost use lib.ListN.{length, getD};
+ghost use Rattle.arith.specs.Types.{Row, IsRow};
 ghost use Rattle.model.specs.Lists.{every};
 ghost use Rattle.model.specs.Program.{typeRight};
 ghost use Rattle.model.specs.Input.{Input, width, readingAt};
@@ -17,6 +18,7 @@ ghost use Rattle.evaluator.specs.Readings.{signedAt, Few, Lent, Counted, Decode
 ghost use Rattle.evaluator.specs.Plan.{Taken};
 ghost use Rattle.filter.specs.Verdict.{verdictOf, testOf, judged};
 ghost use Rattle.filter.specs.Decoding.{inputIn, Filled};
+use arith::Range;
 use condition::ConditionRead;
 use condition::Counts;
 use input::InputRead;
@@ -36,12 +38,13 @@ enum Test {
 
 // ---- the readings
 
-// The reading with number k of a field's part, put to a place.
-fn put_reading(ty: u8, part: &[u8], k: usize, at: usize, mags: &mut [u64], negs: &mut [bool])
-    requires { ⌜ (ty < 8) × ((k + 1) * width ty ≤ length (now part)) × (at < length (now mags)) × (at < length (now negs)) ⌝ }
-    ensures { λ _. ⌜ Taken at (readingAt ty (now (part .entry)) (k * width ty)) (signedAt (now (mags .entry)) (now (negs .entry))) (signedAt (now (mags .exit)) (now (negs .exit))) ⌝ }
+// The reading with number k of a field's part, put to a place, by the row of the field's type.
+fn put_reading(range: Range, part: &[u8], k: usize, at: usize, mags: &mut [u64], negs: &mut [bool])
+    requires { ⌜ IsRow range × ((k + 1) * (range .bits / 8) ≤ length (now part)) × (at < length (now mags)) × (at < length (now negs)) ⌝ }
+    ensures { λ _. ⌜ ((ty : ℕ) → Row ty range → Taken at (readingAt ty (now (part .entry)) (k * width ty))
+        (signedAt (now (mags .entry)) (now (negs .entry))) (signedAt (now (mags .exit)) (now (negs .exit)))) ⌝ }
 {
-    let z = input::reading(ty, part, k);
+    let z = input::reading_by_row(range, part, k);
     mags[at] = z.mag;
     negs[at] = z.neg;
 }
@@ -51,9 +54,10 @@ fn put_readings(ty: u8, part: &[u8], n: usize, from: usize, mags: &mut [u64], ne
     requires { ⌜ (ty < 8) × (n * width ty ≤ length (now part)) × (from + n ≤ length (now mags)) × (from + n ≤ length (now negs)) ⌝ }
     ensures { λ _. ⌜ Filled (λ k. readingAt ty (now (part .entry)) (k * width ty)) from n (signedAt (now (mags .entry)) (now (negs .entry))) (signedAt (now (mags .exit)) (now (negs .exit))) ⌝ }
 {
+    let range = arith::range_of(ty);
     let mut k: usize = 0;
     while k < n {
-        put_reading(ty, part, k, from + k, mags, negs);
+        put_reading(range, part, k, from + k, mags, negs);
         k += 1;
     }
 }

@@ -4,13 +4,14 @@ use mathlib.Core.Path.{_≡_, refl, sym, _∙_, ap, subst}
 use mathlib.Core.Bool.{true, _&&_, cond}
 use mathlib.Core.List.{List, [], _∷_}
 use Prim.Native.Nat.{ℕ, zero, suc, _+_, _*_, _/_, _%_, _^_, _-_, _≤_, _<_}
-use native.Mathlib.Nat.{mul-comm, div-mul-le-self, add-zero, add-mul, div-le-of-le-mul}
+use native.Mathlib.Nat.{mul-comm, div-mul-le-self, add-zero, div-le-of-le-mul}
 use native.Mathlib.Omega.{arith}
 use lib.Dec.{leb, eqb, ltb}
 use lib.IntN.{pos}
 use lib.ListN.{length, getD, take, drop}
 use borrow.Author.Tests.{lt-ltb, leb-true}
-use Rattle.arith.specs.Types.{bits}
+use Rattle.arith.specs.declared.Range.{Range}
+use Rattle.arith.specs.Types.{bits, Row}
 use Rattle.arith.specs.Step.{wrap}
 use Rattle.model.specs.Refusals.{ok, mapped, wrongInput}
 use Rattle.model.specs.Bytes.{u16At, part, Pair, pairAt, entries, pairsAt, chained}
@@ -22,6 +23,10 @@ use Rattle.input.specs.Answers.{InputIsRead, fieldPart, fieldReadings}
 use Rattle.input.proofs.Links.{inputRight, read-check}
 
 -- ---- one reading
+
+bits-are : (t k : ℕ) → t % 4 ≡ k → bits t ≡ 8 * 2 ^ k
+unfolding bits
+bits-are t k e = rw e
 
 pub width-by : (t k : ℕ) → t % 4 ≡ k → width t ≡ 8 * 2 ^ k / 8
 unfolding width bits
@@ -55,13 +60,49 @@ reading-narrow : (t : ℕ) → Narrow (readingAt t) (width t)
 unfolding readingAt
 reading-narrow t s o n a h = ap (λ (v : ℕ). wrap t (pos v)) (bits-narrow t s o n a h)
 
-some-width : (t : ℕ) → 0 < width t
+pub some-width : (t : ℕ) → 0 < width t
 some-width t =
     by-width t (0 < width t) (λ e. omega (arith, width-by t 0 e)) (λ e. omega (arith, width-by t 1 e)) (λ e. omega (arith, width-by t 2 e)) (λ e. omega (arith, width-by t 3 e))
 
--- the last of them, where it is none of the others
-pub third : (t : ℕ) → (t % 4 ≡ 0 → ⊥) → (t % 4 ≡ 1 → ⊥) → (t % 4 ≡ 2 → ⊥) → t % 4 ≡ 3
-third t f g h = by-width t (t % 4 ≡ 3) (λ e. absurd (f e)) (λ e. absurd (g e)) (λ e. absurd (h e)) (λ e. e)
+pub width-le : (t : ℕ) → width t ≤ 8
+width-le t =
+    by-width t (width t ≤ 8) (λ e. omega (arith, width-by t 0 e)) (λ e. omega (arith, width-by t 1 e)) (λ e. omega (arith, width-by t 2 e))
+    (λ e. omega (arith, width-by t 3 e))
+
+-- ---- by the row of its type
+
+pub row-width : (t : ℕ) (r : Range) → Row t r → r .bits / 8 ≡ width t
+unfolding width
+row-width t r row = rw (row .width)
+
+-- a code modulo 8 has the width of the code
+pub width-modulo : (t : ℕ) → width (t % 8) ≡ width t
+unfolding width bits
+width-modulo t = let e : t % 8 % 4 ≡ t % 4 = omega arith in rw e
+
+-- which of the four widths it is, by the bits of its row
+module _ (t : ℕ) (r : Range) (row : Row t r) where
+  row-bits : (k : ℕ) → t % 4 ≡ k → r .bits ≡ 8 * 2 ^ k
+  row-bits k e = row .width ∙ bits-are t k e
+
+  pub bits-8 : r .bits ≡ 8 → t % 4 ≡ 0
+  bits-8 b =
+      by-width t (t % 4 ≡ 0) (λ e. e) (λ e. absurd (omega (arith, row-bits 1 e))) (λ e. absurd (omega (arith, row-bits 2 e)))
+      (λ e. absurd (omega (arith, row-bits 3 e)))
+
+  pub bits-16 : r .bits ≡ 16 → t % 4 ≡ 1
+  bits-16 b =
+      by-width t (t % 4 ≡ 1) (λ e. absurd (omega (arith, row-bits 0 e))) (λ e. e) (λ e. absurd (omega (arith, row-bits 2 e)))
+      (λ e. absurd (omega (arith, row-bits 3 e)))
+
+  pub bits-32 : r .bits ≡ 32 → t % 4 ≡ 2
+  bits-32 b =
+      by-width t (t % 4 ≡ 2) (λ e. absurd (omega (arith, row-bits 0 e))) (λ e. absurd (omega (arith, row-bits 1 e))) (λ e. e)
+      (λ e. absurd (omega (arith, row-bits 3 e)))
+
+  pub bits-64 : (r .bits ≡ 8 → ⊥) → (r .bits ≡ 16 → ⊥) → (r .bits ≡ 32 → ⊥) → t % 4 ≡ 3
+  bits-64 f g h =
+      by-width t (t % 4 ≡ 3) (λ e. absurd (f (row-bits 0 e))) (λ e. absurd (g (row-bits 1 e))) (λ e. absurd (h (row-bits 2 e))) (λ e. e)
 
 -- ---- an input that is read
 
@@ -160,9 +201,6 @@ module _ (types s : List ℕ) (f : ℕ) where
   ends-inside a l read h ea el = rw (ea, el) (placed types s f read h .inside)
 
 -- ---- the reading with a number
-
-pub inside : (k t w n : ℕ) → (k + 1) * width t ≤ n → w ≡ width t → k * w + width t ≤ n
-inside k t w n h e = rw e (omega (arith, add-mul k 1 (width t)))
 
 pub read-at : (t : ℕ) (s : List ℕ) (k w b : ℕ) → w ≡ width t → b ≡ bitsAt t s (k * w) → wrap t (pos b) ≡ readingAt t s (k * width t)
 unfolding readingAt

@@ -2,13 +2,15 @@
 // where the next part begins; a field's readings as a part of the caller's slice; one reading as a
 // number. Assumes nothing.
 ghost use mathlib.Core.Path.{_≡_};
-ghost use Prim.Native.Nat.{ℕ, _+_, _*_, _≤_, _<_};
+ghost use Prim.Native.Nat.{ℕ, _+_, _*_, _/_, _≤_, _<_};
 ghost use lib.ListN.{length};
+ghost use Rattle.arith.specs.Types.{Row, IsRow};
 ghost use Rattle.arith.specs.Whole.{valueOf};
 ghost use Rattle.model.specs.Refusals.{refused, mapped};
 ghost use Rattle.model.specs.Bytes.{pairAt};
 ghost use Rattle.model.specs.Input.{width, bitsAt, readingAt, readInput};
 ghost use Rattle.input.specs.Answers.{inputAnswer, linkedOut, linkOf, InputIsRead, fieldPart, fieldReadings};
+use arith::Range;
 
 // The input is in its form, or the number of the refusal.
 pub enum InputRead {
@@ -22,16 +24,12 @@ enum PartRead {
     Refused(u8),
 }
 
-// How many bytes a reading of a type has.
-pub fn width_of(ty: u8) -> usize
+// How many bytes a reading of a type has; a type's code counts modulo 8.
+fn width_of(ty: u8) -> usize
     ensures { λ w. ⌜ (w ≡ width ty) × (1 ≤ w) × (w ≤ 8) ⌝ }
 {
-    match ty % 4 {
-        0 => 1,
-        1 => 2,
-        2 => 4,
-        _ => 8,
-    }
+    let range = arith::range_of(ty % 8);
+    (range.bits / 8) as usize
 }
 
 // The part of the pair at a place: it begins at next, and is whole readings, at most 128.
@@ -109,17 +107,28 @@ pub fn count(types: &[u8], input: &[u8], field: usize) -> usize
     len / w
 }
 
-// The bytes of a reading as a number.
-fn bits_at(ty: u8, part: &[u8], at: usize) -> u64
-    requires { ⌜ at + width ty ≤ length (now part) ⌝ }
-    ensures { λ r. ⌜ r ≡ bitsAt ty (now (part .entry)) at ⌝ }
+// The bytes of a reading as a number, as many as its type has.
+fn bits_at(range: Range, part: &[u8], at: usize) -> u64
+    requires { ⌜ IsRow range × (at + range .bits / 8 ≤ length (now part)) ⌝ }
+    ensures { λ r. ⌜ ((ty : ℕ) → Row ty range → r ≡ bitsAt ty (now (part .entry)) at) ⌝ }
 {
-    match ty % 4 {
-        0 => part[at] as u64,
-        1 => bytes_le::u16_at(part, at),
-        2 => bytes_le::u32_at(part, at),
+    let bits = range.bits;
+    match bits {
+        8 => part[at] as u64,
+        16 => bytes_le::u16_at(part, at),
+        32 => bytes_le::u32_at(part, at),
         _ => bytes_le::u64_at(part, at),
     }
+}
+
+// The reading with a number in a field's part, by the row of the field's type.
+pub fn reading_by_row(range: Range, part: &[u8], k: usize) -> arith::Num
+    requires { ⌜ IsRow range × ((k + 1) * (range .bits / 8) ≤ length (now part)) ⌝ }
+    ensures { λ r. ⌜ ((ty : ℕ) → Row ty range → valueOf r ≡ readingAt ty (now (part .entry)) (k * width ty)) ⌝ }
+{
+    let w = (range.bits / 8) as usize;
+    let at = k * w;
+    arith::of_bits(range, bits_at(range, part, at))
 }
 
 // The reading with a number in a field's part.
@@ -127,6 +136,5 @@ pub fn reading(ty: u8, part: &[u8], k: usize) -> arith::Num
     requires { ⌜ (ty < 8) × ((k + 1) * width ty ≤ length (now part)) ⌝ }
     ensures { λ r. ⌜ valueOf r ≡ readingAt ty (now (part .entry)) (k * width ty) ⌝ }
 {
-    let at = k * width_of(ty);
-    arith::of_bits(ty, bits_at(ty, part, at))
+    reading_by_row(arith::range_of(ty), part, k)
 }

@@ -38,7 +38,7 @@ fn constant(ty: u8, imm: u64) {
         number(imm);
         return;
     }
-    let n = arith::of_bits(6, imm);
+    let n = arith::immediate(ty, imm);
     if n.neg {
         if 0 < n.mag {
             say(b"-");

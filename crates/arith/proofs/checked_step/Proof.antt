@@ -15,14 +15,14 @@ overflowed-requires : tie.Need-overflowed-requires
 overflowed-requires c κs = search needs
 
 returns : tie.Need-returns
-returns c = rw (← c .before .overflowed .ensures _ (c .before .before .exact .ensures), c .if1 .taken)
+returns c = λ ty row. rw (← c .before .overflowed .ensures ty _ row (c .before .before .exact .ensures), c .if1 .taken)
 
 returns-2 : tie.Need-returns-2
-returns-2 c =
+returns-2 c = λ ty row.
     let a = c .before .before .before .args in
     let h = c .before .before .exact .ensures in
-    let e = sym (c .before .overflowed .ensures _ h) ∙ c .if1 .left in
-    rw (e, fits-low (a .ty) _ h (step-fits (a .op) (a .ty) (valueOf (a .a)) (valueOf (a .b)) e))
+    let e = sym (c .before .overflowed .ensures ty _ row h) ∙ c .if1 .left in
+    rw (e, fits-low ty _ h (step-fits (a .op) ty (valueOf (a .a)) (valueOf (a .b)) e))
 
 pub checked-step-spec : {M : Type 1} → statement M
 checked-step-spec = tie.close (tie.spec exact-requires overflowed-requires returns returns-2)

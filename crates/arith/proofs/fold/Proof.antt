@@ -10,36 +10,33 @@ use borrow.Author.Needs.{needs}
 use Rattle.arith.proofs.fold.Statement.{statement}
 use Rattle.arith.proofs.fold.Tie as tie
 
-ends-of-requires : tie.Need-ends-of-requires
-ends-of-requires c κs = search needs
-
 limit-requires : tie.Need-limit-requires
 limit-requires c κs = search needs
 
 low-bits-requires : tie.Need-low-bits-requires
-low-bits-requires c κs = search needs
+low-bits-requires c κs = c .before .pre
 
 returns : tie.Need-returns
-returns c =
-    λ z h.
-    fold-in (c .before .before .before .before .args .ty) _ h (c .before .low-bits .result) (c .before .low-bits .ensures) (omega arith)
+returns c = λ ty z row h.
+    fold-in ty _ h (c .before .low-bits .result) (c .before .low-bits .ensures ty row) (omega (arith, c .before .before .limit .ensures ty row))
 
-add-t9 : tie.Need-add-t9
-add-t9 c = omega (arith, span (c .before .before .before .before .before .args .ty), span-le (c .before .before .before .before .before .args .ty))
+add-t8 : tie.Need-add-t8
+add-t8 c = let p = c .before .before .before .before .pre in omega (arith, p .1, span (p .0), span-le (p .0))
 
-sub-t10 : tie.Need-sub-t10
-sub-t10 c =
-    let a = c .before .before .before .before .before .args in
-    omega (arith, span (a .ty), rw (← c .before .before .low-bits .ensures) at (mod-lt (a .w .low) (pow-pos (bits (a .ty)))))
+sub-t9 : tie.Need-sub-t9
+sub-t9 c =
+    let s = c .before .before .before .before in
+    let p = s .pre in
+    omega (arith, p .1, span (p .0), rw (← c .before .before .low-bits .ensures (p .0) (p .1)) at (mod-lt (s .args .w .low) (pow-pos (bits (p .0)))))
 
-add-t11 : tie.Need-add-t11
-add-t11 c = omega (arith, span (c .before .before .before .before .before .args .ty), span-le (c .before .before .before .before .before .args .ty))
+add-t10 : tie.Need-add-t10
+add-t10 c = let p = c .before .before .before .before .pre in omega (arith, p .1, span (p .0), span-le (p .0))
 
 returns-2 : tie.Need-returns-2
-returns-2 c =
-    λ z h.
-    let e = c .before .before .before .before .ends-of .ensures in
-    rw (e .0, e .1) (fold-out (c .before .before .before .before .before .args .ty) _ h (c .before .before .low-bits .result) (c .before .before .low-bits .ensures) (omega arith))
+returns-2 c = λ ty z row h.
+    rw (row .low, row .high)
+    (fold-out ty _ h (c .before .before .low-bits .result) (c .before .before .low-bits .ensures ty row) (omega (arith, c .before .before .before .limit .ensures ty row)))
 
 pub fold-spec : {M : Type 1} → statement M
-fold-spec = tie.close (tie.spec ends-of-requires limit-requires low-bits-requires returns add-t9 sub-t10 add-t11 returns-2)
+fold-spec =
+    tie.close (tie.spec limit-requires low-bits-requires returns add-t8 sub-t9 add-t10 returns-2)

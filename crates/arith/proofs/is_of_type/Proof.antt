@@ -9,7 +9,7 @@ limit-requires : tie.Need-limit-requires
 limit-requires c κs = search needs
 
 returns : tie.Need-returns
-returns c = rw (fits-sign, c .limit .ensures)
+returns c = λ ty row. rw (fits-sign, c .limit .ensures ty row)
 
 pub is-of-type-spec : {M : Type 1} → statement M
 is-of-type-spec = tie.close (tie.spec limit-requires returns)

@@ -2,15 +2,13 @@
 -- Assumes nothing.
 use mathlib.Core.Path.{ap, _∙_}
 use Prim.Native.Nat.{ℕ, _+_, _%_, _^_}
+use native.Mathlib.Omega.{arith}
 use Rattle.arith.specs.Types.{bits}
 use Rattle.arith.specs.Words.{wordOf}
 use Rattle.arith.proofs.WordLaws.{word-held, word-wrap}
 use borrow.Author.Needs.{needs}
 use Rattle.arith.proofs.word_in.Statement.{statement}
 use Rattle.arith.proofs.word_in.Tie as tie
-
-ends-of-requires : tie.Need-ends-of-requires
-ends-of-requires c κs = search needs
 
 to-word-requires : tie.Need-to-word-requires
 to-word-requires c κs = search needs
@@ -19,21 +17,20 @@ wrapping-add-u64-requires : tie.Need-wrapping-add-u64-requires
 wrapping-add-u64-requires c κs = search needs
 
 low-bits-requires : tie.Need-low-bits-requires
-low-bits-requires c κs = search needs
+low-bits-requires c κs = c .before .before .pre
 
 wrapping-sub-u64-requires : tie.Need-wrapping-sub-u64-requires
 wrapping-sub-u64-requires c κs = search needs
 
 returns : tie.Need-returns
 unfolding wordOf
-returns c =
-    λ z h.
-    let t = c .before .before .before .before .before .args .ty in
-    let d = c .before .before .before .before .ends-of .ensures .0 in
+returns c = λ ty z row h.
+    let d = row .low in
     let v = c .before .before .before .to-word .ensures ∙ word-held _ h in
     let s = c .before .before .wrapping-add-u64 .ensures in
-    word-wrap t z (c .before .low-bits .result) (c .wrapping-sub-u64 .result) (c .before .low-bits .ensures ∙ ap (λ (n : ℕ). n % 2 ^ bits t) (s ∙ (λ i. (v i + d i) % 2 ^ 64)))
+    word-wrap ty z (c .before .low-bits .result) (c .wrapping-sub-u64 .result)
+    (c .before .low-bits .ensures ty row ∙ ap (λ (n : ℕ). n % 2 ^ bits ty) (s ∙ (λ i. (v i + d i) % 2 ^ 64)))
     (search needs) (rw (← d) (c .wrapping-sub-u64 .ensures))
 
 pub word-in-spec : {M : Type 1} → statement M
-word-in-spec = tie.close (tie.spec ends-of-requires to-word-requires wrapping-add-u64-requires low-bits-requires wrapping-sub-u64-requires returns)
+word-in-spec = tie.close (tie.spec to-word-requires wrapping-add-u64-requires low-bits-requires wrapping-sub-u64-requires returns)

@@ -12,6 +12,9 @@ returns c = rw (le-ltb _ _ (c .if1 .taken))
 returns-2 : tie.Need-returns-2
 returns-2 c = rw (lt-ltb _ _ (c .before .if1 .left), ne-eqb _ _ (c .if2 .taken))
 
+range-of-requires : tie.Need-range-of-requires
+range-of-requires c κs = search needs
+
 immediate-requires : tie.Need-immediate-requires
 immediate-requires c κs = search needs
 
@@ -19,8 +22,10 @@ is-of-type-requires : tie.Need-is-of-type-requires
 is-of-type-requires c κs = search needs
 
 returns-3 : tie.Need-returns-3
-returns-3 c = rw (lt-ltb _ _ (c .before .before .before .if1 .left), eq-eqb _ _ (c .before .before .if2 .left), ← c .before .immediate .ensures) (c .is-of-type .ensures)
+returns-3 c =
+    let g = c .before .before in
+    rw (lt-ltb _ _ (g .before .before .if1 .left), eq-eqb _ _ (g .before .if2 .left), ← c .before .immediate .ensures) (c .is-of-type .ensures _ (g .range-of .ensures))
 
 pub constant-right-spec : {M : Type 1} → statement M
 constant-right-spec =
-    tie.close (tie.spec returns returns-2 immediate-requires is-of-type-requires returns-3)
+    tie.close (tie.spec returns returns-2 range-of-requires immediate-requires is-of-type-requires returns-3)

@@ -7,8 +7,8 @@ use Rattle.evaluator.proofs.Inputs.{signed-same, signed-other}
 use Rattle.filter.proofs.put_reading.Statement.{statement}
 use Rattle.filter.proofs.put_reading.Tie as tie
 
-reading-requires : tie.Need-reading-requires
-reading-requires c κs = search needs
+reading-by-row-requires : tie.Need-reading-by-row-requires
+reading-by-row-requires c κs = search needs
 
 mul-mags : tie.Need-mul-mags
 mul-mags c = search needs
@@ -26,16 +26,18 @@ same-length-2 : tie.Need-same-length-2
 same-length-2 c = search needs
 
 returns : tie.Need-returns
-returns c =
+returns c = λ ty row.
     let a = c .before .before .before .before .args in
-    let z = c .reading .result in
-    (signed-same (a .mags .now) (a .negs .now) (a .at) (z .mag) (z .neg) (omega arith) (omega arith) ∙ c .reading .ensures, signed-other (a .mags .now) (a .negs .now) (a .at) (z .mag) (z .neg))
+    let z = c .reading-by-row .result in (
+      signed-same (a .mags .now) (a .negs .now) (a .at) (z .mag) (z .neg) (omega arith) (omega arith) ∙ c .reading-by-row .ensures ty row,
+      signed-other (a .mags .now) (a .negs .now) (a .at) (z .mag) (z .neg),
+    )
 
 pub put-reading-spec : {M : Type 1} → statement M
 put-reading-spec =
     tie.close
     (tie.spec
-    reading-requires
+    reading-by-row-requires
     mul-mags
     slice-write-mags
     slice-write-negs

@@ -5,7 +5,9 @@ use Prim.Native.Nat.{_*_, _-_, _≤_}
 use native.Mathlib.Omega.{arith}
 use lib.ListN.{length}
 use borrow.Author.Needs.{needs}
+use Rattle.arith.specs.Types.{Row}
 use Rattle.model.specs.Input.{width, readingAt}
+use Rattle.input.proofs.Fields.{row-width}
 use Rattle.evaluator.specs.Readings.{signedAt}
 use Rattle.filter.specs.Decoding.{Filled}
 use Rattle.filter.proofs.Readings.{filled-none, filled-next, next-inside}
@@ -13,15 +15,25 @@ use Rattle.filter.proofs.put_readings.Statement.{statement}
 use Rattle.filter.proofs.put_readings.Tie as tie
 
 abbrev Inv-loop : tie.InvT-loop
-Inv-loop ty part n from mags₀ negs₀ k₀ mags negs k =
-    (k ≤ n) × (length mags ≡ length mags₀) × (length negs ≡ length negs₀) × Filled (λ j. readingAt ty part (j * width ty)) from k (signedAt mags₀ negs₀) (signedAt mags negs)
+Inv-loop ty part n from mags₀ negs₀ range k₀ mags negs k =
+    (k ≤ n) × (length mags ≡ length mags₀) × (length negs ≡ length negs₀)
+    × Filled (λ j. readingAt ty part (j * width ty)) from k (signedAt mags₀ negs₀) (signedAt mags negs)
 
 abbrev μ-loop : tie.MeasureT-loop
-μ-loop ty part n from mags₀ negs₀ k₀ mags negs k = n - k
+μ-loop ty part n from mags₀ negs₀ range k₀ mags negs k = n - k
+
+abbrev start : tie.After-range-of Inv-loop μ-loop → tie.Start Inv-loop μ-loop
+start c = c .before .before .before .before
+
+abbrev looked-up : tie.In-loop Inv-loop μ-loop → tie.After-range-of Inv-loop μ-loop
+looked-up c = c .before .before
+
+range-of-requires : tie.Need-range-of-requires Inv-loop μ-loop
+range-of-requires c κs = search needs
 
 loop-holds : tie.Need-loop-holds Inv-loop μ-loop
 loop-holds c =
-    let a = c .before .before .before .args in
+    let a = start c .args in
     (omega arith, refl, refl, filled-none (λ j. readingAt (a .ty) (a .part .now) (j * width (a .ty))) (a .from) (signedAt (a .mags .now) (a .negs .now)))
 
 add-put-reading : tie.Need-add-put-reading Inv-loop μ-loop
@@ -29,9 +41,15 @@ add-put-reading c = search needs
 
 put-reading-requires : tie.Need-put-reading-requires Inv-loop μ-loop
 put-reading-requires c κs =
-    let g = c .before .before .before .before .before .before .before in
-    let lp = c .before .before .before .loop in
-    (g .pre .0, next-inside (lp .k) (g .args .n) (width (g .args .ty)) (length (g .args .part .now)) (omega arith) (g .pre .1), omega (arith, lp .inv .1), omega (arith, lp .inv .2))
+    let r = looked-up (c .before .before) in
+    let row = r .range-of .ensures in
+    let a = start r .args in
+    let lp = c .before .before .before .loop in (
+      (_, row),
+      rw (row-width _ _ row) (next-inside (lp .k) (a .n) (width (a .ty)) (length (a .part .now)) (omega arith) (start r .pre .1)),
+      omega (arith, lp .inv .1),
+      omega (arith, lp .inv .2),
+    )
 
 add-k : tie.Need-add-k Inv-loop μ-loop
 add-k c = search needs
@@ -41,13 +59,17 @@ loop-less c = search needs
 
 loop-again : tie.Need-loop-again Inv-loop μ-loop
 loop-again c =
-    let a = c .before .before .before .before .before .before .before .before .before .before .before .before .args in
-    let lp = c .before .before .before .before .before .before .before .before .loop in
-    let p = c .before .before .before .before .put-reading in (
+    let q = c .before .before .before .before in
+    let i = q .before .before .before in
+    let r = looked-up i in
+    let a = start r .args in
+    let lp = i .before .loop in
+    let p = q .put-reading in (
       omega arith,
       omega (arith, p .kept .1 .1 .1 .1 .0, lp .inv .1),
       omega (arith, p .kept .1 .1 .1 .1 .1 .0, lp .inv .2),
-      filled-next (λ j. readingAt (a .ty) (a .part .now) (j * width (a .ty))) (a .from) (signedAt (a .mags .now) (a .negs .now)) (lp .k) (signedAt (lp .mags) (lp .negs)) (signedAt (p .last .1 .1 .1 .1 .0) (p .last .1 .1 .1 .1 .1 .0)) (lp .inv .3) (p .ensures),
+      filled-next (λ j. readingAt (a .ty) (a .part .now) (j * width (a .ty))) (a .from) (signedAt (a .mags .now) (a .negs .now)) (lp .k)
+          (signedAt (lp .mags) (lp .negs)) (signedAt (p .last .1 .1 .1 .1 .0) (p .last .1 .1 .1 .1 .1 .0)) (lp .inv .3) (p .ensures _ (r .range-of .ensures)),
     )
 
 same-length : tie.Need-same-length Inv-loop μ-loop
@@ -58,10 +80,11 @@ same-length-2 c = search needs
 
 returns : tie.Need-returns Inv-loop μ-loop
 returns c =
-    let a = c .before .before .before .before .before .args in
+    let a = start (c .before .before) .args in
     let lp = c .before .loop in
     let e : lp .k ≡ a .n = omega arith in
-    subst (λ m. Filled (λ j. readingAt (a .ty) (a .part .now) (j * width (a .ty))) (a .from) m (signedAt (a .mags .now) (a .negs .now)) (signedAt (lp .mags) (lp .negs))) e (lp .inv .3)
+    subst (λ m. Filled (λ j. readingAt (a .ty) (a .part .now) (j * width (a .ty))) (a .from) m (signedAt (a .mags .now) (a .negs .now)) (signedAt (lp .mags) (lp .negs)))
+    e (lp .inv .3)
 
 pub put-readings-spec : {M : Type 1} → statement M
 put-readings-spec =
@@ -69,6 +92,7 @@ put-readings-spec =
     (tie.spec
     Inv-loop
     μ-loop
+    range-of-requires
     loop-holds
     add-put-reading
     put-reading-requires

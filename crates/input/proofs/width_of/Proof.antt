@@ -1,24 +1,25 @@
 -- `input::width_of` meets its contract.
 -- Assumes nothing.
-use mathlib.Core.Path.{sym}
-use lib.Dec.{lit≤}
-use Rattle.input.proofs.Fields.{width-by, third}
+use mathlib.Core.Path.{_≡_, _∙_}
+use Prim.Native.Nat.{_/_, _%_}
+use native.Mathlib.Omega.{arith}
+use borrow.Author.Needs.{needs}
+use Rattle.model.specs.Input.{width}
+use Rattle.input.proofs.Fields.{row-width, width-modulo, some-width, width-le}
 use Rattle.input.proofs.width_of.Statement.{statement}
 use Rattle.input.proofs.width_of.Tie as tie
 
+range-of-requires : tie.Need-range-of-requires
+range-of-requires c κs = search needs
+
+cast-result : tie.Need-cast-result
+cast-result c = search needs
+
 returns : tie.Need-returns
-returns c = (sym (width-by (c .before .args .ty) 0 (c .match .keys1)), lit≤ tt, lit≤ tt)
-
-returns-2 : tie.Need-returns-2
-returns-2 c = (sym (width-by (c .before .args .ty) 1 (c .match .keys2)), lit≤ tt, lit≤ tt)
-
-returns-3 : tie.Need-returns-3
-returns-3 c = (sym (width-by (c .before .args .ty) 2 (c .match .keys3)), lit≤ tt, lit≤ tt)
-
-returns-4 : tie.Need-returns-4
-returns-4 c =
-    let r = c .match .rest in
-    (sym (width-by (c .before .args .ty) 3 (third (c .before .args .ty) (r .0 .0 .1) (r .0 .1) (r .1))), lit≤ tt, lit≤ tt)
+returns c =
+    let t = c .before .before .args .ty in
+    let w = row-width (t % 8) _ (c .before .range-of .ensures) ∙ width-modulo t in
+    (w, omega (arith, w, some-width t), omega (arith, w, width-le t))
 
 pub width-of-spec : {M : Type 1} → statement M
-width-of-spec = tie.close (tie.spec returns returns-2 returns-3 returns-4)
+width-of-spec = tie.close (tie.spec range-of-requires cast-result returns)

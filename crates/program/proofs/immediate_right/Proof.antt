@@ -18,14 +18,19 @@ variable-type-requires : tie.Need-variable-type-requires
 variable-type-requires c κs = search needs
 
 immediate-requires : tie.Need-immediate-requires
-immediate-requires c κs = rw (c .variable-type .ensures) (type-small _ (c .before .before .before .before .before .pre .1) _)
+immediate-requires c κs = search needs
+
+range-of-requires : tie.Need-range-of-requires
+range-of-requires c κs = rw (c .before .variable-type .ensures) (type-small _ (c .before .before .before .before .before .before .pre .1) _)
 
 is-of-type-requires : tie.Need-is-of-type-requires
-is-of-type-requires c κs = rw (c .before .variable-type .ensures) (type-small _ (c .before .before .before .before .before .before .pre .1) _)
+is-of-type-requires c κs = search needs
 
 returns-2 : tie.Need-returns-2
 unfolding immediateRight
-returns-2 c = rw (c .before .before .before .if1 .left, ← c .before .before .variable-type .ensures, ← c .before .immediate .ensures) (c .is-of-type .ensures)
+returns-2 c =
+    let n = c .before .before in
+    rw (n .before .before .if1 .left, ← n .before .variable-type .ensures, ← n .immediate .ensures) (c .is-of-type .ensures _ (c .before .range-of .ensures))
 
 pub immediate-right-spec : {M : Type 1} → statement M
 immediate-right-spec =
@@ -35,5 +40,6 @@ immediate-right-spec =
     returns
     variable-type-requires
     immediate-requires
+    range-of-requires
     is-of-type-requires
     returns-2)
