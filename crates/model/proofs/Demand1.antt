@@ -8,14 +8,15 @@ use Prim.Native.Nat.{ℕ}
 use native.Mathlib.Omega.{arith}
 use lib.Dec.{eqb}
 use Rattle.model.specs.Lists.{every}
-use Rattle.model.specs.Refusals.{Out, ok, refused, _>>=_, check, tooManyCombinations}
+use Rattle.model.specs.Refusals.{Out, ok, refused, _>>=_, check, lentTooShort, tooManyCombinations}
 use Rattle.model.specs.Condition.{Condition, readCondition, analysis}
 use Rattle.model.specs.Input.{Input, readInput}
 use Rattle.model.specs.Filter.{holds, fewCombinations, passNumber, heldNumber, filterInput}
 use Rattle.model.specs.Run.{Ran, run}
 use Rattle.model.specs.Guarded.{held, passed, admitted, guarded}
-use Rattle.model.specs.Demands.{FromTo, ResultOrRefusal, AnalysisRefusal, FilterRefusal, RunRefusal, GuardedRefusal, Demand1}
+use Rattle.model.specs.Demands.{FromTo, ResultOrRefusal, OrLent, AnalysisRefusal, FilterRefusal, RunRefusal, GuardedRefusal, Demand1}
 use Rattle.model.proofs.Demand3.{analysis-accepts, derived-reads-back}
+use Rattle.model.proofs.Ends.{run-ends}
 use Rattle.model.proofs.RefusalNumbers.{refusals-analysis, refusals-filter, refusals-run, read-refusals-run, read-refusals-filter}
 use Rattle.model.proofs.Results.{Refuses, Gives, refuses-by, refuses-bind, refuses-imp, gives-ok, gives-bind, gives-any, gives-check}
 use Rattle.model.proofs.Tests.{case}
@@ -84,9 +85,15 @@ module _ (program input : List ℕ) (limit : ℕ) (choices log : List ℕ) where
 
 -- ---- the theorem
 
-answer-of : {A : Type 0} (P : ℕ → Type 0) (o : Out A) → ((n : ℕ) → o ≡ refused n → P n) → ResultOrRefusal P o
+pub answer-of : {A : Type 0} (P : ℕ → Type 0) (o : Out A) → ((n : ℕ) → o ≡ refused n → P n) → ResultOrRefusal P o
 answer-of P (ok a) h = inl (a, refl)
 answer-of P (refused n) h = inr (n, refl, h n refl)
+
+-- where what is lent may be too short
+pub lent-answer : {A : Type 0} (P : ℕ → Type 0) (b : Bool) (o : Out A) → ResultOrRefusal P o → ResultOrRefusal (OrLent P) (check b lentTooShort o)
+lent-answer P true o (inl r) = inl r
+lent-answer P true o (inr r) = inr (r .0, r .1, inr (r .2))
+lent-answer P false o r = inr (lentTooShort, refl, inl refl)
 
 pub demand1 : Demand1
 demand1 = record {
@@ -94,5 +101,6 @@ demand1 = record {
   filtered = λ c i. answer-of FilterRefusal (filterInput c i) (refusals-filter c i);
   verdicts = λ c i v e. gives-ok IsVerdict (filterInput c i) v e (filter-gives c i);
   ran = λ p i limit ch log. answer-of RunRefusal (run p i limit ch log) (refusals-run p i limit ch log);
+  ends = run-ends;
   behind = λ p i limit ch log. answer-of GuardedRefusal (guarded p i limit ch log) (refusals-guarded p i limit ch log);
 }

@@ -10,7 +10,7 @@ use lib.ListN.{length, drop}
 use Rattle.arith.specs.Step.{passes}
 use Rattle.arith.specs.Words.{valueAt}
 use Rattle.model.specs.Lists.{All, every}
-use Rattle.model.specs.Refusals.{Out, ok, refused, wrongSections, wrongBlocks, neverSettles, wrongCondition, wrongInput, tooManyCombinations}
+use Rattle.model.specs.Refusals.{Out, ok, refused, lentTooShort, wrongSections, wrongBlocks, neverSettles, wrongCondition, wrongInput, tooManyCombinations}
 use Rattle.model.specs.Bytes.{byteAt, u16At, u64At}
 use Rattle.model.specs.Conjunct.{Source, field, cell, Atom, Conj, Conjuncts, atoms}
 use Rattle.model.specs.Condition.{Condition, readCondition, analysis}
@@ -30,7 +30,11 @@ FromTo a b n = (a ≤ n) × (n ≤ b)
 abbrev pub ResultOrRefusal : {A : Type 0} → (ℕ → Type 0) → Out A → Type 0
 ResultOrRefusal {A} P o = ((a : A) × (o ≡ ok a)) ⊎ ((n : ℕ) × (o ≡ refused n) × P n)
 
--- the numbers of the four operations on byte strings; cause 1 is of what is lent, and stands with the operations that are lent it
+-- the same of an operation that is lent something, which may be too short
+abbrev pub OrLent : (ℕ → Type 0) → ℕ → Type 0
+OrLent P n = (n ≡ lentTooShort) ⊎ P n
+
+-- the numbers of the four operations on byte strings
 abbrev pub AnalysisRefusal : ℕ → Type 0
 AnalysisRefusal n = FromTo wrongSections neverSettles n
 
@@ -44,12 +48,13 @@ RunRefusal n = FromTo wrongSections wrongBlocks n ⊎ (n ≡ wrongInput)
 abbrev pub GuardedRefusal : ℕ → Type 0
 GuardedRefusal n = AnalysisRefusal n ⊎ FromTo wrongInput tooManyCombinations n
 
--- whatever bytes are handed in, there is an answer; the filter's is one of two numbers
+-- whatever bytes are handed in, there is an answer; the filter's is one of two numbers, and a run's end one of five
 pub record Demand1 : Type 0 where
   pub analysed : (program : List ℕ) → ResultOrRefusal AnalysisRefusal (analysis program)
   pub filtered : (condition input : List ℕ) → ResultOrRefusal FilterRefusal (filterInput condition input)
   pub verdicts : (condition input : List ℕ) (v : ℕ) → filterInput condition input ≡ ok v → (v ≡ passNumber) ⊎ (v ≡ heldNumber)
   pub ran : (program input : List ℕ) (limit : ℕ) (choices log : List ℕ) → ResultOrRefusal RunRefusal (run program input limit choices log)
+  pub ends : (program input : List ℕ) (limit : ℕ) (choices log : List ℕ) (R : Ran) → run program input limit choices log ≡ ok R → R .end ≤ 4
   pub behind : (program input : List ℕ) (limit : ℕ) (choices log : List ℕ) → ResultOrRefusal GuardedRefusal (guarded program input limit choices log)
 
 -- ---- demand 2: the filter
