@@ -63,12 +63,12 @@ quiet-next m stmt p i h k j l b = go (decLt j i)
 
 module _ (m : Footprint) (stmt : ℕ → Stmt) where
   pub passed-none : (r : ℕ) → PlainAndSpared m stmt r r
-  passed-none r = record { each-plain = λ i a b. absurd (omega arith); quiet = λ i a b. absurd (omega arith) }
+  passed-none r = record { each-plain = λ i a b. absurd (omega arith); spared = λ i a b. absurd (omega arith) }
 
   pub passed-before : (l r : ℕ) → PlainAndSpared m stmt l r → (x : Instr) → stmt (l - 1) ≡ plain x → Spares m (stmt (l - 1)) → PlainAndSpared m stmt (l - 1) r
   passed-before l r h x e k = record {
     each-plain = λ i a b. first i a b (decLt i l);
-    quiet = λ i a b. other i a b (decLt i l);
+    spared = λ i a b. other i a b (decLt i l);
   }
     where
       first : (i : ℕ) → l - 1 ≤ i → i < r → Dec (i < l) → (y : Instr) × (stmt i ≡ plain y)
@@ -77,7 +77,7 @@ module _ (m : Footprint) (stmt : ℕ → Stmt) where
 
       other : (i : ℕ) → l - 1 ≤ i → i < r → Dec (i < l) → Spares m (stmt i)
       other i a b (yes g) = let n : i ≡ l - 1 = omega arith in subst (λ j. Spares m (stmt j)) (sym n) k
-      other i a b (no g) = h .spares-all i (omega arith) b
+      other i a b (no g) = h .spared i (omega arith) b
 
 -- ---- a piece
 

@@ -49,4 +49,4 @@ SparedAll m stmt p q = (i : ℕ) → p ≤ i → i < q → Spares m (stmt i)
 -- the same, and each of these statements is plain
 pub record PlainAndSpared (m : Footprint) (stmt : ℕ → Stmt) (p q : ℕ) : Type 0 where
   pub each-plain : (i : ℕ) → p ≤ i → i < q → (x : Instr) × (stmt i ≡ plain x)
-  pub quiet : SparedAll m stmt p q
+  pub spared : SparedAll m stmt p q

@@ -146,5 +146,5 @@ module _ (stmt : ℕ → Stmt) (mate : ℕ → ℕ) where
       go zero i a g w = let e : i ≡ l = omega arith in subst (λ j. Stands depth p q j S₀ S) e g
       go (suc n) i a g w =
           let x = w .each-plain (i - 1) (omega arith) (omega arith) in
-          let last = stands-passed depth p q (i - 1) i S₀ S g (omega arith) (sym (first-plain (stmt (i - 1)) (x .0) (i - 1) (x .1))) m s (λ j c d. w .quiet j (omega arith) d) in
-          go n (i - 1) (omega arith) last (record { each-plain = λ j c d. w .each-plain j c (omega arith); quiet = λ j c d. w .quiet j c (omega arith) })
+          let last = stands-passed depth p q (i - 1) i S₀ S g (omega arith) (sym (first-plain (stmt (i - 1)) (x .0) (i - 1) (x .1))) m s (λ j c d. w .spared j (omega arith) d) in
+          go n (i - 1) (omega arith) last (record { each-plain = λ j c d. w .each-plain j c (omega arith); spared = λ j c d. w .spared j c (omega arith) })
