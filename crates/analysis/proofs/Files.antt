@@ -7,7 +7,7 @@ use Prim.Native.Nat.{ℕ, _≤_, _<_}
 use native.Mathlib.Omega.{arith}
 use lib.Dec.{leb}
 use lib.ListN.{length, take, drop}
-use lib.Seq.{take-take}
+use lib.Seq.{take-take, length-take-le}
 use borrow.Author.Tests.{le-leb, lt-leb}
 use Rattle.model.specs.Condition.{encode, conditionBytes, analysis}
 use Rattle.model.specs.Conjunct.{Conjuncts}
@@ -79,6 +79,10 @@ unread-refusal s r k h e =
 
 -- ---- what is lent
 
+-- the documented words are a part
+pub first-words : (m : List ℕ) → analysisWords ≤ length m → analysisWords ≤ length (take analysisWords m)
+first-words m h = omega (arith, length-take-le analysisWords m h)
+
 module _ (output scratch : ℕ) (s : List ℕ) where
   pub enough : conditionBytes ≤ output → analysisWords ≤ scratch → analysis s ≡ derivation output scratch s
   unfolding derivation
@@ -105,7 +109,7 @@ module _ (output scratch : ℕ) (s : List ℕ) where
 
     -- the work was done on the documented words
     pub derived-read : conditionBytes ≤ output → analysisWords ≤ scratch → scratch ≡ length words → (P : Program) → readProgram s ≡ ok P
-        → (r : Derived) (after ys : List ℕ) → FileGiven (analysis s) r out after → length ys ≡ analysisWords
+        → (r : Derived) (after ys : List ℕ) → FileGiven (analysis s) r out after → length ys ≡ length (take analysisWords words)
         → Derives (derivation output scratch s) r out after words (ys ++ drop analysisWords words)
     derived-read m h l P e r after ys g w =
         let same = enough m h in
@@ -113,7 +117,8 @@ module _ (output scratch : ℕ) (s : List ℕ) where
           answer = sym same ∙ g .0;
           output = g .1;
           scratch = scratch-worked analysisWords wrongBlocks (derivation output scratch s)
-              (λ n d. let q = read-refusals-analysis s P e n (same ∙ d) in omega arith) ys words w (omega arith);
+              (λ n d. let q = read-refusals-analysis s P e n (same ∙ d) in omega arith) ys words
+              (w ∙ length-take-le analysisWords words (omega arith)) (omega arith);
         }
 
 -- ---- demand 1
