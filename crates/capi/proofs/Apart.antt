@@ -50,12 +50,12 @@ words-apart program input limit choices log n before condition s s′ word log�
     let R = word-result (OrLent RunRefusal) (λ (x : Ran). x .end) q word (run-answers analysisWords (length t) program input limit choices log) some-run (r .word) rn in
     let file : take n condition ≡ C .0 = d .file (C .0) (C .1) in
     let p = filterInput (take n condition) input in
-    let V = word-result FilterRefusal (λ (x : ℕ). x) p passNumber (demand1 .filtered (take n condition) input) (λ m h. omega arith)
-        (v ∙ ap answerWord (sym (mapped-self p))) (omega arith) in
-    let pass : p ≡ ok passNumber = V .1 ∙ ap ok (sym (v ∙ ap answerWord (V .1))) in
+    let found = word-result FilterRefusal (λ (x : ℕ). x) p passNumber (demand1 .filtered (take n condition) input) (λ m h. omega arith)
+    (v ∙ ap answerWord (sym (mapped-self p))) (omega arith) in
+    let pass : p ≡ ok passNumber = found .1 ∙ ap ok (sym (v ∙ ap answerWord (found .1))) in
     let whole = demand3 program (take n condition) input limit choices log (R .0)
-        (derivation-analysis (length before) (length s) program (take n condition) (C .1 ∙ ap ok (sym file))) pass
-        (lent-run analysisWords (length t) program input limit choices log (R .0) (R .1)) in
+    (derivation-analysis (length before) (length s) program (take n condition) (C .1 ∙ ap ok (sym file))) pass
+    (lent-run analysisWords (length t) program input limit choices log (R .0) (R .1)) in
     let log-is : log′ ≡ R .0 .log = r .log ∙ ap (λ x. leftBy (λ (y : Ran). y .log) x log) (R .1) in
     let records-are : records′ ≡ R .0 .records = r .records ∙ ap (λ x. leftBy (λ (y : Ran). y .records) x records) (R .1) in
     subst (λ k. Exact program input limit choices (length log) k log′) (sym records-are)

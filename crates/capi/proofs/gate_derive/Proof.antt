@@ -33,7 +33,8 @@ returns : tie.Need-returns
 returns c =
     let a = c .before .before .before .before .before .before .before .before .before .before .before .before .before .before .args in
     let call = c .before .before .before .before .before .before .before .before .derive in
-    derived-left (derivation (length (a .condition .now)) (length (a .scratch .now)) (a .recipe .now)) (call .result) (a .condition .now) (call .last .1 .0) (c .refusal .result) (call .ensures)
+    derived-left (derivation (length (a .condition .now)) (length (a .scratch .now)) (a .recipe .now)) (call .result) (a .condition .now) (call .last .1 .0)
+    (a .scratch .now) (call .last .1 .1 .0) (c .refusal .result) (call .ensures)
     (c .refusal .ensures ∙ sym (ap derivedWord (c .before .before .derived .given .1)))
 
 same-length-3 : tie.Need-same-length-3
@@ -46,7 +47,8 @@ returns-2 : tie.Need-returns-2
 returns-2 c =
     let a = c .before .before .before .before .before .before .before .before .before .before .before .before .before .args in
     let call = c .before .before .before .before .before .before .before .derive in
-    derived-left (derivation (length (a .condition .now)) (length (a .scratch .now)) (a .recipe .now)) (call .result) (a .condition .now) (call .last .1 .0) (c .before .derived2 .given .0 .0) (call .ensures)
+    derived-left (derivation (length (a .condition .now)) (length (a .scratch .now)) (a .recipe .now)) (call .result) (a .condition .now) (call .last .1 .0)
+    (a .scratch .now) (call .last .1 .1 .0) (c .before .derived2 .given .0 .0) (call .ensures)
     (sym (ap derivedWord (c .before .derived2 .given .1)))
 
 pub gate-derive-spec : {M : Type 1} → statement M

@@ -1,8 +1,7 @@
 -- `capi::gate_guarded` meets its contract. Assumes nothing.
 use mathlib.Core.Path.{sym, ap, _∙_}
 use lib.ListN.{length}
-use Rattle.guard.specs.Answers.{guarding}
-use Rattle.capi.proofs.Leaving.{guardedWord, guardedSteps, guardedRecords, guarded-ends, guarded-leaves}
+use Rattle.capi.proofs.Leaving.{guardedWord, guardedSteps, guardedRecords, guarded-left}
 use borrow.Author.Needs.{needs}
 use Rattle.capi.proofs.gate_guarded.Statement.{statement}
 use Rattle.capi.proofs.gate_guarded.Tie as tie
@@ -42,14 +41,13 @@ returns : tie.Need-returns
 returns c =
     let a = c .before .before .before .before .before .before .before .before .before .before .before .before .before .before .before .before .before .before .before .before .args in
     let call = c .before .before .before .before .before .before .before .before .before .before .run in
-    let o = guarding (length (a .condition .now)) (length (a .scratch .now)) (a .recipe .now) (a .sheet .now) (a .limit) (a .choices .now) (a .log .now) in
     let told = c .before .before .answer .given .1 in
     let log′ = call .last .1 .1 .1 .1 .0 in
-    let condition′ = call .last .1 .1 .1 .1 .1 .0 in (
-      guarded-ends (a .recipe .now) (a .sheet .now) (a .limit) (a .choices .now) o (a .condition .now) (a .log .now) condition′ log′ (call .result) (c .refusal .result) (call .ensures) (c .refusal .ensures ∙ sym (ap guardedWord told)),
-      guarded-leaves (a .recipe .now) (a .sheet .now) (a .limit) (a .choices .now) o (a .condition .now) (a .log .now) condition′ log′ (call .result) (a .steps .now) (a .steps .now) (a .records .now) (a .records .now) (call .ensures)
-          (sym (ap (λ r. guardedSteps r (a .steps .now)) told)) (sym (ap (λ r. guardedRecords r (a .records .now)) told)),
-    )
+    let condition′ = call .last .1 .1 .1 .1 .1 .0 in
+    let s′ = call .last .1 .1 .1 .1 .1 .1 .0 in
+    guarded-left (a .recipe .now) (a .sheet .now) (a .limit) (a .choices .now) (length (a .condition .now)) (length (a .scratch .now)) (call .result) (a .condition .now)
+    condition′ (a .log .now) log′ (a .scratch .now) s′ (c .refusal .result) (a .steps .now) (a .steps .now) (a .records .now) (a .records .now) (call .ensures) (c .refusal .ensures ∙ sym (ap guardedWord told))
+    (sym (ap (λ r. guardedSteps r (a .steps .now)) told)) (sym (ap (λ r. guardedRecords r (a .records .now)) told))
 
 same-length-4 : tie.Need-same-length-4
 same-length-4 c = search needs
@@ -64,14 +62,13 @@ returns-2 : tie.Need-returns-2
 returns-2 c =
     let a = c .before .before .before .before .before .before .before .before .before .before .before .before .before .before .before .before .before .before .args in
     let call = c .before .before .before .before .before .before .before .before .run in
-    let o = guarding (length (a .condition .now)) (length (a .scratch .now)) (a .recipe .now) (a .sheet .now) (a .limit) (a .choices .now) (a .log .now) in
     let told = c .enum-told .given .1 in
     let log′ = call .last .1 .1 .1 .1 .0 in
-    let condition′ = call .last .1 .1 .1 .1 .1 .0 in (
-      guarded-ends (a .recipe .now) (a .sheet .now) (a .limit) (a .choices .now) o (a .condition .now) (a .log .now) condition′ log′ (call .result) (5) (call .ensures) (sym (ap guardedWord told)),
-      guarded-leaves (a .recipe .now) (a .sheet .now) (a .limit) (a .choices .now) o (a .condition .now) (a .log .now) condition′ log′ (call .result) (a .steps .now) (a .steps .now) (a .records .now) (a .records .now) (call .ensures)
-          (sym (ap (λ r. guardedSteps r (a .steps .now)) told)) (sym (ap (λ r. guardedRecords r (a .records .now)) told)),
-    )
+    let condition′ = call .last .1 .1 .1 .1 .1 .0 in
+    let s′ = call .last .1 .1 .1 .1 .1 .1 .0 in
+    guarded-left (a .recipe .now) (a .sheet .now) (a .limit) (a .choices .now) (length (a .condition .now)) (length (a .scratch .now)) (call .result) (a .condition .now)
+    condition′ (a .log .now) log′ (a .scratch .now) s′ (5) (a .steps .now) (a .steps .now) (a .records .now) (a .records .now) (call .ensures) (sym (ap guardedWord told))
+    (sym (ap (λ r. guardedSteps r (a .steps .now)) told)) (sym (ap (λ r. guardedRecords r (a .records .now)) told))
 
 same-length-7 : tie.Need-same-length-7
 same-length-7 c = search needs
@@ -86,14 +83,13 @@ returns-3 : tie.Need-returns-3
 returns-3 c =
     let a = c .before .before .before .before .before .before .before .before .before .before .before .before .before .before .before .before .before .before .before .args in
     let call = c .before .before .before .before .before .before .before .before .before .run in
-    let o = guarding (length (a .condition .now)) (length (a .scratch .now)) (a .recipe .now) (a .sheet .now) (a .limit) (a .choices .now) (a .log .now) in
     let told = c .before .answer2 .given .1 in
     let log′ = call .last .1 .1 .1 .1 .0 in
-    let condition′ = call .last .1 .1 .1 .1 .1 .0 in (
-      guarded-ends (a .recipe .now) (a .sheet .now) (a .limit) (a .choices .now) o (a .condition .now) (a .log .now) condition′ log′ (call .result) (c .before .answer2 .given .0 .0) (call .ensures) (sym (ap guardedWord told)),
-      guarded-leaves (a .recipe .now) (a .sheet .now) (a .limit) (a .choices .now) o (a .condition .now) (a .log .now) condition′ log′ (call .result) (a .steps .now) (c .before .answer2 .given .0 .1 .0) (a .records .now) (c .before .answer2 .given .0 .1 .1 .0) (call .ensures)
-          (sym (ap (λ r. guardedSteps r (a .steps .now)) told)) (sym (ap (λ r. guardedRecords r (a .records .now)) told)),
-    )
+    let condition′ = call .last .1 .1 .1 .1 .1 .0 in
+    let s′ = call .last .1 .1 .1 .1 .1 .1 .0 in
+    guarded-left (a .recipe .now) (a .sheet .now) (a .limit) (a .choices .now) (length (a .condition .now)) (length (a .scratch .now)) (call .result) (a .condition .now)
+    condition′ (a .log .now) log′ (a .scratch .now) s′ (c .before .answer2 .given .0 .0) (a .steps .now) (c .before .answer2 .given .0 .1 .0) (a .records .now) (c .before .answer2 .given .0 .1 .1 .0) (call .ensures) (sym (ap guardedWord told))
+    (sym (ap (λ r. guardedSteps r (a .steps .now)) told)) (sym (ap (λ r. guardedRecords r (a .records .now)) told))
 
 pub gate-guarded-spec : {M : Type 1} → statement M
 gate-guarded-spec =

@@ -1,9 +1,10 @@
 -- `capi::gate_run` meets its contract. Assumes nothing.
-use mathlib.Core.Path.{refl, sym, ap, _∙_}
+use mathlib.Core.Path.{sym, ap, subst, _∙_}
 use native.Mathlib.Omega.{arith}
 use lib.ListN.{length}
-use Rattle.capi.specs.Words.{running}
-use Rattle.capi.proofs.Leaving.{ranWord, ranSteps, ranRecords, ran-ends, ran-leaves, running-short, running-enough, not-running-ends, not-running-leaves}
+use Rattle.analysis.specs.Deriving.{analysisWords}
+use Rattle.interpreter.specs.Answers.{runLent, Interprets}
+use Rattle.capi.proofs.Leaving.{ranWord, ranSteps, ranRecords, ran-left, run-short, run-enough}
 use borrow.Author.Needs.{needs}
 use Rattle.capi.proofs.gate_run.Statement.{statement}
 use Rattle.capi.proofs.gate_run.Tie as tie
@@ -18,9 +19,8 @@ refusal-requires c κs = search needs
 returns : tie.Need-returns
 returns c =
     let a = c .before .before .before .before .before .before .before .args in
-    let o = running (length (a .scratch .now)) (a .recipe .now) (a .sheet .now) (a .limit) (a .choices .now) (a .log .now) in
-    let h = running-short (length (a .scratch .now)) (a .recipe .now) (a .sheet .now) (a .limit) (a .choices .now) (a .log .now) (c .before .if1 .taken) in
-    (not-running-ends o 1 (c .refusal .result) h (c .refusal .ensures), not-running-leaves o 1 (a .log .now) (a .steps .now) (a .records .now) h)
+    run-short (length (a .scratch .now)) (a .recipe .now) (a .sheet .now) (a .limit) (a .choices .now) (a .log .now) (a .scratch .now) (c .refusal .result)
+    (a .steps .now) (a .records .now) (c .before .if1 .taken) (c .refusal .ensures)
 
 run-requires : tie.Need-run-requires
 run-requires c κs = search needs
@@ -48,13 +48,14 @@ returns-2 c =
     let a = c .before .before .before .before .before .before .before .before .before .before .before .before .before .before .before .before .before .args in
     let call = c .before .before .before .before .before .before .before .before .run in
     let words = length (a .scratch .now) in
-    let o = running words (a .recipe .now) (a .sheet .now) (a .limit) (a .choices .now) (a .log .now) in
+    let o = runLent analysisWords words (a .recipe .now) (a .sheet .now) (a .limit) (a .choices .now) (a .log .now) in
     let told = c .before .before .ran .given .1 in
-    let h = call .ensures .0 ∙ running-enough words (a .recipe .now) (a .sheet .now) (a .limit) (a .choices .now) (a .log .now) (omega (arith, c .before .before .before .before .before .before .before .before .before .before .before .if1 .left)) in
-    let log′ = call .last .1 .1 .1 .1 .0 in (
-      ran-ends o (call .result) log′ (c .refusal2 .result) h (c .refusal2 .ensures ∙ sym (ap ranWord told)),
-      ran-leaves o (call .result) (a .log .now) log′ (a .steps .now) (a .steps .now) (a .records .now) (a .records .now) h (call .ensures .1) (sym (ap (λ r. ranSteps r (a .steps .now)) told)) (sym (ap (λ r. ranRecords r (a .records .now)) told)),
-    )
+    let enough = run-enough words (a .recipe .now) (a .sheet .now) (a .limit) (a .choices .now) (a .log .now) (omega (arith, c .before .before .before .before .before .before .before .before .before .before .before .if1 .left)) in
+    let log′ = call .last .1 .1 .1 .1 .0 in
+    let s′ = call .last .1 .1 .1 .1 .1 .0 in
+    let h = subst (λ x. Interprets x (call .result) (a .log .now) log′ (a .scratch .now) s′) enough (call .ensures) in
+    ran-left o (call .result) (a .log .now) log′ (a .scratch .now) s′ (c .refusal2 .result) (a .steps .now) (a .steps .now) (a .records .now) (a .records .now) h
+    (c .refusal2 .ensures ∙ sym (ap ranWord told)) (sym (ap (λ r. ranSteps r (a .steps .now)) told)) (sym (ap (λ r. ranRecords r (a .records .now)) told))
 
 same-length-3 : tie.Need-same-length-3
 same-length-3 c = search needs
@@ -67,13 +68,15 @@ returns-3 c =
     let a = c .before .before .before .before .before .before .before .before .before .before .before .before .before .before .before .before .args in
     let call = c .before .before .before .before .before .before .before .run in
     let words = length (a .scratch .now) in
-    let o = running words (a .recipe .now) (a .sheet .now) (a .limit) (a .choices .now) (a .log .now) in
+    let o = runLent analysisWords words (a .recipe .now) (a .sheet .now) (a .limit) (a .choices .now) (a .log .now) in
     let told = c .before .ran2 .given .1 in
-    let h = call .ensures .0 ∙ running-enough words (a .recipe .now) (a .sheet .now) (a .limit) (a .choices .now) (a .log .now) (omega (arith, c .before .before .before .before .before .before .before .before .before .before .if1 .left)) in
-    let log′ = call .last .1 .1 .1 .1 .0 in (
-      ran-ends o (call .result) log′ (c .before .ran2 .given .0 .0) h (sym (ap ranWord told)),
-      ran-leaves o (call .result) (a .log .now) log′ (a .steps .now) (c .before .ran2 .given .0 .1 .0) (a .records .now) (c .before .ran2 .given .0 .1 .1 .0) h (call .ensures .1) (sym (ap (λ r. ranSteps r (a .steps .now)) told)) (sym (ap (λ r. ranRecords r (a .records .now)) told)),
-    )
+    let enough = run-enough words (a .recipe .now) (a .sheet .now) (a .limit) (a .choices .now) (a .log .now) (omega (arith, c .before .before .before .before .before .before .before .before .before .before .if1 .left)) in
+    let log′ = call .last .1 .1 .1 .1 .0 in
+    let s′ = call .last .1 .1 .1 .1 .1 .0 in
+    let h = subst (λ x. Interprets x (call .result) (a .log .now) log′ (a .scratch .now) s′) enough (call .ensures) in
+    let numbers = c .before .ran2 .given .0 in
+    ran-left o (call .result) (a .log .now) log′ (a .scratch .now) s′ (numbers .0) (a .steps .now) (numbers .1 .0) (a .records .now) (numbers .1 .1 .0) h
+    (sym (ap ranWord told)) (sym (ap (λ r. ranSteps r (a .steps .now)) told)) (sym (ap (λ r. ranRecords r (a .records .now)) told))
 
 pub gate-run-spec : {M : Type 1} → statement M
 gate-run-spec =

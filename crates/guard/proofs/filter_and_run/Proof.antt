@@ -6,7 +6,11 @@ use lib.ListN.{take}
 use borrow.Author.Needs.{needs}
 use Rattle.model.specs.Filter.{filterInput}
 use Rattle.filter.specs.Verdict.{verdictOf}
-use Rattle.guard.proofs.Apart.{derived-analysis, not-filtered, is-held, part-first}
+use Rattle.model.specs.Guarded.{guarded}
+use Rattle.model.specs.Refusals.{wrongBlocks}
+use Rattle.model.proofs.Lent.{scratch-as-it-was}
+use Rattle.analysis.specs.Deriving.{analysisWords}
+use Rattle.guard.proofs.Behind.{guards-refused, guards-held, not-filtered, is-held, part-first}
 use Rattle.guard.proofs.filter_and_run.Statement.{statement}
 use Rattle.guard.proofs.filter_and_run.Tie as tie
 use Rattle.guard.proofs.filter_and_run.Reads as reads
@@ -41,7 +45,7 @@ run-passed-requires c κs =
     let file = g .args .file .now in
     let input = g .args .input .now in
     let passes = sym (ap verdictOf (c .before .before .before .enum-told2 .given .1)) ∙ c .before .before .before .before .before .check .ensures ∙ ap (λ (C : List ℕ). filterInput C input) (part-first file (g .args .n)) in
-    (g .pre .0, g .pre .1, g .pre .2, g .pre .3, g .pre .4, passes)
+    (g .pre, passes)
 
 returns : tie.Need-returns
 returns c =
@@ -50,7 +54,11 @@ returns c =
     let input = g .args .input .now in
     let n = c .before .verdict .given .0 .0 in
     let f = sym (ap (λ (C : List ℕ). filterInput C input) (part-first file (g .args .n))) ∙ sym (c .before .before .before .check .ensures) ∙ ap verdictOf (c .before .verdict .given .1) in
-    (not-filtered (g .args .program .now) input (g .args .limit) (g .args .choices .now) (g .args .log .now) (take (g .args .n) file) (derived-analysis (g .args .program .now) (g .args .n) file (g .pre .4)) n f, refl, refl)
+    let a = g .args in
+    let o = guarded (a .program .now) input (a .limit) (a .choices .now) (a .log .now) in
+    let not = not-filtered (a .program .now) input (a .limit) (a .choices .now) (a .log .now) (take (a .n) file) (g .pre .derived) n f in
+    guards-refused (a .program .now) input (a .limit) (a .choices .now) o (a .condition .now) (a .log .now) (a .scratch .now) n (a .log .now) (a .scratch .now) not
+    refl (scratch-as-it-was analysisWords wrongBlocks o (a .scratch .now))
 
 returns-2 : tie.Need-returns-2
 returns-2 c =
@@ -58,7 +66,11 @@ returns-2 c =
     let file = g .args .file .now in
     let input = g .args .input .now in
     let f = sym (ap (λ (C : List ℕ). filterInput C input) (part-first file (g .args .n))) ∙ sym (c .before .before .check .ensures) ∙ ap verdictOf (c .enum-told .given .1) in
-    (is-held (g .args .program .now) input (g .args .limit) (g .args .choices .now) (g .args .log .now) (take (g .args .n) file) (derived-analysis (g .args .program .now) (g .args .n) file (g .pre .4)) f, refl, refl)
+    let a = g .args in
+    let o = guarded (a .program .now) input (a .limit) (a .choices .now) (a .log .now) in
+    let is = is-held (a .program .now) input (a .limit) (a .choices .now) (a .log .now) (take (a .n) file) (g .pre .derived) f in
+    guards-held (a .program .now) input (a .limit) (a .choices .now) o (a .condition .now) (a .log .now) (a .scratch .now) (a .scratch .now) is
+    (scratch-as-it-was analysisWords wrongBlocks o (a .scratch .now))
 
 same-length : tie.Need-same-length
 same-length c = search needs

@@ -2,7 +2,11 @@
 use mathlib.Core.Path.{refl}
 use lib.ListN.{length}
 use borrow.Author.Needs.{needs}
-use Rattle.guard.proofs.Apart.{output-short}
+use Rattle.model.specs.Refusals.{wrongBlocks}
+use Rattle.model.proofs.Lent.{scratch-as-it-was}
+use Rattle.analysis.specs.Deriving.{analysisWords}
+use Rattle.guard.specs.Answers.{guarding}
+use Rattle.guard.proofs.Behind.{output-short, guards-refused}
 use Rattle.guard.proofs.run.Statement.{statement}
 use Rattle.guard.proofs.run.Tie as tie
 use Rattle.guard.proofs.run.Reads as reads
@@ -12,7 +16,11 @@ use Rattle.guard.proofs.derive_and_run.Reads as derive-and-run-reads
 returns : tie.Need-returns
 returns c =
     let a = c .before .before .before .before .before .before .before .args in
-    (output-short (a .program .now) (a .input .now) (a .limit) (a .choices .now) (a .log .now) (length (a .condition .now)) (length (a .scratch .now)) (c .if1 .taken), refl, refl)
+    let o = guarding (length (a .condition .now)) (length (a .scratch .now)) (a .program .now) (a .input .now) (a .limit) (a .choices .now) (a .log .now) in
+    let short = output-short (a .program .now) (a .input .now) (a .limit) (a .choices .now) (a .log .now) (length (a .condition .now)) (length (a .scratch .now))
+    (c .if1 .taken) in
+    guards-refused (a .program .now) (a .input .now) (a .limit) (a .choices .now) o (a .condition .now) (a .log .now) (a .scratch .now) 1 (a .log .now)
+    (a .scratch .now) short refl (scratch-as-it-was analysisWords wrongBlocks o (a .scratch .now))
 
 slice-aggregate-derive-and-run : tie.Need-slice-aggregate-derive-and-run
 slice-aggregate-derive-and-run c = search needs

@@ -2,10 +2,16 @@
 use mathlib.Core.Path.{refl, sym, ap, subst, _∙_}
 use lib.ListN.{length, take}
 use borrow.Author.Needs.{needs}
-use Rattle.model.specs.Refusals.{ok, refused}
-use Rattle.guard.specs.Answers.{ranWith}
-use Rattle.interpreter.specs.Answers.{runAnswer, Kept}
-use Rattle.guard.proofs.Apart.{apart, derived-analysis, not-run, is-run, ran-lent}
+use native.Mathlib.Omega.{arith}
+use Rattle.model.specs.Guarded.{guarded}
+use Rattle.model.specs.Refusals.{ok, refused, wrongBlocks, wrongInput}
+use Rattle.model.specs.Run.{Ran}
+use Rattle.model.proofs.Demand3.{demand3}
+use Rattle.model.proofs.Lent.{scratch-wider}
+use Rattle.analysis.specs.Deriving.{analysisWords}
+use Rattle.interpreter.specs.Answers.{runLent, runAnswer, Kept}
+use Rattle.interpreter.specs.Progress.{scratchWords}
+use Rattle.guard.proofs.Behind.{guards-refused, guards-ended, not-run, is-run, late, ran-lent}
 use Rattle.guard.proofs.run_passed.Statement.{statement}
 use Rattle.guard.proofs.run_passed.Tie as tie
 
@@ -38,8 +44,14 @@ returns c =
     let told = c .before .ran .given .1 in
     let e = c .before .before .before .before .before .before .before .run .ensures in
     let words = length (a .scratch .now) in
-    let r = ran-lent words program input (a .limit) (a .choices .now) (a .log .now) (refused n) (pre .3) (sym (ap (λ o. runAnswer o log′) told) ∙ e .0) in
-    (not-run program input (a .limit) (a .choices .now) (a .log .now) (take (a .n) (a .file .now)) (derived-analysis program (a .n) (a .file .now) (pre .4)) n (sym (pre .5)) r, refl, subst (λ o. Kept o (a .log .now) log′) told (e .1))
+    let r = ran-lent words program input (a .limit) (a .choices .now) (a .log .now) (refused n) (pre .0 .words) (sym (ap (λ o. runAnswer o log′) told) ∙ e .answer) in
+    let C = take (a .n) (a .file .now) in
+    let o = guarded program input (a .limit) (a .choices .now) (a .log .now) in
+    let s′ = c .before .before .before .before .before .before .before .run .last .1 .1 .1 .1 .1 .0 in
+    let scratch = scratch-wider analysisWords wrongBlocks o (late program input (a .limit) (a .choices .now) (a .log .now) C (pre .0 .derived)) scratchWords wrongInput
+    (runLent scratchWords words program input (a .limit) (a .choices .now) (a .log .now)) (a .scratch .now) s′ (omega arith) (e .scratch) in
+    guards-refused program input (a .limit) (a .choices .now) o (a .condition .now) (a .log .now) (a .scratch .now) n log′ s′
+    (not-run program input (a .limit) (a .choices .now) (a .log .now) C (pre .0 .derived) n (sym (pre .1)) r) (subst (λ x. Kept x (a .log .now) log′) told (e .log)) scratch
 
 same-length-3 : tie.Need-same-length-3
 same-length-3 c = search needs
@@ -60,13 +72,17 @@ returns-2 c =
     let log′ = c .before .before .before .before .before .before .before .before .before .before .before .run .last .1 .1 .1 .1 .0 in
     let told = c .before .before .before .before .before .ran2 .given .1 in
     let numbers = c .before .before .before .before .before .ran2 .given .0 in
-    let R = ranWith (numbers .0) (numbers .1 .0) (numbers .1 .1 .0) log′ in
+    let R : Ran = record { end = numbers .0; steps = numbers .1 .0; records = numbers .1 .1 .0; log = log′ } in
     let e = c .before .before .before .before .before .before .before .before .before .before .before .run .ensures in
     let words = length (a .scratch .now) in
-    let r = ran-lent words program input (a .limit) (a .choices .now) (a .log .now) (ok R) (pre .3) (sym (ap (λ o. runAnswer o log′) told) ∙ e .0) in (
-      (C, is-run program input (a .limit) (a .choices .now) (a .log .now) C (derived-analysis program (a .n) (a .file .now) (pre .4)) R (sym (pre .5)) r, c .before .before .put-bytes .ensures),
-      apart program input (a .limit) (a .choices .now) (a .log .now) (pre .4 .output) (pre .4 .words) words (a .n) (pre .4 .before) (a .file .now) (R .end) (R .steps) (R .records) log′ (pre .4 .derives) (pre .5) (sym (ap (λ o. runAnswer o log′) told) ∙ e .0),
-    )
+    let r = ran-lent words program input (a .limit) (a .choices .now) (a .log .now) (ok R) (pre .0 .words) (sym (ap (λ o. runAnswer o log′) told) ∙ e .answer) in
+    let o = guarded program input (a .limit) (a .choices .now) (a .log .now) in
+    let s′ = c .before .before .before .before .before .before .before .before .before .before .before .run .last .1 .1 .1 .1 .1 .0 in
+    let scratch = scratch-wider analysisWords wrongBlocks o (late program input (a .limit) (a .choices .now) (a .log .now) C (pre .0 .derived)) scratchWords wrongInput
+    (runLent scratchWords words program input (a .limit) (a .choices .now) (a .log .now)) (a .scratch .now) s′ (omega arith) (e .scratch) in
+    let exact = demand3 program C input (a .limit) (a .choices .now) (a .log .now) R (pre .0 .derived) (sym (pre .1)) r in
+    guards-ended program input (a .limit) (a .choices .now) o (a .condition .now) (a .log .now) (a .scratch .now) C R (c .before .before .put-bytes .last .0) s′
+    (is-run program input (a .limit) (a .choices .now) (a .log .now) C (pre .0 .derived) R (sym (pre .1)) r) (c .before .before .put-bytes .ensures) exact scratch
 
 pub run-passed-spec : {M : Type 1} → statement M
 run-passed-spec =
