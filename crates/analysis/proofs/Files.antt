@@ -7,7 +7,7 @@ use Prim.Native.Nat.{ℕ, _≤_, _<_}
 use native.Mathlib.Omega.{arith}
 use lib.Dec.{leb}
 use lib.ListN.{length, take, drop}
-use lib.Seq.{take-take, length-take-le}
+use lib.Seq.{take-take}
 use borrow.Author.Tests.{le-leb, lt-leb}
 use Rattle.model.specs.Condition.{encode, conditionBytes, analysis}
 use Rattle.model.specs.Conjunct.{Conjuncts}
@@ -79,10 +79,6 @@ unread-refusal s r k h e =
 
 -- ---- what is lent
 
--- the documented words are a part
-pub first-words : (m : List ℕ) → analysisWords ≤ length m → analysisWords ≤ length (take analysisWords m)
-first-words m h = omega (arith, length-take-le analysisWords m h)
-
 module _ (output scratch : ℕ) (s : List ℕ) where
   pub enough : conditionBytes ≤ output → analysisWords ≤ scratch → analysis s ≡ derivation output scratch s
   unfolding derivation
@@ -93,6 +89,10 @@ module _ (output scratch : ℕ) (s : List ℕ) where
   refused-idle k out words e =
       record { answer = e; output = refl; scratch = scratch-as-it-was analysisWords wrongBlocks (derivation output scratch s) words }
 
+  pub unread-refused : conditionBytes ≤ output → analysisWords ≤ scratch → (r : ProgramRead) (k : ℕ)
+      → programAnswer r ≡ mapped (λ P. layoutOf s) (readProgram s) → r ≡ NotRead k → derivation output scratch s ≡ refused k
+  unread-refused m h r k e d = sym (enough m h) ∙ unread-refusal s r k e d
+
   module _ (out words : List ℕ) where
     pub output-short : output < conditionBytes → Derives (derivation output scratch s) (Refused 1) out out words words
     unfolding derivation
@@ -101,11 +101,6 @@ module _ (output scratch : ℕ) (s : List ℕ) where
     pub scratch-short : conditionBytes ≤ output → scratch < analysisWords → Derives (derivation output scratch s) (Refused 1) out out words words
     unfolding derivation
     scratch-short k h = refused-idle 1 out words (rw (le-leb conditionBytes output k, lt-leb analysisWords scratch h))
-
-    pub unread-refused : conditionBytes ≤ output → analysisWords ≤ scratch → (r : ProgramRead) (k : ℕ)
-        → programAnswer r ≡ mapped (λ P. layoutOf s) (readProgram s) → r ≡ NotRead k
-        → Derives (derivation output scratch s) (Refused k) out out words words
-    unread-refused m h r k e d = refused-idle k out words (sym (enough m h) ∙ unread-refusal s r k e d)
 
     -- the work was done on the documented words
     pub derived-read : conditionBytes ≤ output → analysisWords ≤ scratch → scratch ≡ length words → (P : Program) → readProgram s ≡ ok P
@@ -117,8 +112,7 @@ module _ (output scratch : ℕ) (s : List ℕ) where
           answer = sym same ∙ g .0;
           output = g .1;
           scratch = scratch-worked analysisWords wrongBlocks (derivation output scratch s)
-              (λ n d. let q = read-refusals-analysis s P e n (same ∙ d) in omega arith) ys words
-              (w ∙ length-take-le analysisWords words (omega arith)) (omega arith);
+              (λ n d. let q = read-refusals-analysis s P e n (same ∙ d) in omega arith) ys words w (omega arith);
         }
 
 -- ---- demand 1

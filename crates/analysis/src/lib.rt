@@ -71,7 +71,8 @@ fn start_set(s: &mut [u64], b: usize)
 // The set of the region after b, at the program's start, joined to the union so far at b.
 fn join_next(s: &mut [u64], b: usize) -> Answer
     requires { ⌜ (b + 23235 ≤ length (now s)) × Tidy (setOf (now s) b) ⌝ }
-    ensures { λ a. ⌜ (joinedTo (setOf (now (s .entry)) b) (setOf (now (s .entry)) (b + 7745)) ≡ answered a (setOf (now (s .exit)) b)) × (a ≡ Done → Tidy (setOf (now (s .exit)) b)) × Below b (now (s .entry)) (now (s .exit)) ⌝ }
+    ensures { λ a. ⌜ (joinedTo (setOf (now (s .entry)) b) (setOf (now (s .entry)) (b + 7745)) ≡ answered a (setOf (now (s .exit)) b))
+        × (a ≡ Done → Tidy (setOf (now (s .exit)) b)) × Below b (now (s .entry)) (now (s .exit)) ⌝ }
 {
     let next = b + 7745;
     start_set(s, next);
@@ -94,8 +95,10 @@ fn site(
     x: u8,
     ty: u8,
 ) -> Answer
-    requires { ⌜ ProgramIsRead (now program) layout × (layout .statements ≤ length (now table)) × (analysisWords ≤ length (now s)) × Tidy (setOf (now s) 0) × Enclosed (now program) (now table) (layout .statements) i ⌝ }
-    ensures { λ a. ⌜ Sited (now (program .entry)) (now (table .entry)) (layout .statements) i x ty (setOf (now (s .entry)) 0) a (setOf (now (s .exit)) 0) × (a ≡ Done → Tidy (setOf (now (s .exit)) 0)) ⌝ }
+    requires { ⌜ ProgramIsRead (now program) layout × (layout .statements ≤ length (now table)) × (analysisWords ≤ length (now s))
+        × Tidy (setOf (now s) 0) × Enclosed (now program) (now table) (layout .statements) i ⌝ }
+    ensures { λ a. ⌜ Sited (now (program .entry)) (now (table .entry)) (layout .statements) i x ty (setOf (now (s .entry)) 0) a
+        (setOf (now (s .exit)) 0) × (a ≡ Done → Tidy (setOf (now (s .exit)) 0)) ⌝ }
 {
     let w = node::variable(x as u64, ty as u64);
     single(s, 7745, w);
@@ -110,8 +113,11 @@ fn site(
 
 // The statement with the label i, if it is a site.
 fn pass(program: &[u8], layout: Layout, table: &[u64], s: &mut [u64], i: usize) -> Answer
-    requires { ⌜ ProgramIsRead (now program) layout × (layout .statements ≤ length (now table)) × (analysisWords ≤ length (now s)) × Tidy (setOf (now s) 0) × (i < layout .statements) × ((L : List (Out Conjuncts)) × SitesFrom (now program) (now table) (layout .statements) i L) ⌝ }
-    ensures { λ a. ⌜ PassedLabel (now (program .entry)) (now (table .entry)) (layout .statements) i (setOf (now (s .entry)) 0) a (setOf (now (s .exit)) 0) × (a ≡ Done → Tidy (setOf (now (s .exit)) 0)) ⌝ }
+    requires { ⌜ ProgramIsRead (now program) layout × (layout .statements ≤ length (now table)) × (analysisWords ≤ length (now s))
+        × Tidy (setOf (now s) 0) × (i < layout .statements) × ((L : List (Out Conjuncts))
+        × SitesFrom (now program) (now table) (layout .statements) i L) ⌝ }
+    ensures { λ a. ⌜ PassedLabel (now (program .entry)) (now (table .entry)) (layout .statements) i (setOf (now (s .entry)) 0) a
+        (setOf (now (s .exit)) 0) × (a ≡ Done → Tidy (setOf (now (s .exit)) 0)) ⌝ }
 {
     let q = program::statement(program, layout, i);
     let kind = q.kind;
@@ -125,8 +131,10 @@ fn pass(program: &[u8], layout: Layout, table: &[u64], s: &mut [u64], i: usize) 
 
 // The set that the analysis derives from the program, in region 0.
 fn sites(program: &[u8], layout: Layout, table: &[u64], s: &mut [u64]) -> Answer
-    requires { ⌜ ProgramIsRead (now program) layout × (layout .statements ≤ length (now table)) × (analysisWords ≤ length (now s)) × Piece (now program) (now table) 4 0 (layout .statements) ⌝ }
-    ensures { λ a. ⌜ ((c : Code) → Lies (now (program .entry)) (now (table .entry)) c 0 (layout .statements) → Nested 4 c → derived c ≡ answered a (setOf (now (s .exit)) 0)) ⌝ }
+    requires { ⌜ ProgramIsRead (now program) layout × (layout .statements ≤ length (now table)) × (analysisWords ≤ length (now s))
+        × Piece (now program) (now table) 4 0 (layout .statements) ⌝ }
+    ensures { λ a. ⌜ ((c : Code) → Lies (now (program .entry)) (now (table .entry)) c 0 (layout .statements) → Nested 4 c → derived c ≡ answered a
+        (setOf (now (s .exit)) 0)) ⌝ }
 {
     sets::clear(s, 0);
     let n = layout.statements;
@@ -159,8 +167,10 @@ pub enum Derived {
 
 // The file of the set in region 0, at the start of the output.
 fn write_file(program: &[u8], layout: Layout, s: &[u64], condition: &mut [u8]) -> Derived
-    requires { ⌜ ProgramIsRead (now program) layout × (7745 ≤ length (now s)) × (conditionBytes ≤ length (now condition)) × All (Formed (tablesOf (now program) .fields)) (setOf (now s) 0) ⌝ }
-    ensures { λ r. ⌜ Filed (encode (tablesOf (now (program .entry)) .fields) (setOf (now (s .entry)) 0)) r (now (condition .entry)) (now (condition .exit)) ⌝ }
+    requires { ⌜ ProgramIsRead (now program) layout × (7745 ≤ length (now s)) × (conditionBytes ≤ length (now condition))
+        × All (Formed (tablesOf (now program) .fields)) (setOf (now s) 0) ⌝ }
+    ensures { λ r. ⌜ Filed (encode (tablesOf (now (program .entry)) .fields) (setOf (now (s .entry)) 0)) r (now (condition .entry))
+        (now (condition .exit)) ⌝ }
 {
     let n = writer::write(program, layout, s, 0, condition);
     Derived::Written(n)
@@ -184,7 +194,8 @@ fn derive_read(program: &[u8], layout: Layout, condition: &mut [u8], scratch: &m
 // words of scratch are free, but that the refusals 1 to 8 leave them as they were; no word past them
 // changes.
 pub fn derive(program: &[u8], condition: &mut [u8], scratch: &mut [u64]) -> Derived
-    ensures { λ r. ⌜ Derives (derivation (length (now (condition .entry))) (length (now (scratch .entry))) (now (program .entry))) r (now (condition .entry)) (now (condition .exit)) (now (scratch .entry)) (now (scratch .exit)) ⌝ }
+    ensures { λ r. ⌜ Derives (derivation (length (now (condition .entry))) (length (now (scratch .entry))) (now (program .entry))) r
+        (now (condition .entry)) (now (condition .exit)) (now (scratch .entry)) (now (scratch .exit)) ⌝ }
 {
     if condition.len() < CONDITION {
         return Derived::Refused(1);

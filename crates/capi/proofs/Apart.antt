@@ -47,7 +47,8 @@ words-apart program input limit choices log n before condition s s′ word log�
     let o = derivation (length before) (length s) program in
     let q = runLent analysisWords (length t) program input limit choices log in
     let C = word-result (OrLent AnalysisRefusal) length o n (derivation-answers (length before) (length s) program) some-analysis (d .word) dn in
-    let R = word-result (OrLent RunRefusal) (λ (x : Ran). x .end) q word (run-answers analysisWords (length t) program input limit choices log) some-run (r .word) rn in
+    let R = word-result (OrLent RunRefusal) (λ (x : Ran). x .end) q word (run-answers analysisWords (length t) program input limit choices log) some-run
+    (r .word) rn in
     let file : take n condition ≡ C .0 = d .file (C .0) (C .1) in
     let p = filterInput (take n condition) input in
     let found = word-result FilterRefusal (λ (x : ℕ). x) p passNumber (demand1 .filtered (take n condition) input) (λ m h. omega arith)

@@ -48,7 +48,8 @@ pub record GateRun (o : Out Ran) (r : ℕ) (l l′ s s′ : List ℕ) (n n′ k 
   pub scratch : ScratchLeft scratchWords wrongInput o s s′
 
 -- gate_guarded: the same behind the filter, and demand 3: where the word is a run's end, the log's records match the exact run
-pub record GateGuarded (program input : List ℕ) (limit : ℕ) (choices : List ℕ) (o : Out Guarded) (r : ℕ) (c c′ l l′ s s′ : List ℕ) (n n′ k k′ : ℕ) : Type 0 where
+pub record GateGuarded (program input : List ℕ) (limit : ℕ) (choices : List ℕ) (o : Out Guarded)
+    (r : ℕ) (c c′ l l′ s s′ : List ℕ) (n n′ k k′ : ℕ) : Type 0 where
   pub word : r ≡ answerWord (mapped endNumber o)
   pub condition : c′ ≡ leftByRun (λ C R. overlay c 0 C) o c
   pub log : l′ ≡ leftByRun (λ C R. R .log) o l

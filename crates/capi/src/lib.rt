@@ -70,8 +70,10 @@ pub extern "C" fn gate_run(
     steps: &mut u64,
     records: &mut u64,
 ) -> u64
-    ensures { λ r. ⌜ GateRun (runLent analysisWords (length (now (scratch .entry))) (now (recipe .entry)) (now (sheet .entry)) limit (now (choices .entry)) (now (log .entry)))
-        r (now (log .entry)) (now (log .exit)) (now (scratch .entry)) (now (scratch .exit)) (now (steps .entry)) (now (steps .exit)) (now (records .entry)) (now (records .exit)) ⌝ }
+    ensures { λ r. ⌜ GateRun (runLent analysisWords (length (now (scratch .entry))) (now (recipe .entry)) (now (sheet .entry)) limit
+        (now (choices .entry)) (now (log .entry)))
+        r (now (log .entry)) (now (log .exit)) (now (scratch .entry)) (now (scratch .exit)) (now (steps .entry)) (now (steps .exit))
+        (now (records .entry)) (now (records .exit)) ⌝ }
 {
     if scratch.len() < analysis::SCRATCH {
         return refusal(1);
@@ -105,8 +107,10 @@ pub extern "C" fn gate_guarded(
     records: &mut u64,
 ) -> u64
     ensures { λ r. ⌜ GateGuarded (now (recipe .entry)) (now (sheet .entry)) limit (now (choices .entry))
-        (guarding (length (now (condition .entry))) (length (now (scratch .entry))) (now (recipe .entry)) (now (sheet .entry)) limit (now (choices .entry)) (now (log .entry)))
-        r (now (condition .entry)) (now (condition .exit)) (now (log .entry)) (now (log .exit)) (now (scratch .entry)) (now (scratch .exit)) (now (steps .entry)) (now (steps .exit)) (now (records .entry)) (now (records .exit)) ⌝ }
+        (guarding (length (now (condition .entry))) (length (now (scratch .entry))) (now (recipe .entry)) (now (sheet .entry)) limit
+        (now (choices .entry)) (now (log .entry)))
+        r (now (condition .entry)) (now (condition .exit)) (now (log .entry)) (now (log .exit)) (now (scratch .entry)) (now (scratch .exit))
+        (now (steps .entry)) (now (steps .exit)) (now (records .entry)) (now (records .exit)) ⌝ }
 {
     let answer = guard::run(recipe, sheet, limit, choices, log, condition, scratch);
     match answer {

@@ -40,5 +40,6 @@ pub apart : (program input : List ℕ) (limit : ℕ) (choices log : List ℕ) (n
     → Exact program input limit choices (length log) records log′
 apart program input limit choices log n before condition s s′ end steps records log′ t t′ d v r =
     let ran : Ran = record { end = end; steps = steps; records = records; log = log′ } in
-    demand3 program (take n condition) input limit choices log ran (derivation-analysis (length before) (length s) program (take n condition) (d .answer)) (sym v)
+    demand3 program (take n condition) input limit choices log ran
+    (derivation-analysis (length before) (length s) program (take n condition) (d .answer)) (sym v)
     (lent-run scratchWords (length t) program input limit choices log ran (sym (r .answer)))

@@ -41,7 +41,8 @@ module _ (program input : List ℕ) (limit : ℕ) (choices : List ℕ) (o : Out 
       subst (λ x. Scratch x s′ → Is x (Refused n) c l′ s′) (sym e) (λ v. record { answer = refl; condition = refl; log = k; exact = tt; scratch = v }) w
 
   pub guards-held : (s′ : List ℕ) → o ≡ ok held → Scratch o s′ → Is o Held c l s′
-  guards-held s′ e w = subst (λ x. Scratch x s′ → Is x Held c l s′) (sym e) (λ v. record { answer = refl; condition = refl; log = refl; exact = tt; scratch = v }) w
+  guards-held s′ e w =
+      subst (λ x. Scratch x s′ → Is x Held c l s′) (sym e) (λ v. record { answer = refl; condition = refl; log = refl; exact = tt; scratch = v }) w
 
   pub guards-ended : (C : List ℕ) (R : Ran) (c′ s′ : List ℕ) → o ≡ ok (passed C R) → c′ ≡ overlay c 0 C
       → Exact program input limit choices (length l) (R .records) (R .log) → Scratch o s′

@@ -105,7 +105,8 @@ fn derive_and_run(
 ) -> Guarded
     requires { ⌜ (conditionBytes ≤ length (now file)) × (conditionBytes ≤ length (now condition)) ⌝ }
     ensures { λ r. ⌜ Guards (now (program .entry)) (now (input .entry)) limit (now (choices .entry))
-        (guarding (length (now (condition .entry))) (length (now (scratch .entry))) (now (program .entry)) (now (input .entry)) limit (now (choices .entry)) (now (log .entry)))
+        (guarding (length (now (condition .entry))) (length (now (scratch .entry))) (now (program .entry)) (now (input .entry)) limit
+        (now (choices .entry)) (now (log .entry)))
         r (now (condition .entry)) (now (log .entry)) (now (scratch .entry)) (now (condition .exit)) (now (log .exit)) (now (scratch .exit)) ⌝ }
 {
     let derived = analysis::derive(program, file, scratch);
@@ -140,7 +141,8 @@ pub fn run(
     scratch: &mut [u64],
 ) -> Guarded
     ensures { λ r. ⌜ Guards (now (program .entry)) (now (input .entry)) limit (now (choices .entry))
-        (guarding (length (now (condition .entry))) (length (now (scratch .entry))) (now (program .entry)) (now (input .entry)) limit (now (choices .entry)) (now (log .entry)))
+        (guarding (length (now (condition .entry))) (length (now (scratch .entry))) (now (program .entry)) (now (input .entry)) limit
+        (now (choices .entry)) (now (log .entry)))
         r (now (condition .entry)) (now (log .entry)) (now (scratch .entry)) (now (condition .exit)) (now (log .exit)) (now (scratch .exit)) ⌝ }
 {
     if condition.len() < analysis::CONDITION {

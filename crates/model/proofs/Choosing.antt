@@ -95,7 +95,8 @@ module _ (I : Input) where
   every-choice at [] p h t = sym (and-true (p [])) ∙ h
   every-choice at (a ∷ ks) p h t =
       let q : ℤ → Bool = λ z. every (λ w. p (z ∷ w)) (combinations (values I ks)) in
-      every-choice at ks (λ w. p (at a ∷ w)) (every-mem q (valuesOf I (a .src)) (at a) (rw every-combinations at h) (reading-taken (a .src) (at a) (t .0))) (t .1)
+      let taken = reading-taken (a .src) (at a) (t .0) in
+      every-choice at ks (λ w. p (at a ∷ w)) (every-mem q (valuesOf I (a .src)) (at a) (rw every-combinations at h) taken) (t .1)
 
   pub holds-safe : (e : Conj) → holds I e ≡ true → Safe I e
   unfolding holds combinationsOf

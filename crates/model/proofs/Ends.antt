@@ -11,7 +11,8 @@ use Rattle.model.specs.Refusals.{ok}
 use Rattle.model.specs.Code.{number, copy, calc, change, read, load, Instr, assign, store, site, Code, done, step, branch, loop}
 use Rattle.model.specs.Input.{Input}
 use Rattle.model.specs.Program.{Program}
-use Rattle.model.specs.Run.{State, zeros, Next, go, halt, takingChoice, exec, append, logged, permit, roomLeft, taken, Ended, stepped, after, spent, execute, choicesOf, Ran, ranOf, run}
+use Rattle.model.specs.Run.{State, zeros, Next, go, halt, takingChoice, exec, append, logged, permit, roomLeft, taken}
+use Rattle.model.specs.Run.{Ended, stepped, after, spent, execute, choicesOf, Ran, ranOf, run}
 use Rattle.model.proofs.Records.{run-runs}
 
 -- what a statement leads to is no end, or one from 0 to 4

@@ -226,7 +226,8 @@ module _ (I : Input) where
       }) Forall₂·nil
 
   after-alike : (P : State → Type 0) (f : State → List ℕ → Ended) (g : State → List ℕ → List Note)
-      → ((σ : State) (ch : List ℕ) → P σ → Forall₂ Follows (f σ ch .log) (g σ ch)) → (nx : Next) → Leads P nx → Forall₂ Follows (after nx f .log) (following nx g)
+      → ((σ : State) (ch : List ℕ) → P σ → Forall₂ Follows (f σ ch .log) (g σ ch))
+      → (nx : Next) → Leads P nx → Forall₂ Follows (after nx f .log) (following nx g)
   after-alike P f g k (go σ ch) h = k σ ch h
   after-alike P f g k (halt c) h = Forall₂·nil
 

@@ -5,8 +5,8 @@ use mathlib.Core.Path.{_≡_, refl, sym, ap, _∙_}
 use mathlib.Core.List.{List, _++_}
 use Prim.Native.Nat.{ℕ, _+_, _-_, _≤_, _<_}
 use native.Mathlib.Omega.{arith}
-use lib.ListN.{length, drop, length-append, length-drop}
-use lib.Seq.{drop-at, drop-drop}
+use lib.ListN.{length, take, drop}
+use lib.Seq.{length-front, length-take-le, drop-at, drop-drop}
 use Rattle.model.specs.Refusals.{Out, refused}
 use Rattle.model.specs.Lent.{ScratchLeft}
 
@@ -16,6 +16,10 @@ drop-later m n s t h e =
     let k : m + (n - m) ≡ n = omega arith in
     ap (λ (j : ℕ). drop j s) (sym k) ∙ sym (drop-drop (n - m) m s) ∙ ap (drop (n - m)) e ∙ drop-drop (n - m) m t ∙ ap (λ (j : ℕ). drop j t) k
 
+-- the documented words are there to be handed on
+pub documented-part : (documented : ℕ) (s : List ℕ) → documented ≤ length s → documented ≤ length (take documented s)
+documented-part documented s h = omega (arith, length-take-le documented s h)
+
 module _ {A : Type 0} (documented last : ℕ) (o : Out A) where
   -- nothing was done
   pub scratch-as-it-was : (s : List ℕ) → ScratchLeft documented last o s s
@@ -24,11 +28,11 @@ module _ {A : Type 0} (documented last : ℕ) (o : Out A) where
   -- where a refusal comes after the work
   module _ (late : (n : ℕ) → o ≡ refused n → last < n) where
     -- the documented words were handed on, and became ys
-    pub scratch-worked : (ys before : List ℕ) → length ys ≡ documented → documented ≤ length before
+    pub scratch-worked : (ys before : List ℕ) → length ys ≡ length (take documented before) → documented ≤ length before
         → ScratchLeft documented last o before (ys ++ drop documented before)
     scratch-worked ys before h l = record {
-      size = simp (length-append, length-drop) (omega (arith, h));
-      beyond = drop-at ys (drop documented before) documented h;
+      size = length-front before ys documented h;
+      beyond = drop-at ys (drop documented before) documented (h ∙ length-take-le documented before l);
       idle = λ n e k. let q = late n e in absurd (omega arith);
     }
 

@@ -104,6 +104,8 @@ unfolding Meets
 safe-meets I e fields safe env live =
     let number : Atom → ℕ = λ a. env (a .src) (a .n) in
     let at : Atom → ℤ = λ a. pick I zeros (a .src) (number a) .num in
-    let chooses = all-imp₂ (λ a. picked-reading I (a .src) (number a)) (atoms e) (atoms-all (λ a. IsField (a .src)) e fields) (atoms-all (λ a. LiveAtom I (a .src)) e live) in
+    let of-fields = atoms-all (λ a. IsField (a .src)) e fields in
+    let live-atoms = atoms-all (λ a. LiveAtom I (a .src)) e live in
+    let chooses = all-imp₂ (λ a. picked-reading I (a .src) (number a)) (atoms e) of-fields live-atoms in
     let p = every-imp (λ a. has a (atoms e) ≡ true) (Picked I env at) (λ a h. picked I (a .src) (number a)) e (has-atoms e) in
     outcome-mark (worked at e []) (eval I zeros env e []) (ap passes (sym (evaluate-worked at e [])) ∙ safe at chooses) (eval-unmarked I env at e p [])

@@ -10,7 +10,8 @@ use lib.ListN.{length, drop}
 use Rattle.arith.specs.Step.{passes}
 use Rattle.arith.specs.Words.{valueAt}
 use Rattle.model.specs.Lists.{All, every}
-use Rattle.model.specs.Refusals.{Out, ok, refused, lentTooShort, wrongSections, wrongBlocks, neverSettles, wrongCondition, wrongInput, tooManyCombinations}
+use Rattle.model.specs.Refusals.{Out, ok, refused, lentTooShort, wrongSections, wrongBlocks}
+use Rattle.model.specs.Refusals.{neverSettles, wrongCondition, wrongInput, tooManyCombinations}
 use Rattle.model.specs.Bytes.{byteAt, u16At, u64At}
 use Rattle.model.specs.Conjunct.{Source, field, cell, Atom, Conj, Conjuncts, atoms}
 use Rattle.model.specs.Condition.{Condition, readCondition, analysis}

@@ -1,10 +1,13 @@
 -- `analysis::derive` meets its contract; the work is handed the documented words alone. Assumes nothing.
-use mathlib.Core.Path.{refl}
+use mathlib.Core.Path.{_≡_, refl}
 use lib.ListN.{length}
 use borrow.Author.Needs.{needs}
+use Rattle.model.specs.Refusals.{refused}
+use Rattle.model.proofs.Lent.{documented-part, scratch-as-it-was}
+use Rattle.analysis.specs.Deriving.{analysisWords, derivation}
 use Rattle.program.specs.Reading.{ProgramIsRead}
 use Rattle.program.proofs.Known.{is-read}
-use Rattle.analysis.proofs.Files.{first-words, output-short, scratch-short, unread-refused, derived-read}
+use Rattle.analysis.proofs.Files.{output-short, scratch-short, unread-refused, derived-read}
 use Rattle.analysis.proofs.derive.Statement.{statement}
 use Rattle.analysis.proofs.derive.Tie as tie
 
@@ -29,6 +32,16 @@ program-is-read : (c : tie.After-r2) → ProgramIsRead (start (lent (program-fou
 program-is-read c =
     let r = program-found c .read in
     is-read (start (lent (program-found c)) .args .program .now) (r .result) (c .r2 .given .0 .0) (r .ensures) (c .r2 .given .1)
+
+-- the program is refused
+not-read : (c : tie.After-r)
+    → let a = start (lent (c .before .before)) .args in
+    derivation (length (a .condition .now)) (length (a .scratch .now)) (a .program .now) ≡ refused (c .r .given .0 .0)
+not-read c =
+    let p = c .before .before in
+    let a = start (lent p) .args in
+    unread-refused (length (a .condition .now)) (length (a .scratch .now)) (a .program .now) (p .before .before .if1 .left) (p .before .if2 .left)
+    (p .read .result) _ (p .read .ensures) (c .r .given .1)
 
 -- ---- the answers
 
@@ -64,14 +77,10 @@ part-derive-read-end c = search needs
 derive-read-requires : tie.Need-derive-read-requires
 derive-read-requires c κs =
     let p = program-found (asked c) in
-    (program-is-read (asked c), p .before .before .if1 .left, first-words (start (lent p) .args .scratch .now) (p .before .if2 .left))
+    (program-is-read (asked c), p .before .before .if1 .left, documented-part analysisWords (start (lent p) .args .scratch .now) (p .before .if2 .left))
 
 returns-3 : tie.Need-returns-3
-returns-3 c =
-    let p = c .before .before .before in
-    let a = start (lent p) .args in
-    unread-refused (length (a .condition .now)) (length (a .scratch .now)) (a .program .now) (a .condition .now) (a .scratch .now) (p .before .before .if1 .left)
-    (p .before .if2 .left) (p .read .result) _ (p .read .ensures) (c .before .r .given .1)
+returns-3 c = record { answer = search (needs, not-read); output = search needs; scratch = search (needs, scratch-as-it-was) }
 
 same-length : tie.Need-same-length
 same-length c = search needs
