@@ -4,8 +4,10 @@
  * A slice is a pointer and a number of elements. Slices that are written to must not overlap any
  * other. An answer's upper 32 bits are the number of the refusal, 1 to 14 (docs/REFUSALS.md), or 0;
  * its lower 32 bits are then what each function says. After a refusal everything that is lent, but
- * scratch, is as it was. What is in scratch before and after a call does not matter. A call takes less
- * than 524,288 bytes of stack.
+ * scratch, is as it was. What is in scratch before a call does not matter. After it the first
+ * gate_scratch() words may hold anything, but that the refusals 1 to 8, and of gate_run every refusal,
+ * leave them as they were; every word past them is as it was. A call takes less than 524,288 bytes of
+ * stack.
  */
 #ifndef GATE_H
 #define GATE_H

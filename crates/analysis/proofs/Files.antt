@@ -1,28 +1,33 @@
 -- The answers of a derivation, from what the reader, the sites and the writer answer.
 -- Assumes nothing.
-use mathlib.Core.Bool.{true, false, true≢false}
-use mathlib.Core.List.{List}
+use mathlib.Core.Bool.{true, false, _&&_, true≢false}
+use mathlib.Core.List.{List, _++_}
 use mathlib.Core.Path.{_≡_, refl, sym, ap, subst, _∙_}
 use Prim.Native.Nat.{ℕ, _≤_, _<_}
 use native.Mathlib.Omega.{arith}
-use lib.ListN.{length, take}
+use lib.Dec.{leb}
+use lib.ListN.{length, take, drop}
 use lib.Seq.{take-take}
 use borrow.Author.Tests.{le-leb, lt-leb}
-use Rattle.model.specs.Condition.{encode, analysis}
+use Rattle.model.specs.Condition.{encode, conditionBytes, analysis}
 use Rattle.model.specs.Conjunct.{Conjuncts}
 use Rattle.model.specs.Lists.{All}
 use Rattle.model.specs.Program.{Program, Tables, layoutOf, readProgram}
-use Rattle.model.specs.Refusals.{Out, ok, refused, _>>=_, mapped}
+use Rattle.model.specs.Refusals.{Out, ok, refused, _>>=_, mapped, wrongBlocks}
+use Rattle.model.specs.Demands.{AnalysisRefusal, Demand1}
 use Rattle.model.specs.Walk.{derived}
+use Rattle.model.proofs.Demand1.{lent-answer, demand1}
 use Rattle.model.proofs.Derives.{derived-formed}
 use Rattle.model.proofs.Formed.{Formed}
+use Rattle.model.proofs.Lent.{scratch-as-it-was, scratch-worked}
+use Rattle.model.proofs.RefusalNumbers.{read-refusals-analysis}
 use Rattle.bytes_le.specs.Overlay.{overlay}
 use Rattle.bytes_le.proofs.Overlays.{overlay-read}
 use Rattle.program.specs.Reading.{programAnswer, tablesOf}
 use Rattle.program.specs.declared.ProgramRead.{ProgramRead}
 use Rattle.program.specs.declared.ProgramRead.the-variants.{Refused as NotRead}
 use Rattle.program.proofs.Known.{tables-read}
-use Rattle.analysis.specs.Deriving.{derivation, Filed, Derives}
+use Rattle.analysis.specs.Deriving.{analysisWords, derivation, DerivationAnswers, Filed, FileGiven, Derives}
 use Rattle.analysis.specs.declared.Derived.{Derived}
 use Rattle.analysis.specs.declared.Derived.the-variants.{Refused}
 
@@ -39,8 +44,8 @@ module _ (s : List ℕ) (P : Program) (e : readProgram s ≡ ok P) where
   unfolding analysis
   then-derived = ap (λ o. o >>= λ Q. derived (Q .code) >>= λ S. ok (encode (Q .tables .fields) S)) e
 
-  pub derives-refusal : (k : ℕ) (out : List ℕ) → derived (P .code) ≡ refused k → Derives (analysis s) (Refused k) out out
-  derives-refusal k out d = record { answer = then-derived ∙ ap (_>>= λ S. ok (encode (P .tables .fields) S)) d; output = refl }
+  pub derives-refusal : (k : ℕ) (out : List ℕ) → derived (P .code) ≡ refused k → FileGiven (analysis s) (Refused k) out out
+  derives-refusal k out d = (then-derived ∙ ap (_>>= λ S. ok (encode (P .tables .fields) S)) d, refl)
 
   module _ (S : Conjuncts) (d : derived (P .code) ≡ ok S) where
     pub set-formed : All (Formed (tablesOf s .fields)) S
@@ -50,11 +55,11 @@ module _ (s : List ℕ) (P : Program) (e : readProgram s ≡ ok P) where
     is-file =
         then-derived ∙ ap (_>>= λ R. ok (encode (P .tables .fields) R)) d ∙ ap (λ (T : Tables). ok (encode (T .fields) S)) (tables-read s P e)
 
-    pub derives-file : (r : Derived) (before after : List ℕ) → 61992 ≤ length before → Filed (encode (tablesOf s .fields) S) r before after → Derives (analysis s) r before after
-    derives-file r before after room w = subst (λ x. Derives (analysis s) x before after) (sym (w .answer)) (record {
-      answer = is-file ∙ ap (λ f. ok f) (sym first);
-      output = (w .most, ap length first, w .output ∙ ap (overlay before 0) (sym first));
-    })
+    pub derives-file : (r : Derived) (before after : List ℕ) → conditionBytes ≤ length before → Filed (encode (tablesOf s .fields) S) r before after
+        → FileGiven (analysis s) r before after
+    derives-file r before after room w =
+        subst (λ x. FileGiven (analysis s) x before after) (sym (w .answer))
+        (is-file ∙ ap (λ f. ok f) (sym first), record { most = w .most; whole = ap length first; rest = w .output ∙ ap (overlay before 0) (sym first) })
       where
         first : take (length (encode (tablesOf s .fields) S)) after ≡ encode (tablesOf s .fields) S
         first = read-back before after (encode (tablesOf s .fields) S) (omega (arith, w .most)) (w .output)
@@ -65,27 +70,54 @@ not-read : {A B : Type 0} (f : A → B) (o : Out A) (k : ℕ) → refused k ≡ 
 not-read f (ok a) k e = let z : true ≡ false = cc in absurd (true≢false z)
 not-read f (refused m) k e = cc
 
-unread-refusal : (s : List ℕ) (r : ProgramRead) (k : ℕ) (out : List ℕ) → programAnswer r ≡ mapped (λ P. layoutOf s) (readProgram s) → r ≡ NotRead k → Derives (analysis s) (Refused k) out out
+unread-refusal : (s : List ℕ) (r : ProgramRead) (k : ℕ) → programAnswer r ≡ mapped (λ P. layoutOf s) (readProgram s) → r ≡ NotRead k
+    → analysis s ≡ refused k
 unfolding analysis
-unread-refusal s r k out h e =
+unread-refusal s r k h e =
     let n = not-read (λ P. layoutOf s) (readProgram s) k (sym (ap programAnswer e) ∙ h) in
-    record { answer = ap (λ o. o >>= λ Q. derived (Q .code) >>= λ S. ok (encode (Q .tables .fields) S)) n; output = refl }
+    ap (λ o. o >>= λ Q. derived (Q .code) >>= λ S. ok (encode (Q .tables .fields) S)) n
 
 -- ---- what is lent
 
 module _ (output scratch : ℕ) (s : List ℕ) where
-  pub output-short : output < 61992 → (out : List ℕ) → Derives (derivation output scratch s) (Refused 1) out out
+  pub enough : conditionBytes ≤ output → analysisWords ≤ scratch → analysis s ≡ derivation output scratch s
   unfolding derivation
-  output-short h out = record { answer = rw (lt-leb 61992 output h); output = refl }
+  enough k h = rw (le-leb conditionBytes output k, le-leb analysisWords scratch h)
 
-  pub scratch-short : 61992 ≤ output → scratch < 85195 → (out : List ℕ) → Derives (derivation output scratch s) (Refused 1) out out
-  unfolding derivation
-  scratch-short k h out = record { answer = rw (le-leb 61992 output k, lt-leb 85195 scratch h); output = refl }
+  -- a refusal before any work: everything lent is as it was
+  refused-idle : (k : ℕ) (out words : List ℕ) → derivation output scratch s ≡ refused k → Derives (derivation output scratch s) (Refused k) out out words words
+  refused-idle k out words e =
+      record { answer = e; output = refl; scratch = scratch-as-it-was analysisWords wrongBlocks (derivation output scratch s) words }
 
-  pub enough : 61992 ≤ output → 85195 ≤ scratch → analysis s ≡ derivation output scratch s
-  unfolding derivation
-  enough k h = rw (le-leb 61992 output k, le-leb 85195 scratch h)
+  pub unread-refused : conditionBytes ≤ output → analysisWords ≤ scratch → (r : ProgramRead) (k : ℕ)
+      → programAnswer r ≡ mapped (λ P. layoutOf s) (readProgram s) → r ≡ NotRead k → derivation output scratch s ≡ refused k
+  unread-refused m h r k e d = sym (enough m h) ∙ unread-refusal s r k e d
 
-  pub unread-refused : 61992 ≤ output → 85195 ≤ scratch → (r : ProgramRead) (k : ℕ) (out : List ℕ) → programAnswer r ≡ mapped (λ P. layoutOf s) (readProgram s) → r ≡ NotRead k
-      → Derives (derivation output scratch s) (Refused k) out out
-  unread-refused m h r k out e d = subst (λ o. Derives o (Refused k) out out) (enough m h) (unread-refusal s r k out e d)
+  module _ (out words : List ℕ) where
+    pub output-short : output < conditionBytes → Derives (derivation output scratch s) (Refused 1) out out words words
+    unfolding derivation
+    output-short h = refused-idle 1 out words (rw (lt-leb conditionBytes output h))
+
+    pub scratch-short : conditionBytes ≤ output → scratch < analysisWords → Derives (derivation output scratch s) (Refused 1) out out words words
+    unfolding derivation
+    scratch-short k h = refused-idle 1 out words (rw (le-leb conditionBytes output k, lt-leb analysisWords scratch h))
+
+    -- the work was done on the documented words
+    pub derived-read : conditionBytes ≤ output → analysisWords ≤ scratch → scratch ≡ length words → (P : Program) → readProgram s ≡ ok P
+        → (r : Derived) (after ys : List ℕ) → FileGiven (analysis s) r out after → length ys ≡ length (take analysisWords words)
+        → Derives (derivation output scratch s) r out after words (ys ++ drop analysisWords words)
+    derived-read m h l P e r after ys g w =
+        let same = enough m h in
+        record {
+          answer = sym same ∙ g .0;
+          output = g .1;
+          scratch = scratch-worked analysisWords wrongBlocks (derivation output scratch s)
+              (λ n d. let q = read-refusals-analysis s P e n (same ∙ d) in omega arith) ys words w (omega arith);
+        }
+
+-- ---- demand 1
+
+pub derivation-answers : DerivationAnswers
+unfolding derivation
+derivation-answers output scratch program =
+    lent-answer AnalysisRefusal (leb conditionBytes output && leb analysisWords scratch) (analysis program) (demand1 .analysed program)

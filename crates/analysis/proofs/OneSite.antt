@@ -18,6 +18,7 @@ use Rattle.rules.specs.Answers.{answered, Below}
 use Rattle.rules.specs.declared.Answer.{Answer}
 use Rattle.rules.specs.declared.Answer.the-variants.{Done, Refused}
 use Rattle.enclosing.specs.Enclosing.{EnclosedIn, walkedOut, WalksOut}
+use Rattle.analysis.specs.Deriving.{analysisWords}
 use Rattle.analysis.specs.Joining.{joinedTo, Sited}
 use Rattle.analysis.proofs.Uniting.{region-below}
 
@@ -29,7 +30,8 @@ site-tidy x ty = sites-tidy (step 0 (site x ty) done) .0
 pub region-tidy : (x ty : ℕ) (v : Node) (t : List ℕ) → v ≡ var x ty → setOf t 7745 ≡ (v ∷ []) ∷ [] → Tidy (setOf t 7745)
 region-tidy x ty v t e only = subst Tidy (sym (only ∙ ap (λ z. (z ∷ []) ∷ []) e)) (site-tidy x ty)
 
-module _ (program table : List ℕ) (n i x ty : ℕ) (v : Node) (s t u : List ℕ) (a : Answer) (fits : 85195 ≤ length s) (node : v ≡ var x ty) (only : setOf t 7745 ≡ (v ∷ []) ∷ [])
+module _ (program table : List ℕ) (n i x ty : ℕ) (v : Node) (s t u : List ℕ) (a : Answer)
+    (fits : analysisWords ≤ length s) (node : v ≡ var x ty) (only : setOf t 7745 ≡ (v ∷ []) ∷ [])
     (t-length : length t ≡ length s) (in-next : Within 7745 s t) (u-length : length u ≡ length t) (below : Below 7745 t u)
     (walks : WalksOut program table n i (setOf t 7745) a (setOf u 7745)) where
   pub union-stays : setOf u 0 ≡ setOf s 0

@@ -8,7 +8,7 @@ ghost use Rattle.model.specs.Code.{Code};
 ghost use Rattle.model.specs.Conjunct.{Conjuncts};
 ghost use Rattle.model.specs.Refusals.{Out, ok};
 ghost use Rattle.model.specs.Walk.{start, derived};
-ghost use Rattle.model.specs.Condition.{encode, analysis};
+ghost use Rattle.model.specs.Condition.{conditionBytes, encode, analysis};
 ghost use Rattle.model.specs.Lists.{All};
 ghost use Rattle.model.proofs.Depth.{Nested};
 ghost use Rattle.model.proofs.Formed.{Formed};
@@ -20,7 +20,7 @@ ghost use Rattle.rules.specs.Answers.{answered, Below};
 ghost use Rattle.rules.specs.declared.Answer.the-variants.{Done};
 ghost use Rattle.walk.specs.Piece.{Lies, Piece};
 ghost use Rattle.enclosing.specs.Enclosing.{Enclosed};
-ghost use Rattle.analysis.specs.Deriving.{derivation, Filed, Derives};
+ghost use Rattle.analysis.specs.Deriving.{analysisWords, derivation, Filed, FileGiven, Derives};
 ghost use Rattle.analysis.specs.Joining.{joinedTo, SitesFrom, Sited, PassedLabel};
 use program::Layout;
 use program::ProgramRead;
@@ -71,7 +71,8 @@ fn start_set(s: &mut [u64], b: usize)
 // The set of the region after b, at the program's start, joined to the union so far at b.
 fn join_next(s: &mut [u64], b: usize) -> Answer
     requires { ⌜ (b + 23235 ≤ length (now s)) × Tidy (setOf (now s) b) ⌝ }
-    ensures { λ a. ⌜ (joinedTo (setOf (now (s .entry)) b) (setOf (now (s .entry)) (b + 7745)) ≡ answered a (setOf (now (s .exit)) b)) × (a ≡ Done → Tidy (setOf (now (s .exit)) b)) × Below b (now (s .entry)) (now (s .exit)) ⌝ }
+    ensures { λ a. ⌜ (joinedTo (setOf (now (s .entry)) b) (setOf (now (s .entry)) (b + 7745)) ≡ answered a (setOf (now (s .exit)) b))
+        × (a ≡ Done → Tidy (setOf (now (s .exit)) b)) × Below b (now (s .entry)) (now (s .exit)) ⌝ }
 {
     let next = b + 7745;
     start_set(s, next);
@@ -94,8 +95,10 @@ fn site(
     x: u8,
     ty: u8,
 ) -> Answer
-    requires { ⌜ ProgramIsRead (now program) layout × (layout .statements ≤ length (now table)) × (85195 ≤ length (now s)) × Tidy (setOf (now s) 0) × Enclosed (now program) (now table) (layout .statements) i ⌝ }
-    ensures { λ a. ⌜ Sited (now (program .entry)) (now (table .entry)) (layout .statements) i x ty (setOf (now (s .entry)) 0) a (setOf (now (s .exit)) 0) × (a ≡ Done → Tidy (setOf (now (s .exit)) 0)) ⌝ }
+    requires { ⌜ ProgramIsRead (now program) layout × (layout .statements ≤ length (now table)) × (analysisWords ≤ length (now s))
+        × Tidy (setOf (now s) 0) × Enclosed (now program) (now table) (layout .statements) i ⌝ }
+    ensures { λ a. ⌜ Sited (now (program .entry)) (now (table .entry)) (layout .statements) i x ty (setOf (now (s .entry)) 0) a
+        (setOf (now (s .exit)) 0) × (a ≡ Done → Tidy (setOf (now (s .exit)) 0)) ⌝ }
 {
     let w = node::variable(x as u64, ty as u64);
     single(s, 7745, w);
@@ -110,8 +113,11 @@ fn site(
 
 // The statement with the label i, if it is a site.
 fn pass(program: &[u8], layout: Layout, table: &[u64], s: &mut [u64], i: usize) -> Answer
-    requires { ⌜ ProgramIsRead (now program) layout × (layout .statements ≤ length (now table)) × (85195 ≤ length (now s)) × Tidy (setOf (now s) 0) × (i < layout .statements) × ((L : List (Out Conjuncts)) × SitesFrom (now program) (now table) (layout .statements) i L) ⌝ }
-    ensures { λ a. ⌜ PassedLabel (now (program .entry)) (now (table .entry)) (layout .statements) i (setOf (now (s .entry)) 0) a (setOf (now (s .exit)) 0) × (a ≡ Done → Tidy (setOf (now (s .exit)) 0)) ⌝ }
+    requires { ⌜ ProgramIsRead (now program) layout × (layout .statements ≤ length (now table)) × (analysisWords ≤ length (now s))
+        × Tidy (setOf (now s) 0) × (i < layout .statements) × ((L : List (Out Conjuncts))
+        × SitesFrom (now program) (now table) (layout .statements) i L) ⌝ }
+    ensures { λ a. ⌜ PassedLabel (now (program .entry)) (now (table .entry)) (layout .statements) i (setOf (now (s .entry)) 0) a
+        (setOf (now (s .exit)) 0) × (a ≡ Done → Tidy (setOf (now (s .exit)) 0)) ⌝ }
 {
     let q = program::statement(program, layout, i);
     let kind = q.kind;
@@ -125,8 +131,10 @@ fn pass(program: &[u8], layout: Layout, table: &[u64], s: &mut [u64], i: usize) 
 
 // The set that the analysis derives from the program, in region 0.
 fn sites(program: &[u8], layout: Layout, table: &[u64], s: &mut [u64]) -> Answer
-    requires { ⌜ ProgramIsRead (now program) layout × (layout .statements ≤ length (now table)) × (85195 ≤ length (now s)) × Piece (now program) (now table) 4 0 (layout .statements) ⌝ }
-    ensures { λ a. ⌜ ((c : Code) → Lies (now (program .entry)) (now (table .entry)) c 0 (layout .statements) → Nested 4 c → derived c ≡ answered a (setOf (now (s .exit)) 0)) ⌝ }
+    requires { ⌜ ProgramIsRead (now program) layout × (layout .statements ≤ length (now table)) × (analysisWords ≤ length (now s))
+        × Piece (now program) (now table) 4 0 (layout .statements) ⌝ }
+    ensures { λ a. ⌜ ((c : Code) → Lies (now (program .entry)) (now (table .entry)) c 0 (layout .statements) → Nested 4 c → derived c ≡ answered a
+        (setOf (now (s .exit)) 0)) ⌝ }
 {
     sets::clear(s, 0);
     let n = layout.statements;
@@ -147,6 +155,9 @@ fn sites(program: &[u8], layout: Layout, table: &[u64], s: &mut [u64]) -> Answer
 // The words of scratch that a call of `derive` needs: the union so far, and ten regions for the walk.
 pub const SCRATCH: usize = 85195;
 
+// The bytes of output that it needs: the length of the longest condition file.
+pub const CONDITION: usize = 61992;
+
 // The length of the condition file that stands at the start of the output, or the number of the
 // refusal.
 pub enum Derived {
@@ -156,8 +167,10 @@ pub enum Derived {
 
 // The file of the set in region 0, at the start of the output.
 fn write_file(program: &[u8], layout: Layout, s: &[u64], condition: &mut [u8]) -> Derived
-    requires { ⌜ ProgramIsRead (now program) layout × (7745 ≤ length (now s)) × (61992 ≤ length (now condition)) × All (Formed (tablesOf (now program) .fields)) (setOf (now s) 0) ⌝ }
-    ensures { λ r. ⌜ Filed (encode (tablesOf (now (program .entry)) .fields) (setOf (now (s .entry)) 0)) r (now (condition .entry)) (now (condition .exit)) ⌝ }
+    requires { ⌜ ProgramIsRead (now program) layout × (7745 ≤ length (now s)) × (conditionBytes ≤ length (now condition))
+        × All (Formed (tablesOf (now program) .fields)) (setOf (now s) 0) ⌝ }
+    ensures { λ r. ⌜ Filed (encode (tablesOf (now (program .entry)) .fields) (setOf (now (s .entry)) 0)) r (now (condition .entry))
+        (now (condition .exit)) ⌝ }
 {
     let n = writer::write(program, layout, s, 0, condition);
     Derived::Written(n)
@@ -165,8 +178,8 @@ fn write_file(program: &[u8], layout: Layout, s: &[u64], condition: &mut [u8]) -
 
 // Of a program that is read.
 fn derive_read(program: &[u8], layout: Layout, condition: &mut [u8], scratch: &mut [u64]) -> Derived
-    requires { ⌜ ProgramIsRead (now program) layout × (61992 ≤ length (now condition)) × (85195 ≤ length (now scratch)) ⌝ }
-    ensures { λ r. ⌜ Derives (analysis (now (program .entry))) r (now (condition .entry)) (now (condition .exit)) ⌝ }
+    requires { ⌜ ProgramIsRead (now program) layout × (conditionBytes ≤ length (now condition)) × (analysisWords ≤ length (now scratch)) ⌝ }
+    ensures { λ r. ⌜ FileGiven (analysis (now (program .entry))) r (now (condition .entry)) (now (condition .exit)) ⌝ }
 {
     let mut table: [u64; 1024] = [0; 1024];
     program::ends(program, layout, &mut table);
@@ -177,12 +190,14 @@ fn derive_read(program: &[u8], layout: Layout, condition: &mut [u8], scratch: &m
     }
 }
 
-// The condition file of a program's bytes. A refusal leaves the output as it was; what is left in
-// scratch is free.
+// The condition file of a program's bytes. A refusal leaves the output as it was. The first SCRATCH
+// words of scratch are free, but that the refusals 1 to 8 leave them as they were; no word past them
+// changes.
 pub fn derive(program: &[u8], condition: &mut [u8], scratch: &mut [u64]) -> Derived
-    ensures { λ r. ⌜ Derives (derivation (length (now (condition .entry))) (length (now (scratch .entry))) (now (program .entry))) r (now (condition .entry)) (now (condition .exit)) ⌝ }
+    ensures { λ r. ⌜ Derives (derivation (length (now (condition .entry))) (length (now (scratch .entry))) (now (program .entry))) r
+        (now (condition .entry)) (now (condition .exit)) (now (scratch .entry)) (now (scratch .exit)) ⌝ }
 {
-    if condition.len() < 61992 {
+    if condition.len() < CONDITION {
         return Derived::Refused(1);
     }
     if scratch.len() < SCRATCH {
@@ -191,6 +206,8 @@ pub fn derive(program: &[u8], condition: &mut [u8], scratch: &mut [u64]) -> Deri
     let r = program::read(program);
     match r {
         ProgramRead::Refused(n) => Derived::Refused(n),
-        ProgramRead::Read(layout) => derive_read(program, layout, condition, scratch),
+        ProgramRead::Read(layout) => {
+            derive_read(program, layout, condition, &mut scratch[0..SCRATCH])
+        }
     }
 }

@@ -5,26 +5,29 @@
 ghost use mathlib.Core.Path.{_≡_};
 ghost use Prim.Native.Nat.{_*_};
 ghost use lib.ListN.{length};
-ghost use Rattle.model.specs.Refusals.{mapped};
 ghost use Rattle.model.specs.Filter.{filterInput};
-ghost use Rattle.analysis.specs.Deriving.{derivation};
+ghost use Rattle.analysis.specs.Deriving.{analysisWords, derivation};
+ghost use Rattle.interpreter.specs.Answers.{runLent};
 ghost use Rattle.guard.specs.Answers.{guarding};
-ghost use Rattle.capi.specs.Words.{wordOf, verdict, running, ranOf, Derives, Ends, Leaves, Guards};
+ghost use Rattle.capi.specs.Words.{refusalUnit, answerWord, GateDerive, GateRun, GateGuarded};
 use analysis::Derived;
 use filter::Verdict;
 use guard::Guarded;
 use interpreter::Ran;
 
+// The refusal's number stands in the upper 32 bits.
+const REFUSAL: u64 = 4294967296;
+
 fn refusal(n: u8) -> u64
-    ensures { λ r. ⌜ r ≡ n * 4294967296 ⌝ }
+    ensures { λ r. ⌜ r ≡ n * refusalUnit ⌝ }
 {
-    (n as u64) * 4294967296
+    (n as u64) * REFUSAL
 }
 
 // The words of scratch that serve every call.
 #[no_mangle]
 pub extern "C" fn gate_scratch() -> u64
-    ensures { λ r. ⌜ r ≡ 85195 ⌝ }
+    ensures { λ r. ⌜ r ≡ analysisWords ⌝ }
 {
     analysis::SCRATCH as u64
 }
@@ -32,7 +35,8 @@ pub extern "C" fn gate_scratch() -> u64
 // The condition of a recipe: the file's length.
 #[no_mangle]
 pub extern "C" fn gate_derive(recipe: &[u8], condition: &mut [u8], scratch: &mut [u64]) -> u64
-    ensures { λ r. ⌜ Derives (derivation (length (now (condition .entry))) (length (now (scratch .entry))) (now (recipe .entry))) r (now (condition .entry)) (now (condition .exit)) ⌝ }
+    ensures { λ r. ⌜ GateDerive (derivation (length (now (condition .entry))) (length (now (scratch .entry))) (now (recipe .entry)))
+        r (now (condition .entry)) (now (condition .exit)) (now (scratch .entry)) (now (scratch .exit)) ⌝ }
 {
     let derived = analysis::derive(recipe, condition, scratch);
     match derived {
@@ -44,7 +48,7 @@ pub extern "C" fn gate_derive(recipe: &[u8], condition: &mut [u8], scratch: &mut
 // The verdict on a sheet: 0 pass, 1 held.
 #[no_mangle]
 pub extern "C" fn gate_check(condition: &[u8], sheet: &[u8]) -> u64
-    ensures { λ r. ⌜ r ≡ wordOf (mapped verdict (filterInput (now (condition .entry)) (now (sheet .entry)))) ⌝ }
+    ensures { λ r. ⌜ r ≡ answerWord (filterInput (now (condition .entry)) (now (sheet .entry))) ⌝ }
 {
     let v = filter::check(condition, sheet);
     match v {
@@ -66,8 +70,10 @@ pub extern "C" fn gate_run(
     steps: &mut u64,
     records: &mut u64,
 ) -> u64
-    ensures { λ r. ⌜ Ends (running (length (now (scratch .entry))) (now (recipe .entry)) (now (sheet .entry)) limit (now (choices .entry)) (now (log .entry))) r ⌝ }
-    ensures { λ _. ⌜ Leaves (running (length (now (scratch .entry))) (now (recipe .entry)) (now (sheet .entry)) limit (now (choices .entry)) (now (log .entry))) (now (log .entry)) (now (log .exit)) (now (steps .entry)) (now (steps .exit)) (now (records .entry)) (now (records .exit)) ⌝ }
+    ensures { λ r. ⌜ GateRun (runLent analysisWords (length (now (scratch .entry))) (now (recipe .entry)) (now (sheet .entry)) limit
+        (now (choices .entry)) (now (log .entry)))
+        r (now (log .entry)) (now (log .exit)) (now (scratch .entry)) (now (scratch .exit)) (now (steps .entry)) (now (steps .exit))
+        (now (records .entry)) (now (records .exit)) ⌝ }
 {
     if scratch.len() < analysis::SCRATCH {
         return refusal(1);
@@ -100,8 +106,11 @@ pub extern "C" fn gate_guarded(
     steps: &mut u64,
     records: &mut u64,
 ) -> u64
-    ensures { λ r. ⌜ Guards (guarding (length (now (condition .entry))) (length (now (scratch .entry))) (now (recipe .entry)) (now (sheet .entry)) limit (now (choices .entry)) (now (log .entry))) r (now (condition .entry)) (now (condition .exit)) ⌝ }
-    ensures { λ _. ⌜ Leaves (ranOf (guarding (length (now (condition .entry))) (length (now (scratch .entry))) (now (recipe .entry)) (now (sheet .entry)) limit (now (choices .entry)) (now (log .entry)))) (now (log .entry)) (now (log .exit)) (now (steps .entry)) (now (steps .exit)) (now (records .entry)) (now (records .exit)) ⌝ }
+    ensures { λ r. ⌜ GateGuarded (now (recipe .entry)) (now (sheet .entry)) limit (now (choices .entry))
+        (guarding (length (now (condition .entry))) (length (now (scratch .entry))) (now (recipe .entry)) (now (sheet .entry)) limit
+        (now (choices .entry)) (now (log .entry)))
+        r (now (condition .entry)) (now (condition .exit)) (now (log .entry)) (now (log .exit)) (now (scratch .entry)) (now (scratch .exit))
+        (now (steps .entry)) (now (steps .exit)) (now (records .entry)) (now (records .exit)) ⌝ }
 {
     let answer = guard::run(recipe, sheet, limit, choices, log, condition, scratch);
     match answer {

@@ -31,7 +31,7 @@ fn put(condition: &[u8], n: usize) {
 }
 
 fn derive(recipe: &[u8]) {
-    let mut condition = [0u8; 61992];
+    let mut condition = [0u8; analysis::CONDITION];
     let mut scratch = [0u64; analysis::SCRATCH];
     let derived = analysis::derive(recipe, &mut condition, &mut scratch);
     match derived {

@@ -47,7 +47,7 @@ fn listed(i: usize, condition: &[u8], n: usize) {
 }
 
 fn derived(i: usize, recipe: &[u8]) {
-    let mut condition = [0u8; 61992];
+    let mut condition = [0u8; analysis::CONDITION];
     let mut scratch = [0u64; analysis::SCRATCH];
     let r = analysis::derive(recipe, &mut condition, &mut scratch);
     match r {

@@ -12,7 +12,7 @@ use Rattle.model.specs.Bytes.{pairAt, pairsAt, chained}
 use Rattle.model.specs.Conjunct.{Conjuncts}
 use Rattle.model.specs.Condition.{Condition, readCondition}
 use Rattle.model.specs.Input.{Input, readingsOf, lengthsRight, readInput}
-use Rattle.model.specs.Filter.{holds, fewCombinations, filterInput}
+use Rattle.model.specs.Filter.{holds, fewCombinations, passNumber, heldNumber, filterInput}
 use Rattle.model.proofs.Results.{ok-eq, refused-ok, check-ok, mapped-ok}
 use Rattle.input.specs.Answers.{InputIsRead}
 use Rattle.condition.specs.Answers.{sizes, sizesOf, ConditionIsRead, typesOf, conjunctsOf}
@@ -28,7 +28,7 @@ module _ (I : Input) (S : Conjuncts) where
   unfolding judged
   judged-many h = rw h
 
-  pub judged-few : every (fewCombinations I) S ≡ true → (b : Bool) → every (holds I) S ≡ b → judged I S ≡ ok b
+  pub judged-few : every (fewCombinations I) S ≡ true → (b : Bool) → every (holds I) S ≡ b → judged I S ≡ ok (cond b passNumber heldNumber)
   unfolding judged
   judged-few h b k = rw (h, k)
 
@@ -48,7 +48,7 @@ input-is types s I e =
     sym (ok-eq J I (check-ok (chained (8 * length types) ps (length s) && lengthsRight types ps) wrongInput (ok J) I e .1))
 
 module _ (s t : List ℕ) where
-  abbrev pub onInput : List ℕ → Conjuncts → Out Bool
+  abbrev pub onInput : List ℕ → Conjuncts → Out ℕ
   onInput types S = readInput types t >>= λ I. judged I S
 
   pub filter-steps : filterInput s t ≡ (readCondition s >>= λ C. onInput (C .types) (C .conjuncts))

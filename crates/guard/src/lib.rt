@@ -3,11 +3,12 @@
 ghost use mathlib.Core.Path.{_≡_};
 ghost use Prim.Native.Nat.{_≤_};
 ghost use lib.ListN.{length, take};
+ghost use Rattle.model.specs.Condition.{conditionBytes};
 ghost use Rattle.model.specs.Filter.{filterInput};
 ghost use Rattle.filter.specs.Verdict.{verdictOf};
 ghost use Rattle.filter.specs.declared.Verdict.the-variants.{Pass};
 ghost use Rattle.model.specs.Guarded.{guarded};
-ghost use Rattle.guard.specs.Answers.{IsDerived, guarding, Answers};
+ghost use Rattle.guard.specs.Answers.{Ready, guarding, Guards};
 use analysis::Derived;
 use filter::Verdict;
 use interpreter::Ran;
@@ -31,8 +32,10 @@ fn run_passed(
     condition: &mut [u8],
     scratch: &mut [u64],
 ) -> Guarded
-    requires { ⌜ (n ≤ length (now file)) × (61992 ≤ length (now condition)) × (n ≤ 61992) × (85195 ≤ length (now scratch)) × IsDerived (now program) n (now file) × (verdictOf Pass ≡ filterInput (take n (now file)) (now input)) ⌝ }
-    ensures { λ r. ⌜ Answers (now (program .entry)) (now (input .entry)) limit (now (choices .entry)) r (guarded (now (program .entry)) (now (input .entry)) limit (now (choices .entry)) (now (log .entry))) (now (condition .entry)) (now (log .entry)) (now (condition .exit)) (now (log .exit)) ⌝ }
+    requires { ⌜ Ready (now program) n (now file) (now condition) (now scratch) × (verdictOf Pass ≡ filterInput (take n (now file)) (now input)) ⌝ }
+    ensures { λ r. ⌜ Guards (now (program .entry)) (now (input .entry)) limit (now (choices .entry))
+        (guarded (now (program .entry)) (now (input .entry)) limit (now (choices .entry)) (now (log .entry)))
+        r (now (condition .entry)) (now (log .entry)) (now (scratch .entry)) (now (condition .exit)) (now (log .exit)) (now (scratch .exit)) ⌝ }
 {
     let ran = interpreter::run(program, input, limit, choices, log, scratch);
     match ran {
@@ -65,8 +68,10 @@ fn filter_and_run(
     condition: &mut [u8],
     scratch: &mut [u64],
 ) -> Guarded
-    requires { ⌜ (n ≤ length (now file)) × (61992 ≤ length (now condition)) × (n ≤ 61992) × (85195 ≤ length (now scratch)) × IsDerived (now program) n (now file) ⌝ }
-    ensures { λ r. ⌜ Answers (now (program .entry)) (now (input .entry)) limit (now (choices .entry)) r (guarded (now (program .entry)) (now (input .entry)) limit (now (choices .entry)) (now (log .entry))) (now (condition .entry)) (now (log .entry)) (now (condition .exit)) (now (log .exit)) ⌝ }
+    requires { ⌜ Ready (now program) n (now file) (now condition) (now scratch) ⌝ }
+    ensures { λ r. ⌜ Guards (now (program .entry)) (now (input .entry)) limit (now (choices .entry))
+        (guarded (now (program .entry)) (now (input .entry)) limit (now (choices .entry)) (now (log .entry)))
+        r (now (condition .entry)) (now (log .entry)) (now (scratch .entry)) (now (condition .exit)) (now (log .exit)) (now (scratch .exit)) ⌝ }
 {
     let verdict = filter::check(&file[0..n], input);
     match verdict {
@@ -98,8 +103,11 @@ fn derive_and_run(
     condition: &mut [u8],
     scratch: &mut [u64],
 ) -> Guarded
-    requires { ⌜ (61992 ≤ length (now file)) × (61992 ≤ length (now condition)) ⌝ }
-    ensures { λ r. ⌜ Answers (now (program .entry)) (now (input .entry)) limit (now (choices .entry)) r (guarding (length (now (condition .entry))) (length (now (scratch .entry))) (now (program .entry)) (now (input .entry)) limit (now (choices .entry)) (now (log .entry))) (now (condition .entry)) (now (log .entry)) (now (condition .exit)) (now (log .exit)) ⌝ }
+    requires { ⌜ (conditionBytes ≤ length (now file)) × (conditionBytes ≤ length (now condition)) ⌝ }
+    ensures { λ r. ⌜ Guards (now (program .entry)) (now (input .entry)) limit (now (choices .entry))
+        (guarding (length (now (condition .entry))) (length (now (scratch .entry))) (now (program .entry)) (now (input .entry)) limit
+        (now (choices .entry)) (now (log .entry)))
+        r (now (condition .entry)) (now (log .entry)) (now (scratch .entry)) (now (condition .exit)) (now (log .exit)) (now (scratch .exit)) ⌝ }
 {
     let derived = analysis::derive(program, file, scratch);
     match derived {
@@ -120,7 +128,9 @@ fn derive_and_run(
     }
 }
 
-// The program is run on the input only if the input passes under the program's condition.
+// The program is run on the input only if the input passes under the program's condition. Held and
+// every refusal leave the condition and the log as they were; the refusals 1 to 8 leave scratch as it
+// was too, and no word of scratch past the analysis's changes.
 pub fn run(
     program: &[u8],
     input: &[u8],
@@ -130,12 +140,15 @@ pub fn run(
     condition: &mut [u8],
     scratch: &mut [u64],
 ) -> Guarded
-    ensures { λ r. ⌜ Answers (now (program .entry)) (now (input .entry)) limit (now (choices .entry)) r (guarding (length (now (condition .entry))) (length (now (scratch .entry))) (now (program .entry)) (now (input .entry)) limit (now (choices .entry)) (now (log .entry))) (now (condition .entry)) (now (log .entry)) (now (condition .exit)) (now (log .exit)) ⌝ }
+    ensures { λ r. ⌜ Guards (now (program .entry)) (now (input .entry)) limit (now (choices .entry))
+        (guarding (length (now (condition .entry))) (length (now (scratch .entry))) (now (program .entry)) (now (input .entry)) limit
+        (now (choices .entry)) (now (log .entry)))
+        r (now (condition .entry)) (now (log .entry)) (now (scratch .entry)) (now (condition .exit)) (now (log .exit)) (now (scratch .exit)) ⌝ }
 {
-    if condition.len() < 61992 {
+    if condition.len() < analysis::CONDITION {
         return Guarded::Refused(1);
     }
-    let mut file: [u8; 61992] = [0; 61992];
+    let mut file: [u8; analysis::CONDITION] = [0; analysis::CONDITION];
     derive_and_run(
         program,
         input,

@@ -43,7 +43,7 @@ fn ended(log: &[u8], end: u8, steps: u64, records: u64) {
 // The guarded run with the choice file's limit and choices.
 fn guarded(recipe: &[u8], sheet: &[u8], file: &[u8]) {
     let mut log = [0u8; 524280];
-    let mut condition = [0u8; 61992];
+    let mut condition = [0u8; analysis::CONDITION];
     let mut scratch = [0u64; analysis::SCRATCH];
     let limit = choice_file::limit(file);
     let choices = choice_file::choices(file);

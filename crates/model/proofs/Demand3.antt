@@ -1,8 +1,8 @@
 -- Demand 3 over byte strings: an accepted program, an input that passes under its condition, and any run of the two.
 -- Assumes nothing.
 use mathlib.Core.Path.{_≡_, sym, _∙_, ap, subst}
-use mathlib.Core.Bool.{true, false, _&&_}
-use mathlib.Core.List.{List, [], _∷_, map}
+use mathlib.Core.Bool.{true, false, _&&_, cond}
+use mathlib.Core.List.{List, [], _∷_, map, Forall₂, Forall₂·nil, Forall₂·cons}
 use Prim.Native.Nat.{ℕ, _≤_, _/_}
 use lib.Dec.{leb}
 use lib.ListN.{length}
@@ -12,17 +12,18 @@ use Rattle.model.specs.Refusals.{Out, ok, _>>=_, check, tooManyCombinati
 use Rattle.model.specs.Conjunct.{Conjuncts}
 use Rattle.model.specs.Walk.{derived}
 use Rattle.model.specs.Program.{Program, Tables, countsRight, readProgram}
-use Rattle.model.specs.Condition.{encode, readCondition, analysis}
+use Rattle.model.specs.Condition.{Condition, encode, readCondition, analysis}
 use Rattle.model.specs.Input.{Input, readInput}
-use Rattle.model.specs.Filter.{fewCombinations, holds, filterInput}
+use Rattle.model.specs.Filter.{fewCombinations, holds, passNumber, heldNumber, filterInput}
 use Rattle.model.specs.Run.{zeros, Line, markByte, choicesOf, Ran}
 use Rattle.model.specs.Exact.{Note}
-use Rattle.model.specs.Demands.{Pairwise, Matches, Marks, Demand3}
+use Rattle.model.specs.Demands.{Record, Matches, Marks, Demand3}
 use Rattle.model.proofs.Checked.{fields-known, program-checked}
-use Rattle.model.proofs.Choosing.{holds-safe}
+use Rattle.model.proofs.Choosing.{read-of-fields, holds-safe}
 use Rattle.model.proofs.Derives.{derived-formed}
 use Rattle.model.proofs.Every.{every-all}
-use Rattle.model.proofs.Lists.{all-imp}
+use Rattle.model.proofs.FilterExact.{is-pass}
+use Rattle.model.proofs.Lists.{all-imp, all-imp₂, all-map}
 use Rattle.model.proofs.Meaning.{Meets}
 use Rattle.model.proofs.ReadBack.{encode-reads}
 use Rattle.model.proofs.Records.{recordOf, Runs, run-runs, linesOf, notesOf, exact-notes, ran-records, ran-marks}
@@ -69,27 +70,28 @@ module _ (program condition : List ℕ) (a : Accepted program condition) where
       (derived-tidy (a .P .code) (a .S) (a .derives)) (derived-formed program (a .P) (a .S) (a .reads) (a .derives))
 
   -- an input that passes under it: the zero state meets every conjunct
-  pub passes-meets : (input : List ℕ) (I : Input) → readInput (a .P .tables .fields) input ≡ ok I → filterInput condition input ≡ ok true → All (Meets I zeros) (a .S)
+  pub passes-meets : (input : List ℕ) (I : Input) → readInput (a .P .tables .fields) input ≡ ok I → filterInput condition input ≡ ok passNumber
+      → All (Meets I zeros) (a .S)
   unfolding filterInput
   passes-meets input I i e =
-      let all-hold : every (holds I) (a .S) ≡ true = passed (rw (derived-reads-back, i) at e) in
-      all-imp (λ c h. safe-meets I c (holds-safe I c h)) (a .S) (every-all (holds I) (a .S) all-hold)
-    where
-      passed : check (every (fewCombinations I) (a .S)) tooManyCombinations (ok (every (holds I) (a .S))) ≡ ok true → every (holds I) (a .S) ≡ true
-      passed e = ok-eq (every (holds I) (a .S)) true ((check-ok (every (fewCombinations I) (a .S)) tooManyCombinations (ok (every (holds I) (a .S))) true e) .1)
+      let C : Condition = record { types = a .P .tables .fields; conjuncts = a .S } in
+      let all = every (holds I) (a .S) in
+      let answer = cond all passNumber heldNumber in
+      let within = check-ok (every (fewCombinations I) (a .S)) tooManyCombinations (ok answer) passNumber (rw (derived-reads-back, i) at e) in
+      let all-hold = every-all (holds I) (a .S) (is-pass all (ok-eq answer passNumber (within .1))) in
+      all-imp₂ (λ c f h. safe-meets I c f (holds-safe I c h)) (a .S) (read-of-fields condition C derived-reads-back) all-hold
 
 -- ---- the theorem
 
 -- marks that are all 0
-unmarked-match : (rs : List Line) (ws : List Note) → Pairwise Marks (map recordOf rs) ws → All (λ r. r .value .mark ≡ false) rs → Pairwise Matches (map recordOf rs) ws
-unmarked-match [] [] h k = tt
-unmarked-match [] (w ∷ ws) h k = h
-unmarked-match (r ∷ rs) [] h k = h
-unmarked-match (r ∷ rs) (w ∷ ws) h k =
-    let m : recordOf r .mark ≡ 0 = ap markByte (k .0) in
-    (record { label = h .0 .label; mark = m; pad = h .0 .pad; number = h .0 .number m; overflows = h .0 .mark .0 m }, unmarked-match rs ws (h .1) (k .1))
+unmarked-match : {rs : List Record} {ws : List Note} → Forall₂ Marks rs ws → All (λ r. r .mark ≡ 0) rs → Forall₂ Matches rs ws
+unmarked-match Forall₂·nil k = Forall₂·nil
+unmarked-match (Forall₂·cons h t) k =
+    let m = k .0 in
+    Forall₂·cons (record { label = h .label; mark = m; pad = h .pad; number = h .number m; overflows = h .mark .0 m }) (unmarked-match t (k .1))
 
-lines-unmarked : (program condition input : List ℕ) (limit : ℕ) (choices log : List ℕ) (ran : Ran) (a : Accepted program condition) → filterInput condition input ≡ ok true
+lines-unmarked : (program condition input : List ℕ) (limit : ℕ) (choices log : List ℕ) (ran : Ran) (a : Accepted program condition)
+    → filterInput condition input ≡ ok passNumber
     → (r : Runs program input limit choices log ran) → All (λ l. l .value .mark ≡ false) (linesOf program input limit choices log ran r)
 unfolding linesOf
 lines-unmarked program condition input limit choices log ran a passed r =
@@ -103,11 +105,11 @@ demand3 program condition input limit choices log ran accepted passed e =
     let r = run-runs program input limit choices log ran e in
     let a = analysis-accepts program condition accepted in
     let lines = linesOf program input limit choices log ran r in
-    let ws = notesOf program input limit choices log ran r in
-    let back = ran-records program input limit choices log ran r in (
-      ws,
-      exact-notes program input limit choices log ran r,
-      subst (λ rs. Pairwise Matches rs ws) (sym back)
-          (unmarked-match lines ws (subst (λ rs. Pairwise Marks rs ws) back (ran-marks program input limit choices log ran r))
-          (lines-unmarked program condition input limit choices log ran a passed r)),
-    )
+    let unmarked = all-imp (λ l k. ap markByte k) lines (lines-unmarked program condition input limit choices log ran a passed r) in
+    let records = all-map (λ (q : Record). q .mark ≡ 0) recordOf lines unmarked in
+    record {
+      notes = notesOf program input limit choices log ran r;
+      is-run = exact-notes program input limit choices log ran r;
+      each = unmarked-match (ran-marks program input limit choices log ran r)
+          (subst (All (λ (q : Record). q .mark ≡ 0)) (sym (ran-records program input limit choices log ran r)) records);
+    }

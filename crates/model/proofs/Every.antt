@@ -3,12 +3,12 @@
 use mathlib.Core.Path.{_≡_, refl, sym, ap, _∙_}
 use mathlib.Core.Logic.{_⊎_, inl, inr}
 use mathlib.Core.Bool.{Bool, true, false, _&&_, and-assoc}
-use mathlib.Core.List.{List, [], _∷_, _++_, map, flatMap}
+use mathlib.Core.List.{List, [], _∷_, _++_, map, flatMap, List·Memᴰ}
 use Prim.Native.Nat.{ℕ, _<_}
 use lib.ListN.{length, getD}
 use Rattle.model.specs.Lists.{All, every}
 use Rattle.model.specs.Demands.{Some}
-use Rattle.model.proofs.Lists.{all-getD, some-getD}
+use Rattle.model.proofs.Lists.{all-getD, all-mem, some-mem}
 use Rattle.model.proofs.Tests.{case, true→T, and-left, and-right}
 
 -- ---- lists that are put together
@@ -53,6 +53,9 @@ module _ {A : Type 0} (p : A → Bool) where
   pub every-at : (d : A) (xs : List A) → every p xs ≡ true → (i : ℕ) → i < length xs → p (getD xs i d) ≡ true
   every-at d xs h i l = all-getD (λ x. p x ≡ true) xs i d (every-all xs h) l
 
+  pub every-mem : (xs : List A) (x : A) → every p xs ≡ true → List·Memᴰ x xs → p x ≡ true
+  every-mem xs x h m = all-mem (λ y. p y ≡ true) xs x (every-all xs h) m
+
   -- ---- it fails
 
   pub every-some : (xs : List A) → every p xs ≡ false → Some (λ x. p x ≡ false) xs
@@ -67,5 +70,5 @@ module _ {A : Type 0} (p : A → Bool) where
   some-every (x ∷ xs) (inl h) = rw h
   some-every (x ∷ xs) (inr h) = case (p x) (λ z. (z && every p xs) ≡ false) (λ q. some-every xs h) (λ q. refl)
 
-  pub every-not : (d : A) (xs : List A) → every p xs ≡ false → (i : ℕ) × (i < length xs) × (p (getD xs i d) ≡ false)
-  every-not d xs h = some-getD (λ x. p x ≡ false) xs d (every-some xs h)
+  pub every-not : (xs : List A) → every p xs ≡ false → (x : A) × List·Memᴰ x xs × (p x ≡ false)
+  every-not xs h = some-mem (λ x. p x ≡ false) xs (every-some xs h)

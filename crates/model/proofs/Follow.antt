@@ -2,7 +2,7 @@
 -- Assumes nothing.
 use mathlib.Core.Path.{_≡_, refl, sym, _∙_, ap, ap₂}
 use mathlib.Core.Bool.{Bool, true, false, _&&_, _||_, cond, true≢false, or-assoc, or-comm, or-self-left}
-use mathlib.Core.List.{List, [], _∷_, _++_}
+use mathlib.Core.List.{List, [], _∷_, _++_, Forall₂, Forall₂·nil, Forall₂·cons}
 use Prim.Native.Nat.{ℕ, zero, suc, _+_, _%_, _<_}
 use native.Mathlib.Omega.{arith as linear}
 use lib.Dec.{eqb}
@@ -182,18 +182,9 @@ pub record Follows (r : Line) (w : Note) : Type 0 where
   pub marked : w .overflowed ≡ 0 → r .value .mark ≡ false
   pub number : r .value .mark ≡ false → w .total ≡ r .value .num
 
--- one for one
-abbrev pub Alike : List Line → List Note → Type 0
-Alike [] [] = Unit {0}
-Alike [] (w ∷ ws) = ⊥
-Alike (r ∷ rs) [] = ⊥
-Alike (r ∷ rs) (w ∷ ws) = Follows r w × Alike rs ws
-
-alike-append : (rs ss : List Line) (ws us : List Note) → Alike rs ws → Alike ss us → Alike (rs ++ ss) (ws ++ us)
-alike-append [] ss [] us h k = k
-alike-append [] ss (w ∷ ws) us h k = absurd h
-alike-append (r ∷ rs) ss [] us h k = absurd h
-alike-append (r ∷ rs) ss (w ∷ ws) us h k = (h .0, alike-append rs ss ws us (h .1) k)
+alike-append : {rs ss : List Line} {ws us : List Note} → Forall₂ Follows rs ws → Forall₂ Follows ss us → Forall₂ Follows (rs ++ ss) (ws ++ us)
+alike-append Forall₂·nil k = k
+alike-append (Forall₂·cons h t) k = Forall₂·cons h (alike-append t k)
 
 module _ (I : Input) where
   read-alongside : (H : List Bool) (σ : State) (τ : Store) (a : ℕ) (rs : List ℤ) (ch : List ℕ) → Alongside H σ τ
@@ -219,32 +210,38 @@ module _ (I : Input) where
 
   -- ---- runs
 
-  logged-alike : (H : List Bool) (σ : State) (τ : Store) (l : ℕ) (i : Instr) → Alongside H σ τ → Alike (logged l i σ) (noted l i H τ)
+  logged-alike : (H : List Bool) (σ : State) (τ : Store) (l : ℕ) (i : Instr) → Alongside H σ τ → Forall₂ Follows (logged l i σ) (noted l i H τ)
   unfolding logged noted
-  logged-alike H σ τ l (assign a ty r) h = tt
-  logged-alike H σ τ l (store t k i x ty) h = tt
+  logged-alike H σ τ l (assign a ty r) h = Forall₂·nil
+  logged-alike H σ τ l (store t k i x ty) h = Forall₂·nil
   logged-alike H σ τ l (site a ty) h =
       let p = h .inVars a in
       let ps = τ .vars a .places in
-      (record { label = refl; type = refl; clean = λ e. cold-count H ps (sym (p .mark) ∙ e); marked = λ e. p .mark ∙ count-cold H ps e; number = p .number }, tt)
+      Forall₂·cons (record {
+        label = refl;
+        type = refl;
+        clean = λ e. cold-count H ps (sym (p .mark) ∙ e);
+        marked = λ e. p .mark ∙ count-cold H ps e;
+        number = p .number;
+      }) Forall₂·nil
 
-  after-alike : (P : State → Type 0) (f : State → List ℕ → Ended) (g : State → List ℕ → List Note) → ((σ : State) (ch : List ℕ) → P σ → Alike (f σ ch .log) (g σ ch))
-      → (nx : Next) → Leads P nx → Alike (after nx f .log) (following nx g)
+  after-alike : (P : State → Type 0) (f : State → List ℕ → Ended) (g : State → List ℕ → List Note)
+      → ((σ : State) (ch : List ℕ) → P σ → Forall₂ Follows (f σ ch .log) (g σ ch))
+      → (nx : Next) → Leads P nx → Forall₂ Follows (after nx f .log) (following nx g)
   after-alike P f g k (go σ ch) h = k σ ch h
-  after-alike P f g k (halt c) h = tt
+  after-alike P f g k (halt c) h = Forall₂·nil
 
   pub run-alike : (n room : ℕ) (H : List Bool) (σ : State) (τ : Store) (c : Code) (ch : List ℕ) → Alongside H σ τ
-      → Alike (execute I n room σ c ch .log) (notes I n room σ τ H c ch)
+      → Forall₂ Follows (execute I n room σ c ch .log) (notes I n room σ τ H c ch)
   unfolding execute notes
-  run-alike zero room H σ τ c ch h = tt
-  run-alike (suc n) room H σ τ done ch h = tt
+  run-alike zero room H σ τ c ch h = Forall₂·nil
+  run-alike (suc n) room H σ τ done ch h = Forall₂·nil
   run-alike (suc n) room H σ τ (step l i rest) ch h =
       let τ′ = make I σ ch (length H) i τ in
       let P : State → Type 0 = λ σ′. Alongside (over σ i ∷ H) σ′ τ′ in
       after-alike P (λ σ′ ch′. stepped (logged l i σ) (execute I n (roomLeft room i) σ′ rest ch′))
       (λ σ′ ch′. noted l i H τ ++ notes I n (roomLeft room i) σ′ τ′ (over σ i ∷ H) rest ch′)
-      (λ σ′ ch′ k. alike-append (logged l i σ) (execute I n (roomLeft room i) σ′ rest ch′ .log) (noted l i H τ) (notes I n (roomLeft room i) σ′ τ′ (over σ i ∷ H) rest ch′)
-      (logged-alike H σ τ l i h) (run-alike n (roomLeft room i) (over σ i ∷ H) σ′ τ′ rest ch′ k))
+      (λ σ′ ch′ k. alike-append (logged-alike H σ τ l i h) (run-alike n (roomLeft room i) (over σ i ∷ H) σ′ τ′ rest ch′ k))
       (permit room i (exec I σ i ch)) (permit-leads P room i (exec I σ i ch) (make-alongside H σ τ i ch h))
   run-alike (suc n) room H σ τ (branch l v y m rest) ch h =
       run-alike n room (false ∷ H) σ τ (cond (taken σ v) (append y rest) (append m rest)) ch (alongside-older H σ τ h false)

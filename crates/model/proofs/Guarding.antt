@@ -1,48 +1,50 @@
 -- Demand 3 of the run behind the filter.
 -- Assumes nothing.
-use mathlib.Core.Path.{_≡_, refl, sym, ap, subst, _∙_}
-use mathlib.Core.Bool.{Bool, true, false}
+use mathlib.Core.Path.{_≡_, sym, ap, subst, _∙_}
+use mathlib.Core.Bool.{cond}
 use mathlib.Core.List.{List}
 use Prim.Native.Nat.{ℕ}
+use lib.Dec.{eqb}
 use lib.ListN.{length}
+use borrow.Author.Tests.{eqb-true}
 use Rattle.model.specs.Refusals.{Out, ok, refused, _>>=_}
 use Rattle.model.specs.Condition.{analysis}
-use Rattle.model.specs.Filter.{filterInput}
+use Rattle.model.specs.Filter.{passNumber, filterInput}
 use Rattle.model.specs.Run.{Ran, run}
-use Rattle.model.specs.Exact.{Note, exactRun}
-use Rattle.model.specs.Demands.{recordsOf, Pairwise, Matches}
+use Rattle.model.specs.Demands.{Exact}
 use Rattle.model.specs.Guarded.{Guarded, held, passed, admitted, guarded}
 use Rattle.model.proofs.Demand3.{demand3}
 use Rattle.model.proofs.Results.{ok-eq, bind-ok}
-
--- the exact run is not refused, and the first n records of the log match its notes
-abbrev pub Exact : List ℕ → List ℕ → ℕ → List ℕ → ℕ → ℕ → List ℕ → Type 0
-Exact program input limit choices room n log = (ws : List Note) × (exactRun program input limit choices room ≡ ok ws) × Pairwise Matches (recordsOf n log) ws
+use Rattle.model.proofs.Tests.{case}
 
 -- the answer is that the input passed
 abbrev IsPassed : Guarded → Type 0
 IsPassed held = ⊥
 IsPassed (passed C R) = Unit {0}
 
-abbrev conditionOf : Guarded → List ℕ → List ℕ
-conditionOf held d = d
-conditionOf (passed C R) d = C
+abbrev conditionIn : Guarded → List ℕ → List ℕ
+conditionIn held d = d
+conditionIn (passed C R) d = C
 
-abbrev ranOf : Guarded → Ran → Ran
-ranOf held d = d
-ranOf (passed C R) d = R
+abbrev ranIn : Guarded → Ran → Ran
+ranIn held d = d
+ranIn (passed C R) d = R
 
-admitted-passed : (C : List ℕ) (o : Out Ran) (b : Bool) (D : List ℕ) (R : Ran) → admitted C o b ≡ ok (passed D R) → (b ≡ true) × (o ≡ ok R) × (C ≡ D)
-admitted-passed C o true D R e =
+admitted-passed : (C : List ℕ) (o : Out Ran) (v : ℕ) (D : List ℕ) (R : Ran) → admitted C o v ≡ ok (passed D R) → (v ≡ passNumber) × (o ≡ ok R) × (C ≡ D)
+admitted-passed C o v D R =
+    case (eqb v passNumber) (λ b. cond b (o >>= λ Q. ok (passed C Q)) (ok held) ≡ ok (passed D R) → (v ≡ passNumber) × (o ≡ ok R) × (C ≡ D))
+    (
+    λ q e.
     let k = bind-ok o (λ Q. ok (passed C Q)) (passed D R) e in
     let p = ok-eq (passed C (k .0)) (passed D R) (k .2) in
-    (refl, k .1 ∙ ap (λ g. ok (ranOf g R)) p, ap (λ g. conditionOf g D) p)
-admitted-passed C o false D R e = absurd (subst IsPassed (sym (ok-eq held (passed D R) e)) tt)
+    (eqb-true v passNumber q, k .1 ∙ ap (λ g. ok (ranIn g R)) p, ap (λ g. conditionIn g D) p)
+    )
+    (λ q e. absurd (subst IsPassed (sym (ok-eq held (passed D R) e)) tt))
 
 module _ (program input : List ℕ) (limit : ℕ) (choices log : List ℕ) where
   -- what ran behind the filter was analysed, passed and run
   pub passed-inv : (C : List ℕ) (R : Ran) → guarded program input limit choices log ≡ ok (passed C R)
-      → (analysis program ≡ ok C) × (filterInput C input ≡ ok true) × (run program input limit choices log ≡ ok R)
+      → (analysis program ≡ ok C) × (filterInput C input ≡ ok passNumber) × (run program input limit choices log ≡ ok R)
   unfolding guarded
   passed-inv C R e =
       let a = bind-ok (analysis program) (λ D. filterInput D input >>= admitted D (run program input limit choices log)) (passed C R) e in

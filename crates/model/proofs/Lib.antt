@@ -55,7 +55,10 @@ pub mod SafeMeets
 -- the operations on byte strings
 pub mod RefusalNumbers
 pub mod Demand3
+pub mod Ends
+pub mod Demand1
 pub mod WorkedExamples
 pub mod Depth
 pub mod Guarding
+pub mod Lent
 pub mod Rising

@@ -12,7 +12,7 @@ use Rattle.model.specs.Lists.{All, every}
 use Rattle.model.specs.Refusals.{ok}
 use Rattle.model.specs.Program.{typeRight}
 use Rattle.model.specs.Conjunct.{Conj, Conjuncts, orderNodes}
-use Rattle.model.specs.Condition.{conjunctsAt, encode, typeNodes, whole, numbered, isBefore, rising, lengthRight, readCondition}
+use Rattle.model.specs.Condition.{conjunctsAt, encode, conditionBytes, typeNodes, whole, numbered, isBefore, rising, lengthRight, readCondition}
 use Rattle.model.proofs.Every.{all-every}
 use Rattle.model.proofs.FileBytes.{size, pairOf, pairs, table-chained, file-conjuncts, file-fields, file-types, file-table, file-read, file-right, length-encode}
 use Rattle.model.proofs.Formed.{FileNode, Formed}
@@ -80,6 +80,6 @@ encode-reads types S few right tidy formed =
     )
 
 -- within the limits the file has at most 61,992 bytes
-pub encode-fits : (types : List ℕ) (S : Conjuncts) → length types ≤ 32 → Fine S → All (Formed types) S → length (encode types S) ≤ 61992
+pub encode-fits : (types : List ℕ) (S : Conjuncts) → length types ≤ 32 → Fine S → All (Formed types) S → length (encode types S) ≤ conditionBytes
 encode-fits types S few fine formed =
     omega (arith, length-encode types S (all-imp (λ e h. h .nodes) S formed), short-size S (short-each S (fine .short)))

@@ -3,8 +3,8 @@
 -- Assumes nothing.
 use mathlib.Core.Path.{_≡_, refl, sym, _∙_, ap, ap₂, subst}
 use mathlib.Core.Bool.{Bool, true, false, _&&_, cond}
-use mathlib.Core.List.{List, [], _∷_, _++_, map, flatMap, append-assoc}
-use Prim.Native.Nat.{ℕ, zero, suc, _+_, _*_, _/_}
+use mathlib.Core.List.{List, [], _∷_, _++_, map, flatMap, append-assoc, Forall₂, Forall₂·nil, Forall₂·cons}
+use Prim.Native.Nat.{ℕ, suc, _*_, _/_}
 use native.Mathlib.Omega.{arith}
 use lib.Dec.{ltb}
 use lib.IntN.{pos}
@@ -14,14 +14,15 @@ use Rattle.arith.specs.Words.{wordOf, valueAt}
 use Rattle.arith.proofs.WrapLaws.{wrap-fits, fits-word}
 use Rattle.model.specs.Lists.{All}
 use Rattle.model.specs.Refusals.{Out, ok, _>>=_, wrongInput}
-use Rattle.model.specs.Bytes.{bytes2, bytes4, bytes8, Pair, pairAt, pairsAt, chained, entries}
+use Rattle.model.specs.Bytes.{bytes2, bytes4, bytes8, Pair, pairAt, pairsAt, chained}
 use Rattle.model.specs.Program.{Tables, Program, fieldType, readProgram}
 use Rattle.model.specs.Input.{Input, width, bitsAt, readingAt, readingsOf, lengthsRight, readInput}
 use Rattle.model.specs.Run.{zeros, Line, execute, markByte, recordBytes, written, choicesOf, Ran, ranOf, run}
 use Rattle.model.specs.Exact.{nothing, Note, notes, exactRun}
-use Rattle.model.specs.Demands.{Record, recordAt, recordsOf, Pairwise, Marks, MarkExact}
+use Rattle.model.specs.Demands.{Record, recordAt, recordsOf, Marks, MarkExact}
 use Rattle.model.proofs.Checked.{program-checked, program-typed}
-use Rattle.model.proofs.Follow.{Follows, Alike, run-alike, begin}
+use Rattle.model.proofs.Follow.{Follows, run-alike, begin}
+use Rattle.model.proofs.Lists.{entries-all}
 use Rattle.model.proofs.LittleEndian.{two-back, u64-bytes8}
 use Rattle.model.proofs.Results.{check-ok, bind-ok, ok-eq}
 use Rattle.model.proofs.Tests.{case}
@@ -69,19 +70,12 @@ line-marks r w inside h = record {
   number = λ e. ap (λ t. valueAt t (wordOf (r .value .num))) (sym (h .type)) ∙ fits-word (r .type) (r .value .num) inside ∙ sym (h .number (mark-zero (r .value .mark) e));
 }
 
-lines-marks : (rs : List Line) (ws : List Note) → All (λ r. fits (r .type) (r .value .num) ≡ true) rs → Alike rs ws → Pairwise Marks (map recordOf rs) ws
-lines-marks [] [] k h = tt
-lines-marks [] (w ∷ ws) k h = h
-lines-marks (r ∷ rs) [] k h = h
-lines-marks (r ∷ rs) (w ∷ ws) k h = (line-marks r w (k .0) (h .0), lines-marks rs ws (k .1) (h .1))
+lines-marks : {rs : List Line} {ws : List Note} → Forall₂ Follows rs ws → All (λ r. fits (r .type) (r .value .num) ≡ true) rs
+    → Forall₂ Marks (map recordOf rs) ws
+lines-marks Forall₂·nil k = Forall₂·nil
+lines-marks (Forall₂·cons {a = r} {b = w} h t) k = Forall₂·cons (line-marks r w (k .0) h) (lines-marks t (k .1))
 
 -- ---- the readings of an input are inside their types
-
-entries-all : {A : Type 0} (P : A → Type 0) (at : List ℕ → ℕ → A) → ((s : List ℕ) (a : ℕ) → P (at s a))
-    → (size : ℕ) (s : List ℕ) (a n : ℕ) → All P (entries at size s a n)
-unfolding entries
-entries-all P at h size s a zero = tt
-entries-all P at h size s a (suc n) = (h s a, entries-all P at h size s (a + size) n)
 
 readings-typed : (ty : ℕ) (s : List ℕ) (p : Pair) → All (λ z. fits ty z ≡ true) (readingsOf ty s p)
 unfolding readingsOf readingAt
@@ -134,7 +128,7 @@ module _ (program input : List ℕ) (limit : ℕ) (choices log : List ℕ) (ran 
   unfolding written ranOf linesOf
   ran-records = subst (λ x. recordsOf (x .records) (x .log) ≡ map recordOf linesOf) (r .gives) (records-back linesOf (drop (12 * length linesOf) log))
 
-  pub lines-follow : Alike linesOf notesOf
+  pub lines-follow : Forall₂ Follows linesOf notesOf
   unfolding linesOf notesOf
   lines-follow = run-alike (r .I) limit (length log / 12) [] zeros nothing (r .P .code) (choicesOf choices) (begin (r .I))
 
@@ -146,10 +140,14 @@ module _ (program input : List ℕ) (limit : ℕ) (choices log : List ℕ) (ran 
       run-inside T (r .I) typed limit (length log / 12) zeros (r .P .code) (choicesOf choices) (zeros-inside T (r .I) typed)
       (program-typed program (r .P) (program-checked program (r .P) (r .reads)))
 
-  pub ran-marks : Pairwise Marks (recordsOf (ran .records) (ran .log)) notesOf
-  ran-marks = subst (λ rs. Pairwise Marks rs notesOf) (sym ran-records) (lines-marks linesOf notesOf lines-inside lines-follow)
+  pub ran-marks : Forall₂ Marks (recordsOf (ran .records) (ran .log)) notesOf
+  ran-marks = subst (λ rs. Forall₂ Marks rs notesOf) (sym ran-records) (lines-marks lines-follow lines-inside)
 
 pub mark-exact : MarkExact
 mark-exact program input limit choices log ran e =
     let r = run-runs program input limit choices log ran e in
-    (notesOf program input limit choices log ran r, exact-notes program input limit choices log ran r, ran-marks program input limit choices log ran r)
+    record {
+      notes = notesOf program input limit choices log ran r;
+      is-run = exact-notes program input limit choices log ran r;
+      each = ran-marks program input limit choices log ran r;
+    }

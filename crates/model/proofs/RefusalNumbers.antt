@@ -3,27 +3,24 @@
 use mathlib.Core.Path.{_≡_}
 use mathlib.Core.Logic.{_⊎_, inl, inr}
 use mathlib.Core.List.{List, [], _∷_}
-use Prim.Native.Nat.{ℕ, suc, _≤_}
+use Prim.Native.Nat.{ℕ, suc}
 use native.Mathlib.Omega.{arith}
 use lib.Dec.{ltb}
 use Rattle.model.specs.Lists.{All}
-use Rattle.model.specs.Refusals.{ok, refused}
+use Rattle.model.specs.Refusals.{ok, refused, _>>=_}
 use Rattle.model.specs.Code.{Instr, Code, done, Stmt, plain, if, else, end, while, Open, top, block, other, openBlocks, taking, opened, closed, treeOf}
-use Rattle.model.specs.Program.{readProgram}
+use Rattle.model.specs.Program.{Program, Tables, readProgram}
 use Rattle.model.specs.Conjunct.{Conjuncts, unionOf, limits}
 use Rattle.model.specs.Walk.{before, gather, back, sites, start, derived}
-use Rattle.model.specs.Condition.{readCondition, analysis}
+use Rattle.model.specs.Condition.{Condition, encode, readCondition, analysis}
 use Rattle.model.specs.Input.{readInput}
 use Rattle.model.specs.Filter.{filterInput}
 use Rattle.model.specs.Run.{run}
+use Rattle.model.specs.Demands.{FromTo, AnalysisRefusal, FilterRefusal, RunRefusal}
 use Rattle.model.proofs.Invariant.{sites-keep, join-keeps}
 use Rattle.model.proofs.Limits.{limits-cases}
 use Rattle.model.proofs.Results.{Refuses, refuses-check, refuses-bind, refuses-imp, refuses-by}
 use Rattle.model.proofs.Trees.{each-any}
-
--- a number from one to another
-abbrev From : ℕ → ℕ → ℕ → Type 0
-From a b n = (a ≤ n) × (n ≤ b)
 
 -- ---- the program: 2 to 8
 
@@ -56,10 +53,10 @@ module _ (P : ℕ → Type 0) (eight : P 8) where
   unfolding treeOf
   treeOf-refuses ss = refuses-bind P (opened 0 ss) closed (opened-refuses 0 ss) closed-refuses
 
-readProgram-refuses : (s : List ℕ) → Refuses (From 2 8) (readProgram s)
+readProgram-refuses : (s : List ℕ) → Refuses (FromTo 2 8) (readProgram s)
 unfolding readProgram
 readProgram-refuses s =
-    let causes : All (From 2 8) (2 ∷ 3 ∷ 4 ∷ 5 ∷ 6 ∷ 7 ∷ 8 ∷ []) = omega arith in
+    let causes : All (FromTo 2 8) (2 ∷ 3 ∷ 4 ∷ 5 ∷ 6 ∷ 7 ∷ 8 ∷ []) = omega arith in
     search (refuses-check, refuses-bind, treeOf-refuses) depth 9
 
 -- ---- the derivation: 9 to 11
@@ -89,19 +86,41 @@ module _ (P : ℕ → Type 0) (nine : P 9) (ten : P 10) (eleven : P 11) where
 
 -- ---- the operations
 
-pub refusals-analysis : (p : List ℕ) (n : ℕ) → analysis p ≡ refused n → (2 ≤ n) × (n ≤ 11)
+pub refusals-analysis : (p : List ℕ) (n : ℕ) → analysis p ≡ refused n → AnalysisRefusal n
 unfolding analysis
 refusals-analysis p n e =
-    let program = refuses-imp (From 2 8) (From 2 11) (λ n h. omega arith) (readProgram p) (readProgram-refuses p) in
-    let derivation = derived-refuses (From 2 11) (omega arith) (omega arith) (omega arith) in
-    refuses-by (From 2 11) (analysis p) n e (search (refuses-bind, program, derivation))
+    let program = refuses-imp (FromTo 2 8) AnalysisRefusal (λ n h. omega arith) (readProgram p) (readProgram-refuses p) in
+    let derivation = derived-refuses AnalysisRefusal (omega arith) (omega arith) (omega arith) in
+    refuses-by AnalysisRefusal (analysis p) n e (search (refuses-bind, program, derivation))
 
-pub refusals-filter : (c i : List ℕ) (n : ℕ) → filterInput c i ≡ refused n → (n ≡ 12) ⊎ ((n ≡ 13) ⊎ (n ≡ 14))
+pub refusals-filter : (c i : List ℕ) (n : ℕ) → filterInput c i ≡ refused n → FilterRefusal n
 unfolding filterInput readCondition readInput
-refusals-filter c i n e = refuses-by (λ n. (n ≡ 12) ⊎ ((n ≡ 13) ⊎ (n ≡ 14))) (filterInput c i) n e (search (refuses-check, refuses-bind, inl, inr))
+refusals-filter c i n e =
+    let causes : All FilterRefusal (12 ∷ 13 ∷ 14 ∷ []) = omega arith in
+    refuses-by FilterRefusal (filterInput c i) n e (search (refuses-check, refuses-bind))
 
-pub refusals-run : (p i : List ℕ) (limit : ℕ) (ch log : List ℕ) (n : ℕ) → run p i limit ch log ≡ refused n → ((2 ≤ n) × (n ≤ 8)) ⊎ (n ≡ 13)
+pub refusals-run : (p i : List ℕ) (limit : ℕ) (ch log : List ℕ) (n : ℕ) → run p i limit ch log ≡ refused n → RunRefusal n
 unfolding run readInput
 refusals-run p i limit ch log n e =
-    let program = refuses-imp (From 2 8) (λ n. From 2 8 n ⊎ (n ≡ 13)) (λ n. inl) (readProgram p) (readProgram-refuses p) in
-    refuses-by (λ n. From 2 8 n ⊎ (n ≡ 13)) (run p i limit ch log) n e (search (refuses-check, refuses-bind, inr))
+    let program = refuses-imp (FromTo 2 8) RunRefusal (λ n. inl) (readProgram p) (readProgram-refuses p) in
+    refuses-by RunRefusal (run p i limit ch log) n e (search (refuses-check, refuses-bind, inr))
+
+-- ---- of a program that is read
+
+pub read-refusals-analysis : (p : List ℕ) (P : Program) → readProgram p ≡ ok P → (n : ℕ) → analysis p ≡ refused n → FromTo 9 11 n
+unfolding analysis
+read-refusals-analysis p P r n e =
+    let given = derived-refuses (FromTo 9 11) (omega arith) (omega arith) (omega arith) (P .code) in
+    refuses-by (FromTo 9 11) (derived (P .code) >>= λ S. ok (encode (P .tables .fields) S)) n (rw r at e)
+    (refuses-bind (FromTo 9 11) (derived (P .code)) (λ S. ok (encode (P .tables .fields) S)) given (λ S. tt))
+
+pub read-refusals-run : (p i : List ℕ) (limit : ℕ) (ch log : List ℕ) (P : Program) → readProgram p ≡ ok P → (n : ℕ) → run p i limit ch log ≡ refused n → n ≡ 13
+unfolding run readInput
+read-refusals-run p i limit ch log P r n e = refuses-by (λ m. m ≡ 13) (run p i limit ch log) n e (rw r (search (refuses-check, refuses-bind)))
+
+-- of a condition that is read
+pub read-refusals-filter : (c i : List ℕ) (C : Condition) → readCondition c ≡ ok C → (n : ℕ) → filterInput c i ≡ refused n → FromTo 13 14 n
+unfolding filterInput readInput
+read-refusals-filter c i C r n e =
+    let causes : All (FromTo 13 14) (13 ∷ 14 ∷ []) = omega arith in
+    refuses-by (FromTo 13 14) (filterInput c i) n e (rw r (search (refuses-check, refuses-bind)))

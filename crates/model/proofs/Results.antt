@@ -55,6 +55,14 @@ module _ {A B : Type 0} (K : A → Type 0) (L : B → Type 0) where
   pub gives-bind : (o : Out A) (f : A → Out B) → Gives K o → ((a : A) → K a → Gives L (f a)) → Gives L (o >>= f)
   gives-bind o f h k = ends-bind (λ n. Unit {0}) o f h k
 
+pub gives-any : {A : Type 0} (o : Out A) → Gives (λ a. Unit {0}) o
+gives-any (ok a) = tt
+gives-any (refused n) = tt
+
+pub gives-check : {A : Type 0} (K : A → Type 0) (b : Bool) (n : ℕ) (o : Out A) → Gives K o → Gives K (check b n o)
+gives-check K true n o h = h
+gives-check K false n o h = tt
+
 pub gives-ok : {A : Type 0} (K : A → Type 0) (o : Out A) (a : A) → o ≡ ok a → Gives K o → K a
 gives-ok K o a p h = subst (Gives K) p h
 

@@ -4,9 +4,8 @@
 use mathlib.Core.Path.{_≡_, refl, sym, ap, _∙_}
 use mathlib.Core.Bool.{true, false, cond}
 use mathlib.Core.List.{List, [], _∷_, map}
-use Prim.Native.Nat.{ℕ, zero, suc, _%_, _<_}
+use Prim.Native.Nat.{ℕ, _%_}
 use native.Mathlib.Nat.{mod-lt}
-use native.Mathlib.Omega.{arith}
 use lib.IntN.{ℤ, pos}
 use lib.ListN.{length, getD, drop, List·getD-map}
 use Rattle.arith.specs.declared.Op.{Op}
@@ -17,11 +16,12 @@ use Rattle.model.specs.Lists.{All}
 use Rattle.model.specs.Values.{Val, plain, Operation, stepOp, operated, converted}
 use Rattle.model.specs.Conjunct.{Source, field, cell, Atom, Node, const, atom, var, op, conv, Conj, atoms}
 use Rattle.model.specs.Input.{Input}
-use Rattle.model.specs.Filter.{fromTop, valuesOf}
+use Rattle.model.specs.Filter.{fromTop}
 use Rattle.model.specs.Run.{zeros, reading}
-use Rattle.model.specs.Demands.{Choice, Takes, chosen, Safe}
+use Rattle.model.specs.Demands.{IsReading, Safe}
 use Rattle.model.proofs.Atoms.{every-imp, has, has-atoms, atoms-all}
-use Rattle.model.proofs.Lists.{drop-map}
+use Rattle.model.proofs.Choosing.{IsField, OfFields}
+use Rattle.model.proofs.Lists.{all-imp₂, getD-mem, drop-map}
 use Rattle.model.proofs.Meaning.{AtAtom, Env, pick, push, eval, topMark, LiveAtom, Meets}
 use Rattle.model.proofs.Tests.{case, true→T}
 use Rattle.model.proofs.Worked.{Stack, stack, stopped, onTop, goOn, outcome, worksOut, worked, evaluate-worked}
@@ -87,26 +87,25 @@ outcome-mark : (s : Stack) (vs : List Val) → passes (outcome s) ≡ true → U
 outcome-mark (stack st) vs p q = ap topMark q ∙ topMark-plain st
 outcome-mark stopped vs p q = absurd (true→T p)
 
-one-zero : (n : ℕ) → getD (pos 0 ∷ []) n (pos 0) ≡ pos 0
-one-zero zero = refl
-one-zero (suc n) = refl
-
--- a source's value at a choice is that of the choice modulo the number of its values
-picked : (I : Input) (s : Source) (c : ℕ) → pick I zeros s c ≡ plain (getD (valuesOf I s) (c % length (valuesOf I s)) (pos 0))
+-- what a source has in the zero state is unmarked
+picked : (I : Input) (s : Source) (c : ℕ) → pick I zeros s c ≡ plain (pick I zeros s c .num)
 unfolding pick reading
 picked I (field f ty) c = refl
-picked I (cell l r k ty) c = sym (ap plain (one-zero (c % 1)))
+picked I (cell l r k ty) c = refl
 
-takes : (I : Input) (s : Source) (c : ℕ) → LiveAtom I s → c % length (valuesOf I s) < length (valuesOf I s)
-takes I (field f ty) c h = mod-lt c h
-takes I (cell l r k ty) c h = omega arith
+-- and it is a reading of its field
+picked-reading : (I : Input) (s : Source) (c : ℕ) → IsField s → LiveAtom I s → IsReading I s (pick I zeros s c .num)
+unfolding pick reading
+picked-reading I (field f ty) c h live = getD-mem (I f) (c % length (I f)) (pos 0) (mod-lt c live)
+picked-reading I (cell l r k ty) c h live = h
 
-pub safe-meets : (I : Input) (e : Conj) → Safe I e → Meets I zeros e
+pub safe-meets : (I : Input) (e : Conj) → OfFields e → Safe I e → Meets I zeros e
 unfolding Meets
-safe-meets I e safe env live =
+safe-meets I e fields safe env live =
     let number : Atom → ℕ = λ a. env (a .src) (a .n) in
-    let choice : Choice = λ a. number a % length (valuesOf I (a .src)) in
-    let at = chosen I choice in
-    let t = atoms-all (Takes I choice) e (every-imp (λ a. LiveAtom I (a .src)) (Takes I choice) (λ a. takes I (a .src) (number a)) e live) in
+    let at : Atom → ℤ = λ a. pick I zeros (a .src) (number a) .num in
+    let of-fields = atoms-all (λ a. IsField (a .src)) e fields in
+    let live-atoms = atoms-all (λ a. LiveAtom I (a .src)) e live in
+    let chooses = all-imp₂ (λ a. picked-reading I (a .src) (number a)) (atoms e) of-fields live-atoms in
     let p = every-imp (λ a. has a (atoms e) ≡ true) (Picked I env at) (λ a h. picked I (a .src) (number a)) e (has-atoms e) in
-    outcome-mark (worked at e []) (eval I zeros env e []) (ap passes (sym (evaluate-worked at e [])) ∙ safe choice t) (eval-unmarked I env at e p [])
+    outcome-mark (worked at e []) (eval I zeros env e []) (ap passes (sym (evaluate-worked at e [])) ∙ safe at chooses) (eval-unmarked I env at e p [])

@@ -2,7 +2,6 @@
 -- definitions that the public operations equal; and the examples without a letter.
 -- Assumes nothing.
 use mathlib.Core.Path.{_≡_, refl}
-use mathlib.Core.Bool.{Bool, true, false}
 use mathlib.Core.List.{List, [], _∷_, _++_, map, flatMap}
 use Prim.Native.Nat.{ℕ, zero, suc, _+_, _*_}
 use lib.IntN.{ℤ, pos, negsuc}
@@ -17,7 +16,7 @@ use Rattle.model.specs.Code.{plain, site, done, step, branch, loop, if, 
 use Rattle.model.specs.Conjunct.{field, Node, const, atom, op, conv, Conjuncts, atoms}
 use Rattle.model.specs.Condition.{Condition, encode, readCondition, analysis}
 use Rattle.model.specs.Input.{readInput}
-use Rattle.model.specs.Filter.{evaluate, combinationsOf, valueIn, filterInput}
+use Rattle.model.specs.Filter.{evaluate, combinationsOf, valueIn, passNumber, heldNumber, filterInput}
 use Rattle.model.specs.Bytes
 use Rattle.model.specs.Code
 use Rattle.model.specs.Condition
@@ -47,7 +46,7 @@ unfolding definitions
 file types S = encode types S
 
 -- the filter
-check : List ℕ → List ℕ → Out Bool
+check : List ℕ → List ℕ → Out ℕ
 unfolding definitions
 check condition input = filterInput condition input
 
@@ -92,7 +91,7 @@ program fields variables arrays statements =
 
 -- the values and the filter's answer, or the condition file
 data Answer : Type 0 where
-  filtered : Out (List (List Outcome)) → Out Bool → Answer
+  filtered : Out (List (List Outcome)) → Out ℕ → Answer
   derives : Out (List ℕ) → Answer
 
 record Example : Type 0 where
@@ -119,11 +118,11 @@ stored len =
 
 -- passes with this value
 abbrev pass : ℤ → Answer
-pass z = filtered (ok ((value z ∷ []) ∷ [])) (ok true)
+pass z = filtered (ok ((value z ∷ []) ∷ [])) (ok passNumber)
 
 -- is held
 abbrev held : Answer
-held = filtered (ok ((overflow ∷ []) ∷ [])) (ok false)
+held = filtered (ok ((overflow ∷ []) ∷ [])) (ok heldNumber)
 
 abbrev example : Answer → Answer → Example
 example f e = record { found = f; expected = e }
@@ -194,7 +193,7 @@ unfolding derive program zeros
 seven-loads = refl
 
 -- 46,341 × 46,341 / 46,341 is held: every step is tested, and not only the last
-each-step : check (file (6 ∷ 6 ∷ []) ((reading 0 6 ∷ reading 1 6 ∷ op mul 6 ∷ reading 0 6 ∷ op div 6 ∷ []) ∷ [])) (two 46341 46341) ≡ ok false
+each-step : check (file (6 ∷ 6 ∷ []) ((reading 0 6 ∷ reading 1 6 ∷ op mul 6 ∷ reading 0 6 ∷ op div 6 ∷ []) ∷ [])) (two 46341 46341) ≡ ok heldNumber
 unfolding check file two
 each-step = refl
 
@@ -203,7 +202,7 @@ nothing : derive (program [] [] [] []) ≡ ok (file [] [])
 unfolding derive program file
 nothing = refl
 
-nothing-passes : check (file [] []) [] ≡ ok true
+nothing-passes : check (file [] []) [] ≡ ok passNumber
 unfolding check file
 nothing-passes = refl
 

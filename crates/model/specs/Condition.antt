@@ -37,6 +37,10 @@ encode types S =
     ++ pairBytes (conjunctsAt (length types) (length S)) S
     ++ flatMap conjunctBytes S
 
+-- the length of the longest one: two counts, 32 types, 64 pairs, and 64 conjuncts of 120 nodes
+abbrev pub conditionBytes : ℕ
+conditionBytes = 61992
+
 -- the condition file that the analysis writes for a program's bytes, or the refusal
 unfoldable pub analysis : List ℕ → Out (List ℕ)
 analysis s = readProgram s >>= λ P. derived (P .code) >>= λ S. ok (encode (P .tables .fields) S)

@@ -3,43 +3,79 @@
 use mathlib.Core.Path.{_≡_}
 use mathlib.Core.Logic.{_⊎_, _↔_}
 use mathlib.Core.Bool.{Bool, true, false}
-use mathlib.Core.List.{List, [], _∷_}
-use Prim.Native.Nat.{ℕ, zero, suc, _<_}
-use lib.IntN.{ℤ, pos}
-use lib.ListN.{length, getD, drop}
+use mathlib.Core.List.{List, [], _∷_, List·Memᴰ, Forall₂}
+use Prim.Native.Nat.{ℕ, zero, suc, _≤_}
+use lib.IntN.{ℤ}
+use lib.ListN.{length, drop}
 use Rattle.arith.specs.Step.{passes}
 use Rattle.arith.specs.Words.{valueAt}
 use Rattle.model.specs.Lists.{All, every}
-use Rattle.model.specs.Refusals.{Out, ok}
+use Rattle.model.specs.Refusals.{Out, ok, refused, lentTooShort, wrongSections, wrongBlocks}
+use Rattle.model.specs.Refusals.{neverSettles, wrongCondition, wrongInput, tooManyCombinations}
 use Rattle.model.specs.Bytes.{byteAt, u16At, u64At}
-use Rattle.model.specs.Conjunct.{Atom, Conj, Conjuncts, atoms}
+use Rattle.model.specs.Conjunct.{Source, field, cell, Atom, Conj, Conjuncts, atoms}
 use Rattle.model.specs.Condition.{Condition, readCondition, analysis}
 use Rattle.model.specs.Input.{Input, readInput}
-use Rattle.model.specs.Filter.{evaluate, valuesOf, fewCombinations, filterInput}
+use Rattle.model.specs.Filter.{evaluate, fewCombinations, passNumber, heldNumber, filterInput}
 use Rattle.model.specs.Run.{Ran, run}
+use Rattle.model.specs.Guarded.{guarded}
 use Rattle.model.specs.Exact.{Note, exactRun}
+
+-- ---- demand 1: the full result or one numbered refusal
+
+-- a number from one to another
+abbrev pub FromTo : ℕ → ℕ → ℕ → Type 0
+FromTo a b n = (a ≤ n) × (n ≤ b)
+
+-- a result, or a refusal whose number has the property
+abbrev pub ResultOrRefusal : {A : Type 0} → (ℕ → Type 0) → Out A → Type 0
+ResultOrRefusal {A} P o = ((a : A) × (o ≡ ok a)) ⊎ ((n : ℕ) × (o ≡ refused n) × P n)
+
+-- the same of an operation that is lent something, which may be too short
+abbrev pub OrLent : (ℕ → Type 0) → ℕ → Type 0
+OrLent P n = (n ≡ lentTooShort) ⊎ P n
+
+-- the numbers of the four operations on byte strings
+abbrev pub AnalysisRefusal : ℕ → Type 0
+AnalysisRefusal n = FromTo wrongSections neverSettles n
+
+abbrev pub FilterRefusal : ℕ → Type 0
+FilterRefusal n = FromTo wrongCondition tooManyCombinations n
+
+abbrev pub RunRefusal : ℕ → Type 0
+RunRefusal n = FromTo wrongSections wrongBlocks n ⊎ (n ≡ wrongInput)
+
+-- a condition that the analysis wrote is in its form
+abbrev pub GuardedRefusal : ℕ → Type 0
+GuardedRefusal n = AnalysisRefusal n ⊎ FromTo wrongInput tooManyCombinations n
+
+-- whatever bytes are handed in, there is an answer; the filter's is one of two numbers, and a run's end one of five
+pub record Demand1 : Type 0 where
+  pub analysed : (program : List ℕ) → ResultOrRefusal AnalysisRefusal (analysis program)
+  pub filtered : (condition input : List ℕ) → ResultOrRefusal FilterRefusal (filterInput condition input)
+  pub verdicts : (condition input : List ℕ) (v : ℕ) → filterInput condition input ≡ ok v → (v ≡ passNumber) ⊎ (v ≡ heldNumber)
+  pub ran : (program input : List ℕ) (limit : ℕ) (choices log : List ℕ) → ResultOrRefusal RunRefusal (run program input limit choices log)
+  pub ends : (program input : List ℕ) (limit : ℕ) (choices log : List ℕ) (R : Ran) → run program input limit choices log ≡ ok R → R .end ≤ 4
+  pub behind : (program input : List ℕ) (limit : ℕ) (choices log : List ℕ) → ResultOrRefusal GuardedRefusal (guarded program input limit choices log)
 
 -- ---- demand 2: the filter
 
--- the number of a reading for each atom
-abbrev pub Choice : Type 0
-Choice = Atom → ℕ
+-- the value is a reading of the atom's field; a condition that is read has no loads
+abbrev pub IsReading : Input → Source → ℤ → Type 0
+IsReading I (field f ty) z = List·Memᴰ z (I f)
+IsReading I (cell l r k ty) z = ⊥
 
--- the atom has a reading of the chosen number
-abbrev pub Takes : Input → Choice → Atom → Type 0
-Takes I choice a = choice a < length (valuesOf I (a .src))
-
--- the value of an atom by a choice
-abbrev pub chosen : Input → Choice → Atom → ℤ
-chosen I choice a = getD (valuesOf I (a .src)) (choice a) (pos 0)
+-- a choice: each atom of the conjunct has a reading of its field, whatever the others have
+abbrev pub Chooses : Input → (Atom → ℤ) → Conj → Type 0
+Chooses I at e = All (λ a. IsReading I (a .src) (at a)) (atoms e)
 
 -- whatever readings are chosen, no step of the conjunct overflows
 abbrev pub Safe : Input → Conj → Type 0
-Safe I e = (choice : Choice) → All (Takes I choice) (atoms e) → passes (evaluate (chosen I choice) e []) ≡ true
+Safe I e = (at : Atom → ℤ) → Chooses I at e → passes (evaluate at e []) ≡ true
 
 -- with some choice of readings a step of the conjunct overflows
 abbrev pub Overflows : Input → Conj → Type 0
-Overflows I e = (choice : Choice) × All (Takes I choice) (atoms e) × (passes (evaluate (chosen I choice) e []) ≡ false)
+Overflows I e = (at : Atom → ℤ) × Chooses I at e × (passes (evaluate at e []) ≡ false)
 
 -- P of some element
 abbrev pub Some : {A : Type 0} → (A → Type 0) → List A → Type 0
@@ -52,7 +88,8 @@ abbrev pub Demand2 : Type 0
 Demand2 =
     (condition input : List ℕ) (C : Condition) (I : Input)
     → readCondition condition ≡ ok C → readInput (C .types) input ≡ ok I → every (fewCombinations I) (C .conjuncts) ≡ true
-    → ((filterInput condition input ≡ ok true) ↔ All (Safe I) (C .conjuncts)) × ((filterInput condition input ≡ ok false) ↔ Some (Overflows I) (C .conjuncts))
+    → ((filterInput condition input ≡ ok passNumber) ↔ All (Safe I) (C .conjuncts))
+    × ((filterInput condition input ≡ ok heldNumber) ↔ Some (Overflows I) (C .conjuncts))
 
 -- ---- demand 3
 
@@ -71,12 +108,12 @@ unfoldable pub recordsOf : ℕ → List ℕ → List Record
 recordsOf zero log = []
 recordsOf (suc n) log = recordAt log ∷ recordsOf n (drop 12 log)
 
--- one for one and in order
-abbrev pub Pairwise : (Record → Note → Type 0) → List Record → List Note → Type 0
-Pairwise P [] [] = Unit {0}
-Pairwise P [] (w ∷ ws) = ⊥
-Pairwise P (r ∷ rs) [] = ⊥
-Pairwise P (r ∷ rs) (w ∷ ws) = P r w × Pairwise P rs ws
+-- the exact run, with room for so many bytes, is not refused; and the first records of the log are P of its notes, one for one and
+-- in order
+pub record ExactBy (P : Record → Note → Type 0) (program input : List ℕ) (limit : ℕ) (choices : List ℕ) (room records : ℕ) (log : List ℕ) : Type 0 where
+  pub notes : List Note
+  pub is-run : exactRun program input limit choices room ≡ ok notes
+  pub each : Forall₂ P (recordsOf records log) notes
 
 -- a record is what was noted: the same label, mark 0, the value read in the site's type is the whole number, and no step of its
 -- making overflowed
@@ -87,13 +124,17 @@ pub record Matches (r : Record) (w : Note) : Type 0 where
   pub number : valueAt (w .type) (r .word) ≡ w .total
   pub overflows : w .overflowed ≡ 0
 
+-- the records match
+abbrev pub Exact : (program input : List ℕ) (limit : ℕ) (choices : List ℕ) (room records : ℕ) (log : List ℕ) → Type 0
+Exact = ExactBy Matches
+
 -- an accepted program, an input that passes under its condition, and any run of the two that is not refused:
 -- the exact run is not refused either, and the log's records match its notes
 abbrev pub Demand3 : Type 0
 Demand3 =
     (program condition input : List ℕ) (limit : ℕ) (choices log : List ℕ) (ran : Ran)
-    → analysis program ≡ ok condition → filterInput condition input ≡ ok true → run program input limit choices log ≡ ok ran
-    → (ws : List Note) × (exactRun program input limit choices (length log) ≡ ok ws) × Pairwise Matches (recordsOf (ran .records) (ran .log)) ws
+    → analysis program ≡ ok condition → filterInput condition input ≡ ok passNumber → run program input limit choices log ≡ ok ran
+    → Exact program input limit choices (length log) (ran .records) (ran .log)
 
 -- in any run a record is marked if and only if a step of the value's making overflowed; if not, the value is the whole number
 pub record Marks (r : Record) (w : Note) : Type 0 where
@@ -105,4 +146,4 @@ pub record Marks (r : Record) (w : Note) : Type 0 where
 abbrev pub MarkExact : Type 0
 MarkExact =
     (program input : List ℕ) (limit : ℕ) (choices log : List ℕ) (ran : Ran) → run program input limit choices log ≡ ok ran
-    → (ws : List Note) × (exactRun program input limit choices (length log) ≡ ok ws) × Pairwise Marks (recordsOf (ran .records) (ran .log)) ws
+    → ExactBy Marks program input limit choices (length log) (ran .records) (ran .log)

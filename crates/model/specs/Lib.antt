@@ -11,5 +11,6 @@ pub mod Input
 pub mod Filter
 pub mod Run
 pub mod Exact
-pub mod Demands
 pub mod Guarded
+pub mod Demands
+pub mod Lent

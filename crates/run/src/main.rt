@@ -53,7 +53,7 @@ fn run(recipe: &[u8], sheet: &[u8], file: &[u8], log: &mut [u8], scratch: &mut [
 
 fn with_log(recipe: &[u8], sheet: &[u8], file: &[u8]) {
     let mut log = [0u8; 524280];
-    let mut scratch = [0u64; 11392];
+    let mut scratch = [0u64; interpreter::SCRATCH];
     run(recipe, sheet, file, &mut log, &mut scratch);
 }
 

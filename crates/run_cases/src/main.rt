@@ -218,7 +218,7 @@ fn with_length(
 // Every byte of the log is 165 before the run.
 fn with_log(i: usize, recipe: &[u8], sheet: &[u8], file: &[u8], len: usize, asks: u8) {
     let mut log = [165u8; 120000];
-    let mut scratch = [0u64; 11392];
+    let mut scratch = [0u64; interpreter::SCRATCH];
     with_length(i, recipe, sheet, file, &mut log, len, &mut scratch, asks);
 }
 

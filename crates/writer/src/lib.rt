@@ -6,7 +6,7 @@ ghost use Prim.Native.Nat.{ℕ, _+_, _*_, _≤_, _<_, _^_};
 ghost use lib.ListN.{length};
 ghost use Rattle.model.specs.Bytes.{bytes4};
 ghost use Rattle.model.specs.Lists.{All};
-ghost use Rattle.model.specs.Condition.{conjunctBytes, pairBytes, encode};
+ghost use Rattle.model.specs.Condition.{conjunctBytes, pairBytes, encode, conditionBytes};
 ghost use Rattle.model.proofs.Formed.{FileNode, Formed};
 ghost use Rattle.model.proofs.FileBytes.{size};
 ghost use Rattle.bytes_le.specs.Overlay.{overlay};
@@ -88,8 +88,8 @@ fn put_conjuncts(out: &mut [u8], a: usize, s: &[u64], b: usize, words: &mut [u64
 // The condition file of the set in the region at b of s, with the types of the program's fields;
 // how many bytes it has.
 pub fn write(program: &[u8], layout: Layout, s: &[u64], b: usize, out: &mut [u8]) -> usize
-    requires { ⌜ ProgramIsRead (now program) layout × (b + 7745 ≤ length (now s)) × (61992 ≤ length (now out)) × All (Formed (tablesOf (now program) .fields)) (setOf (now s) b) ⌝ }
-    ensures { λ r. ⌜ (r ≡ length (encode (tablesOf (now (program .entry)) .fields) (setOf (now (s .entry)) b))) × (r ≤ 61992) × (now (out .exit) ≡ overlay (now (out .entry)) 0 (encode (tablesOf (now (program .entry)) .fields) (setOf (now (s .entry)) b))) ⌝ }
+    requires { ⌜ ProgramIsRead (now program) layout × (b + 7745 ≤ length (now s)) × (conditionBytes ≤ length (now out)) × All (Formed (tablesOf (now program) .fields)) (setOf (now s) b) ⌝ }
+    ensures { λ r. ⌜ (r ≡ length (encode (tablesOf (now (program .entry)) .fields) (setOf (now (s .entry)) b))) × (r ≤ conditionBytes) × (now (out .exit) ≡ overlay (now (out .entry)) 0 (encode (tablesOf (now (program .entry)) .fields) (setOf (now (s .entry)) b))) ⌝ }
 {
     let types = program::field_types(program, layout);
     let fields = types.len();

@@ -1,7 +1,7 @@
 -- `capi::gate_check` meets its contract. Assumes nothing.
 use mathlib.Core.Path.{sym, ap, _∙_}
-use Rattle.model.specs.Filter.{filterInput}
-use Rattle.capi.proofs.Leaving.{verdictWord, verdict-left}
+use Rattle.filter.specs.Verdict.{verdictOf}
+use Rattle.capi.specs.Words.{answerWord}
 use borrow.Author.Needs.{needs}
 use Rattle.capi.proofs.gate_check.Statement.{statement}
 use Rattle.capi.proofs.gate_check.Tie as tie
@@ -27,21 +27,18 @@ enum-told-2 c = search needs
 
 returns : tie.Need-returns
 returns c =
-    let a = c .before .before .before .before .before .before .before .args in
     let call = c .before .before .before .before .check in
-    verdict-left (filterInput (a .condition .now) (a .sheet .now)) (call .result) (c .refusal .result) (call .ensures) (c .refusal .ensures ∙ sym (ap verdictWord (c .before .before .v .given .1)))
+    c .refusal .ensures ∙ sym (ap (λ v. answerWord (verdictOf v)) (c .before .before .v .given .1)) ∙ ap answerWord (call .ensures)
 
 returns-2 : tie.Need-returns-2
 returns-2 c =
-    let a = c .before .before .before .before .before .args in
     let call = c .before .before .check in
-    verdict-left (filterInput (a .condition .now) (a .sheet .now)) (call .result) 0 (call .ensures) (sym (ap verdictWord (c .enum-told .given .1)))
+    sym (ap (λ v. answerWord (verdictOf v)) (c .enum-told .given .1)) ∙ ap answerWord (call .ensures)
 
 returns-3 : tie.Need-returns-3
 returns-3 c =
-    let a = c .before .before .before .before .before .args in
     let call = c .before .before .check in
-    verdict-left (filterInput (a .condition .now) (a .sheet .now)) (call .result) 1 (call .ensures) (sym (ap verdictWord (c .enum-told2 .given .1)))
+    sym (ap (λ v. answerWord (verdictOf v)) (c .enum-told2 .given .1)) ∙ ap answerWord (call .ensures)
 
 pub gate-check-spec : {M : Type 1} → statement M
 gate-check-spec =

@@ -1,8 +1,10 @@
 -- `capi::gate_guarded` meets its contract. Assumes nothing.
-use mathlib.Core.Path.{sym, ap, _∙_}
+use mathlib.Core.Path.{_≡_, sym, ap, _∙_}
+use Prim.Native.Nat.{ℕ}
 use lib.ListN.{length}
 use Rattle.guard.specs.Answers.{guarding}
-use Rattle.capi.proofs.Leaving.{guardedWord, guardedSteps, guardedRecords, guarded-ends, guarded-leaves}
+use Rattle.capi.specs.Words.{heldWord, GateGuarded}
+use Rattle.capi.proofs.Leaving.{guardedWord, guardedSteps, guardedRecords, guarded-left}
 use borrow.Author.Needs.{needs}
 use Rattle.capi.proofs.gate_guarded.Statement.{statement}
 use Rattle.capi.proofs.gate_guarded.Tie as tie
@@ -10,6 +12,36 @@ use Rattle.capi.proofs.gate_guarded.Reads as reads
 use Rattle.capi.proofs.gate_guarded.Lts as lts
 use Rattle.capi.proofs.refusal.Reads as refusal-reads
 use Rattle.guard.proofs.run.Reads as run-reads
+
+-- ---- the places
+
+abbrev start : tie.After-run → tie.Start
+start c = c .before .before .before .before .before .before .before .before .before .before
+
+abbrev not-run : tie.After-answer → tie.After-run
+not-run c = c .before .before .before .before .before .before .before .before
+
+abbrev is-held : tie.After-enum-told → tie.After-run
+is-held c = c .before .before .before .before .before .before .before .before
+
+abbrev ended : tie.After-answer2 → tie.After-run
+ended c = c .before .before .before .before .before .before .before .before
+
+-- the word of a guarded run, with the numbers of steps and records
+left : (c : tie.After-run) (w n k : ℕ)
+    → let a = start c .args in
+    w ≡ guardedWord (c .run .result) → n ≡ guardedSteps (c .run .result) (a .steps .now) → k ≡ guardedRecords (c .run .result) (a .records .now)
+    → GateGuarded (a .recipe .now) (a .sheet .now) (a .limit) (a .choices .now)
+    (guarding (length (a .condition .now)) (length (a .scratch .now)) (a .recipe .now) (a .sheet .now) (a .limit) (a .choices .now) (a .log .now)) w
+    (a .condition .now) (c .run .last .1 .1 .1 .1 .1 .0) (a .log .now) (c .run .last .1 .1 .1 .1 .0) (a .scratch .now) (c .run .last .1 .1 .1 .1 .1 .1 .0)
+    (a .steps .now) n (a .records .now) k
+left c w n k e steps records =
+    let a = start c .args in
+    guarded-left (a .recipe .now) (a .sheet .now) (a .limit) (a .choices .now) (length (a .condition .now)) (length (a .scratch .now)) (c .run .result)
+    (a .condition .now) (c .run .last .1 .1 .1 .1 .1 .0) (a .log .now) (c .run .last .1 .1 .1 .1 .0) (a .scratch .now) (c .run .last .1 .1 .1 .1 .1 .1 .0)
+    w (a .steps .now) n (a .records .now) k (c .run .ensures) e steps records
+
+-- ---- the answers
 
 run-requires : tie.Need-run-requires
 run-requires c κs = search needs
@@ -40,16 +72,11 @@ same-length-3 c = search needs
 
 returns : tie.Need-returns
 returns c =
-    let a = c .before .before .before .before .before .before .before .before .before .before .before .before .before .before .before .before .before .before .before .before .args in
-    let call = c .before .before .before .before .before .before .before .before .before .before .run in
-    let o = guarding (length (a .condition .now)) (length (a .scratch .now)) (a .recipe .now) (a .sheet .now) (a .limit) (a .choices .now) (a .log .now) in
     let told = c .before .before .answer .given .1 in
-    let log′ = call .last .1 .1 .1 .1 .0 in
-    let condition′ = call .last .1 .1 .1 .1 .1 .0 in (
-      guarded-ends (a .recipe .now) (a .sheet .now) (a .limit) (a .choices .now) o (a .condition .now) (a .log .now) condition′ log′ (call .result) (c .refusal .result) (call .ensures) (c .refusal .ensures ∙ sym (ap guardedWord told)),
-      guarded-leaves (a .recipe .now) (a .sheet .now) (a .limit) (a .choices .now) o (a .condition .now) (a .log .now) condition′ log′ (call .result) (a .steps .now) (a .steps .now) (a .records .now) (a .records .now) (call .ensures)
-          (sym (ap (λ r. guardedSteps r (a .steps .now)) told)) (sym (ap (λ r. guardedRecords r (a .records .now)) told)),
-    )
+    let k = not-run (c .before .before) in
+    let a = start k .args in
+    left k (c .refusal .result) (a .steps .now) (a .records .now) (c .refusal .ensures ∙ sym (ap guardedWord told))
+    (sym (ap (λ r. guardedSteps r (a .steps .now)) told)) (sym (ap (λ r. guardedRecords r (a .records .now)) told))
 
 same-length-4 : tie.Need-same-length-4
 same-length-4 c = search needs
@@ -62,16 +89,11 @@ same-length-6 c = search needs
 
 returns-2 : tie.Need-returns-2
 returns-2 c =
-    let a = c .before .before .before .before .before .before .before .before .before .before .before .before .before .before .before .before .before .before .args in
-    let call = c .before .before .before .before .before .before .before .before .run in
-    let o = guarding (length (a .condition .now)) (length (a .scratch .now)) (a .recipe .now) (a .sheet .now) (a .limit) (a .choices .now) (a .log .now) in
     let told = c .enum-told .given .1 in
-    let log′ = call .last .1 .1 .1 .1 .0 in
-    let condition′ = call .last .1 .1 .1 .1 .1 .0 in (
-      guarded-ends (a .recipe .now) (a .sheet .now) (a .limit) (a .choices .now) o (a .condition .now) (a .log .now) condition′ log′ (call .result) (5) (call .ensures) (sym (ap guardedWord told)),
-      guarded-leaves (a .recipe .now) (a .sheet .now) (a .limit) (a .choices .now) o (a .condition .now) (a .log .now) condition′ log′ (call .result) (a .steps .now) (a .steps .now) (a .records .now) (a .records .now) (call .ensures)
-          (sym (ap (λ r. guardedSteps r (a .steps .now)) told)) (sym (ap (λ r. guardedRecords r (a .records .now)) told)),
-    )
+    let k = is-held c in
+    let a = start k .args in
+    left k heldWord (a .steps .now) (a .records .now) (sym (ap guardedWord told)) (sym (ap (λ r. guardedSteps r (a .steps .now)) told))
+    (sym (ap (λ r. guardedRecords r (a .records .now)) told))
 
 same-length-7 : tie.Need-same-length-7
 same-length-7 c = search needs
@@ -84,16 +106,12 @@ same-length-9 c = search needs
 
 returns-3 : tie.Need-returns-3
 returns-3 c =
-    let a = c .before .before .before .before .before .before .before .before .before .before .before .before .before .before .before .before .before .before .before .args in
-    let call = c .before .before .before .before .before .before .before .before .before .run in
-    let o = guarding (length (a .condition .now)) (length (a .scratch .now)) (a .recipe .now) (a .sheet .now) (a .limit) (a .choices .now) (a .log .now) in
     let told = c .before .answer2 .given .1 in
-    let log′ = call .last .1 .1 .1 .1 .0 in
-    let condition′ = call .last .1 .1 .1 .1 .1 .0 in (
-      guarded-ends (a .recipe .now) (a .sheet .now) (a .limit) (a .choices .now) o (a .condition .now) (a .log .now) condition′ log′ (call .result) (c .before .answer2 .given .0 .0) (call .ensures) (sym (ap guardedWord told)),
-      guarded-leaves (a .recipe .now) (a .sheet .now) (a .limit) (a .choices .now) o (a .condition .now) (a .log .now) condition′ log′ (call .result) (a .steps .now) (c .before .answer2 .given .0 .1 .0) (a .records .now) (c .before .answer2 .given .0 .1 .1 .0) (call .ensures)
-          (sym (ap (λ r. guardedSteps r (a .steps .now)) told)) (sym (ap (λ r. guardedRecords r (a .records .now)) told)),
-    )
+    let numbers = c .before .answer2 .given .0 in
+    let k = ended (c .before) in
+    let a = start k .args in
+    left k (numbers .0) (numbers .1 .0) (numbers .1 .1 .0) (sym (ap guardedWord told)) (sym (ap (λ r. guardedSteps r (a .steps .now)) told))
+    (sym (ap (λ r. guardedRecords r (a .records .now)) told))
 
 pub gate-guarded-spec : {M : Type 1} → statement M
 gate-guarded-spec =

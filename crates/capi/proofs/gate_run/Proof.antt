@@ -1,9 +1,12 @@
 -- `capi::gate_run` meets its contract. Assumes nothing.
-use mathlib.Core.Path.{refl, sym, ap, _∙_}
+use mathlib.Core.Path.{_≡_, sym, ap, subst, _∙_}
+use Prim.Native.Nat.{ℕ}
 use native.Mathlib.Omega.{arith}
 use lib.ListN.{length}
-use Rattle.capi.specs.Words.{running}
-use Rattle.capi.proofs.Leaving.{ranWord, ranSteps, ranRecords, ran-ends, ran-leaves, running-short, running-enough, not-running-ends, not-running-leaves}
+use Rattle.analysis.specs.Deriving.{analysisWords}
+use Rattle.interpreter.specs.Answers.{runLent, Interprets}
+use Rattle.capi.specs.Words.{GateRun}
+use Rattle.capi.proofs.Leaving.{ranWord, ranSteps, ranRecords, ran-left, run-short, run-enough}
 use borrow.Author.Needs.{needs}
 use Rattle.capi.proofs.gate_run.Statement.{statement}
 use Rattle.capi.proofs.gate_run.Tie as tie
@@ -12,15 +15,46 @@ use Rattle.capi.proofs.gate_run.Lts as lts
 use Rattle.capi.proofs.refusal.Reads as refusal-reads
 use Rattle.interpreter.proofs.run.Reads as run-reads
 
+-- ---- the places
+
+abbrev start : tie.After-slice-known2 → tie.Start
+start c = c .before .before .before .before .before
+
+abbrev lent : tie.After-run → tie.Else1
+lent c = c .before .before .before
+
+abbrev not-ended : tie.After-ran → tie.After-run
+not-ended c = c .before .before .before .before .before .before
+
+abbrev ended : tie.After-ran2 → tie.After-run
+ended c = c .before .before .before .before .before .before
+
+-- the word of a run, with the numbers of steps and records
+left : (c : tie.After-run) (w n k : ℕ)
+    → let a = start (lent c .before) .args in
+    w ≡ ranWord (c .run .result) → n ≡ ranSteps (c .run .result) (a .steps .now) → k ≡ ranRecords (c .run .result) (a .records .now)
+    → GateRun (runLent analysisWords (length (a .scratch .now)) (a .recipe .now) (a .sheet .now) (a .limit) (a .choices .now) (a .log .now)) w (a .log .now)
+    (c .run .last .1 .1 .1 .1 .0) (a .scratch .now) (c .run .last .1 .1 .1 .1 .1 .0) (a .steps .now) n (a .records .now) k
+left c w n k e steps records =
+    let a = start (lent c .before) .args in
+    let s = a .scratch .now in
+    let log′ = c .run .last .1 .1 .1 .1 .0 in
+    let s′ = c .run .last .1 .1 .1 .1 .1 .0 in
+    let o = runLent analysisWords (length s) (a .recipe .now) (a .sheet .now) (a .limit) (a .choices .now) (a .log .now) in
+    let enough = run-enough (length s) (a .recipe .now) (a .sheet .now) (a .limit) (a .choices .now) (a .log .now) (omega (arith, lent c .if1 .left)) in
+    ran-left o (c .run .result) (a .log .now) log′ s s′ w (a .steps .now) n (a .records .now) k
+    (subst (λ x. Interprets x (c .run .result) (a .log .now) log′ s s′) enough (c .run .ensures)) e steps records
+
+-- ---- the answers
+
 refusal-requires : tie.Need-refusal-requires
 refusal-requires c κs = search needs
 
 returns : tie.Need-returns
 returns c =
-    let a = c .before .before .before .before .before .before .before .args in
-    let o = running (length (a .scratch .now)) (a .recipe .now) (a .sheet .now) (a .limit) (a .choices .now) (a .log .now) in
-    let h = running-short (length (a .scratch .now)) (a .recipe .now) (a .sheet .now) (a .limit) (a .choices .now) (a .log .now) (c .before .if1 .taken) in
-    (not-running-ends o 1 (c .refusal .result) h (c .refusal .ensures), not-running-leaves o 1 (a .log .now) (a .steps .now) (a .records .now) h)
+    let a = start (c .before .before) .args in
+    run-short (length (a .scratch .now)) (a .recipe .now) (a .sheet .now) (a .limit) (a .choices .now) (a .log .now) (a .scratch .now) (c .refusal .result)
+    (a .steps .now) (a .records .now) (c .before .if1 .taken) (c .refusal .ensures)
 
 run-requires : tie.Need-run-requires
 run-requires c κs = search needs
@@ -45,16 +79,11 @@ same-length-2 c = search needs
 
 returns-2 : tie.Need-returns-2
 returns-2 c =
-    let a = c .before .before .before .before .before .before .before .before .before .before .before .before .before .before .before .before .before .args in
-    let call = c .before .before .before .before .before .before .before .before .run in
-    let words = length (a .scratch .now) in
-    let o = running words (a .recipe .now) (a .sheet .now) (a .limit) (a .choices .now) (a .log .now) in
     let told = c .before .before .ran .given .1 in
-    let h = call .ensures .0 ∙ running-enough words (a .recipe .now) (a .sheet .now) (a .limit) (a .choices .now) (a .log .now) (omega (arith, c .before .before .before .before .before .before .before .before .before .before .before .if1 .left)) in
-    let log′ = call .last .1 .1 .1 .1 .0 in (
-      ran-ends o (call .result) log′ (c .refusal2 .result) h (c .refusal2 .ensures ∙ sym (ap ranWord told)),
-      ran-leaves o (call .result) (a .log .now) log′ (a .steps .now) (a .steps .now) (a .records .now) (a .records .now) h (call .ensures .1) (sym (ap (λ r. ranSteps r (a .steps .now)) told)) (sym (ap (λ r. ranRecords r (a .records .now)) told)),
-    )
+    let k = not-ended (c .before .before) in
+    let a = start (lent k .before) .args in
+    left k (c .refusal2 .result) (a .steps .now) (a .records .now) (c .refusal2 .ensures ∙ sym (ap ranWord told))
+    (sym (ap (λ r. ranSteps r (a .steps .now)) told)) (sym (ap (λ r. ranRecords r (a .records .now)) told))
 
 same-length-3 : tie.Need-same-length-3
 same-length-3 c = search needs
@@ -64,16 +93,12 @@ same-length-4 c = search needs
 
 returns-3 : tie.Need-returns-3
 returns-3 c =
-    let a = c .before .before .before .before .before .before .before .before .before .before .before .before .before .before .before .before .args in
-    let call = c .before .before .before .before .before .before .before .run in
-    let words = length (a .scratch .now) in
-    let o = running words (a .recipe .now) (a .sheet .now) (a .limit) (a .choices .now) (a .log .now) in
     let told = c .before .ran2 .given .1 in
-    let h = call .ensures .0 ∙ running-enough words (a .recipe .now) (a .sheet .now) (a .limit) (a .choices .now) (a .log .now) (omega (arith, c .before .before .before .before .before .before .before .before .before .before .if1 .left)) in
-    let log′ = call .last .1 .1 .1 .1 .0 in (
-      ran-ends o (call .result) log′ (c .before .ran2 .given .0 .0) h (sym (ap ranWord told)),
-      ran-leaves o (call .result) (a .log .now) log′ (a .steps .now) (c .before .ran2 .given .0 .1 .0) (a .records .now) (c .before .ran2 .given .0 .1 .1 .0) h (call .ensures .1) (sym (ap (λ r. ranSteps r (a .steps .now)) told)) (sym (ap (λ r. ranRecords r (a .records .now)) told)),
-    )
+    let numbers = c .before .ran2 .given .0 in
+    let k = ended (c .before) in
+    let a = start (lent k .before) .args in
+    left k (numbers .0) (numbers .1 .0) (numbers .1 .1 .0) (sym (ap ranWord told)) (sym (ap (λ r. ranSteps r (a .steps .now)) told))
+    (sym (ap (λ r. ranRecords r (a .records .now)) told))
 
 pub gate-run-spec : {M : Type 1} → statement M
 gate-run-spec =

@@ -6,13 +6,30 @@ use lib.ListN.{take}
 use borrow.Author.Needs.{needs}
 use Rattle.model.specs.Filter.{filterInput}
 use Rattle.filter.specs.Verdict.{verdictOf}
-use Rattle.guard.proofs.Apart.{derived-analysis, not-filtered, is-held, part-first}
+use Rattle.model.specs.Guarded.{guarded}
+use Rattle.model.specs.Refusals.{wrongBlocks}
+use Rattle.model.proofs.Lent.{scratch-as-it-was}
+use Rattle.analysis.specs.Deriving.{analysisWords}
+use Rattle.guard.proofs.Behind.{guards-refused, guards-held, not-filtered, is-held, part-first}
 use Rattle.guard.proofs.filter_and_run.Statement.{statement}
 use Rattle.guard.proofs.filter_and_run.Tie as tie
 use Rattle.guard.proofs.filter_and_run.Reads as reads
 use Rattle.guard.proofs.filter_and_run.Lts as lts
 use Rattle.filter.proofs.check.Reads as check-reads
 use Rattle.guard.proofs.run_passed.Reads as run-passed-reads
+
+-- ---- the places
+
+abbrev start : tie.After-check → tie.Start
+start c = c .before .before .before .before .before .before .before .before .before
+
+-- the verdict is on the condition that was derived
+filtered : (c : tie.After-check) → verdictOf (c .check .result) ≡ filterInput (take (start c .args .n) (start c .args .file .now)) (start c .args .input .now)
+filtered c =
+    let a = start c .args in
+    c .check .ensures ∙ ap (λ (C : List ℕ). filterInput C (a .input .now)) (part-first (a .file .now) (a .n))
+
+-- ---- the answers
 
 sub-check : tie.Need-sub-check
 sub-check c = search needs
@@ -37,28 +54,35 @@ enum-told-2 c = search needs
 
 run-passed-requires : tie.Need-run-passed-requires
 run-passed-requires c κs =
-    let g = c .before .before .before .before .before .before .before .before .before .before .before .before .before .before in
-    let file = g .args .file .now in
-    let input = g .args .input .now in
-    let passes = sym (ap verdictOf (c .before .before .before .enum-told2 .given .1)) ∙ c .before .before .before .before .before .check .ensures ∙ ap (λ (C : List ℕ). filterInput C input) (part-first file (g .args .n)) in
-    (g .pre .0, g .pre .1, g .pre .2, g .pre .3, g .pre .4, passes)
+    let told = c .before .before .before in
+    let k = told .before .before in
+    (start k .pre, sym (ap verdictOf (told .enum-told2 .given .1)) ∙ filtered k)
 
 returns : tie.Need-returns
 returns c =
-    let g = c .before .before .before .before .before .before .before .before .before .before .before .before in
-    let file = g .args .file .now in
-    let input = g .args .input .now in
+    let k = c .before .before .before in
+    let a = start k .args in
+    let program = a .program .now in
+    let input = a .input .now in
+    let s = a .scratch .now in
     let n = c .before .verdict .given .0 .0 in
-    let f = sym (ap (λ (C : List ℕ). filterInput C input) (part-first file (g .args .n))) ∙ sym (c .before .before .before .check .ensures) ∙ ap verdictOf (c .before .verdict .given .1) in
-    (not-filtered (g .args .program .now) input (g .args .limit) (g .args .choices .now) (g .args .log .now) (take (g .args .n) file) (derived-analysis (g .args .program .now) (g .args .n) file (g .pre .4)) n f, refl, refl)
+    let o = guarded program input (a .limit) (a .choices .now) (a .log .now) in
+    let f = sym (filtered k) ∙ ap verdictOf (c .before .verdict .given .1) in
+    let not = not-filtered program input (a .limit) (a .choices .now) (a .log .now) (take (a .n) (a .file .now)) (start k .pre .derived) n f in
+    guards-refused program input (a .limit) (a .choices .now) o (a .condition .now) (a .log .now) s n (a .log .now) s not refl
+    (scratch-as-it-was analysisWords wrongBlocks o s)
 
 returns-2 : tie.Need-returns-2
 returns-2 c =
-    let g = c .before .before .before .before .before .before .before .before .before .before .before in
-    let file = g .args .file .now in
-    let input = g .args .input .now in
-    let f = sym (ap (λ (C : List ℕ). filterInput C input) (part-first file (g .args .n))) ∙ sym (c .before .before .check .ensures) ∙ ap verdictOf (c .enum-told .given .1) in
-    (is-held (g .args .program .now) input (g .args .limit) (g .args .choices .now) (g .args .log .now) (take (g .args .n) file) (derived-analysis (g .args .program .now) (g .args .n) file (g .pre .4)) f, refl, refl)
+    let k = c .before .before in
+    let a = start k .args in
+    let program = a .program .now in
+    let input = a .input .now in
+    let s = a .scratch .now in
+    let o = guarded program input (a .limit) (a .choices .now) (a .log .now) in
+    let f = sym (filtered k) ∙ ap verdictOf (c .enum-told .given .1) in
+    let is = is-held program input (a .limit) (a .choices .now) (a .log .now) (take (a .n) (a .file .now)) (start k .pre .derived) f in
+    guards-held program input (a .limit) (a .choices .now) o (a .condition .now) (a .log .now) s s is (scratch-as-it-was analysisWords wrongBlocks o s)
 
 same-length : tie.Need-same-length
 same-length c = search needs

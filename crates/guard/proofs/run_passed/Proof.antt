@@ -2,12 +2,45 @@
 use mathlib.Core.Path.{refl, sym, ap, subst, _∙_}
 use lib.ListN.{length, take}
 use borrow.Author.Needs.{needs}
-use Rattle.model.specs.Refusals.{ok, refused}
-use Rattle.guard.specs.Answers.{ranWith}
-use Rattle.interpreter.specs.Answers.{runAnswer, Kept}
-use Rattle.guard.proofs.Apart.{apart, derived-analysis, not-run, is-run, ran-lent}
+use native.Mathlib.Omega.{arith}
+use Rattle.model.specs.Guarded.{guarded}
+use Rattle.model.specs.Refusals.{ok, refused, wrongBlocks, wrongInput}
+use Rattle.model.specs.Lent.{ScratchLeft}
+use Rattle.model.specs.Run.{Ran}
+use Rattle.model.proofs.Demand3.{demand3}
+use Rattle.model.proofs.Lent.{scratch-wider}
+use Rattle.analysis.specs.Deriving.{analysisWords}
+use Rattle.interpreter.specs.Answers.{runLent, runAnswer, Kept}
+use Rattle.interpreter.specs.Progress.{scratchWords}
+use Rattle.guard.proofs.Behind.{guards-refused, guards-ended, not-run, is-run, late, ran-lent}
 use Rattle.guard.proofs.run_passed.Statement.{statement}
 use Rattle.guard.proofs.run_passed.Tie as tie
+
+-- ---- the places
+
+abbrev start : tie.After-run → tie.Start
+start c = c .before .before .before .before .before .before .before .before .before .before
+
+abbrev not-ended : tie.After-ran → tie.After-run
+not-ended c = c .before .before .before .before .before .before
+
+abbrev ended : tie.After-ran2 → tie.After-run
+ended c = c .before .before .before .before .before .before
+
+-- the run wants fewer words than the analysis, and no refusal with an early number is left
+scratch-left : (c : tie.After-run)
+    → let a = start c .args in
+    ScratchLeft analysisWords wrongBlocks (guarded (a .program .now) (a .input .now) (a .limit) (a .choices .now) (a .log .now)) (a .scratch .now)
+    (c .run .last .1 .1 .1 .1 .1 .0)
+scratch-left c =
+    let a = start c .args in
+    let o = guarded (a .program .now) (a .input .now) (a .limit) (a .choices .now) (a .log .now) in
+    let p = runLent scratchWords (length (a .scratch .now)) (a .program .now) (a .input .now) (a .limit) (a .choices .now) (a .log .now) in
+    scratch-wider analysisWords wrongBlocks o
+    (late (a .program .now) (a .input .now) (a .limit) (a .choices .now) (a .log .now) (take (a .n) (a .file .now)) (start c .pre .0 .derived))
+    scratchWords wrongInput p (a .scratch .now) (c .run .last .1 .1 .1 .1 .1 .0) (omega arith) (c .run .ensures .scratch)
+
+-- ---- the answers
 
 run-requires : tie.Need-run-requires
 run-requires c κs = search needs
@@ -29,17 +62,21 @@ same-length-2 c = search needs
 
 returns : tie.Need-returns
 returns c =
-    let a = c .before .before .before .before .before .before .before .before .before .before .before .before .before .before .before .before .before .args in
-    let pre = c .before .before .before .before .before .before .before .before .before .before .before .before .before .before .before .before .before .pre in
+    let told = c .before .ran .given .1 in
+    let n = c .before .ran .given .0 .0 in
+    let k = not-ended (c .before) in
+    let a = start k .args in
+    let pre = start k .pre in
     let program = a .program .now in
     let input = a .input .now in
-    let log′ = c .before .before .before .before .before .before .before .run .last .1 .1 .1 .1 .0 in
-    let n = c .before .ran .given .0 .0 in
-    let told = c .before .ran .given .1 in
-    let e = c .before .before .before .before .before .before .before .run .ensures in
-    let words = length (a .scratch .now) in
-    let r = ran-lent words program input (a .limit) (a .choices .now) (a .log .now) (refused n) (pre .3) (sym (ap (λ o. runAnswer o log′) told) ∙ e .0) in
-    (not-run program input (a .limit) (a .choices .now) (a .log .now) (take (a .n) (a .file .now)) (derived-analysis program (a .n) (a .file .now) (pre .4)) n (sym (pre .5)) r, refl, subst (λ o. Kept o (a .log .now) log′) told (e .1))
+    let C = take (a .n) (a .file .now) in
+    let log′ = k .run .last .1 .1 .1 .1 .0 in
+    let o = guarded program input (a .limit) (a .choices .now) (a .log .now) in
+    let r = ran-lent (length (a .scratch .now)) program input (a .limit) (a .choices .now) (a .log .now) (refused n) (pre .0 .words)
+    (sym (ap (λ x. runAnswer x log′) told) ∙ k .run .ensures .answer) in
+    guards-refused program input (a .limit) (a .choices .now) o (a .condition .now) (a .log .now) (a .scratch .now) n log′ (k .run .last .1 .1 .1 .1 .1 .0)
+    (not-run program input (a .limit) (a .choices .now) (a .log .now) C (pre .0 .derived) n (sym (pre .1)) r)
+    (subst (λ x. Kept x (a .log .now) log′) told (k .run .ensures .log)) (scratch-left k)
 
 same-length-3 : tie.Need-same-length-3
 same-length-3 c = search needs
@@ -52,21 +89,24 @@ same-length-5 c = search needs
 
 returns-2 : tie.Need-returns-2
 returns-2 c =
-    let a = c .before .before .before .before .before .before .before .before .before .before .before .before .before .before .before .before .before .before .before .before .before .args in
-    let pre = c .before .before .before .before .before .before .before .before .before .before .before .before .before .before .before .before .before .before .before .before .before .pre in
+    let put = c .before .before in
+    let e = put .before .before .before in
+    let told = e .ran2 .given .1 in
+    let numbers = e .ran2 .given .0 in
+    let k = ended e in
+    let a = start k .args in
+    let pre = start k .pre in
     let program = a .program .now in
     let input = a .input .now in
     let C = take (a .n) (a .file .now) in
-    let log′ = c .before .before .before .before .before .before .before .before .before .before .before .run .last .1 .1 .1 .1 .0 in
-    let told = c .before .before .before .before .before .ran2 .given .1 in
-    let numbers = c .before .before .before .before .before .ran2 .given .0 in
-    let R = ranWith (numbers .0) (numbers .1 .0) (numbers .1 .1 .0) log′ in
-    let e = c .before .before .before .before .before .before .before .before .before .before .before .run .ensures in
-    let words = length (a .scratch .now) in
-    let r = ran-lent words program input (a .limit) (a .choices .now) (a .log .now) (ok R) (pre .3) (sym (ap (λ o. runAnswer o log′) told) ∙ e .0) in (
-      (C, is-run program input (a .limit) (a .choices .now) (a .log .now) C (derived-analysis program (a .n) (a .file .now) (pre .4)) R (sym (pre .5)) r, c .before .before .put-bytes .ensures),
-      apart program input (a .limit) (a .choices .now) (a .log .now) (pre .4 .output) (pre .4 .words) words (a .n) (pre .4 .before) (a .file .now) (R .end) (R .steps) (R .records) log′ (pre .4 .derives) (pre .5) (sym (ap (λ o. runAnswer o log′) told) ∙ e .0),
-    )
+    let log′ = k .run .last .1 .1 .1 .1 .0 in
+    let R : Ran = record { end = numbers .0; steps = numbers .1 .0; records = numbers .1 .1 .0; log = log′ } in
+    let o = guarded program input (a .limit) (a .choices .now) (a .log .now) in
+    let r = ran-lent (length (a .scratch .now)) program input (a .limit) (a .choices .now) (a .log .now) (ok R) (pre .0 .words)
+    (sym (ap (λ x. runAnswer x log′) told) ∙ k .run .ensures .answer) in
+    guards-ended program input (a .limit) (a .choices .now) o (a .condition .now) (a .log .now) (a .scratch .now) C R (put .put-bytes .last .0)
+    (k .run .last .1 .1 .1 .1 .1 .0) (is-run program input (a .limit) (a .choices .now) (a .log .now) C (pre .0 .derived) R (sym (pre .1)) r) (put .put-bytes .ensures)
+    (demand3 program C input (a .limit) (a .choices .now) (a .log .now) R (pre .0 .derived) (sym (pre .1)) r) (scratch-left k)
 
 pub run-passed-spec : {M : Type 1} → statement M
 run-passed-spec =

@@ -50,7 +50,7 @@ inside c =
     let g = c .before .ran2 .given in
     let fit : g .0 .1 .1 .0 ≤ length (a .log .now) / 12 =
     records-fit (length (a .scratch .now)) (a .recipe .now) (a .sheet .now) (c .before .before .before .before .before .before .before .before .before .before .before .limit .result) (c .before .before .before .before .before .before .before .before .before .before .choices .result .now) (a .log .now) log′ (g .0 .0) (g .0 .1 .0) (g .0 .1 .1 .0)
-    (sym (ap (λ x. runAnswer x log′) (g .1)) ∙ r .ensures .0) in
+    (sym (ap (λ x. runAnswer x log′) (g .1)) ∙ r .ensures .answer) in
     omega (arith, r .kept .1 .1 .1 .1 .0)
 
 mul-n : tie.Need-mul-n
