@@ -353,7 +353,7 @@ pub fn immediate(ty: u8, w: u64) -> Num
 }
 
 // The number that a word of a type holds.
-pub fn from_word(ty: u8, w: u64) -> Num
+fn from_word(ty: u8, w: u64) -> Num
     ensures { λ n. ⌜ valueOf n ≡ valueAt ty w ⌝ }
 {
     if ty < 4 {

@@ -22,7 +22,7 @@ pub struct Node {
 }
 
 // A node in its form, or the number of the refusal.
-pub enum NodeRead {
+enum NodeRead {
     Node(Node),
     Refused(u8),
 }
@@ -115,7 +115,7 @@ fn node_right(types: &[u8], v: Node) -> bool
 }
 
 // The node with a number in a part, if it has its form.
-pub fn read_node(types: &[u8], part: &[u8], k: usize) -> NodeRead
+fn read_node(types: &[u8], part: &[u8], k: usize) -> NodeRead
     requires { ⌜ 8 * k + 8 ≤ length (now part) ⌝ }
     ensures { λ r. ⌜ (nodeOut r ≡ check (nodeRight (now (types .entry)) (now (part .entry)) (8 * k)) 12 (ok (nodeAt (now (part .entry)) (8 * k)))) × EntryIs r (now (part .entry)) (8 * k) ⌝ }
 {

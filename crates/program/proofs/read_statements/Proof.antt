@@ -110,8 +110,7 @@ loop-again c =
     let q = statementOf T (t .before .loop .i) in
     let e = sym (ap statementFrom (k .before .read .given .1)) ∙ k .before .before .before .read-statement .ensures in
     let agree = c .before .before .both .ensures ∙ ap (t .before .loop .agree &&_) (c .before .before .before .types-agree .ensures ∙ ap (typesAgree T) (taken k)) in
-    let fits = c .both2 .ensures ∙ ap (t .before .loop .inside &&_) (c .before .immediate-right .ensures ∙ ap (immediateRight T) (taken k)) in
-    (
+    let fits = c .both2 .ensures ∙ ap (t .before .loop .inside &&_) (c .before .immediate-right .ensures ∙ ap (immediateRight T) (taken k)) in (
       omega arith,
       pass-goes (formRight T) noStatement (T .statements) (t .before .loop .i) (inside-list t) (t .before .loop .inv .1) (check-ok (formRight T q) 5 _ q e .0),
       rw agree (pass-gathers (typesAgree T) noStatement (T .statements) (t .before .loop .i) (t .before .loop .agree) (inside-list t) (t .before .loop .inv .2)),

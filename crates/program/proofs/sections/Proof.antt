@@ -201,12 +201,25 @@ returns-10 c =
     let f1 = taken-1 (read-2 (read-3 (read-4 t .before) .before) .before) in
     let small = sized (read-1 (read-2 (read-3 (read-4 t .before) .before) .before)) in
     let right = chain-right (bytes-4 (read-4 t)) (record {
-      long = small .0; short = small .1; first = omega arith; second = omega arith; third = omega arith;
-      fourth = omega arith; last = omega arith; arrays = omega arith; statements = omega arith;
+      long = small .0;
+      short = small .1;
+      first = omega arith;
+      second = omega arith;
+      third = omega arith;
+      fourth = omega arith;
+      last = omega arith;
+      arrays = omega arith;
+      statements = omega arith;
     }) in
     rw right (λ i. ok (record {
-      fieldsAt = f1 .1 i; fields = f1 .2 i; variablesAt = f2 .1 i; variables = f2 .2 i;
-      arraysAt = f3 .1 i; arrays = ap (_/ 4) (f3 .2) i; statementsAt = f4 .1 i; statements = ap (_/ 8) (f4 .2) i;
+      fieldsAt = f1 .1 i;
+      fields = f1 .2 i;
+      variablesAt = f2 .1 i;
+      variables = f2 .2 i;
+      arraysAt = f3 .1 i;
+      arrays = ap (_/ 4) (f3 .2) i;
+      statementsAt = f4 .1 i;
+      statements = ap (_/ 8) (f4 .2) i;
     }))
 
 pub sections-spec : {M : Type 1} → statement M
