@@ -1,0 +1,36 @@
+"""Every size of document 01 and of this package, under one name each."""
+
+# the recipe
+MOST_FIELDS = 32
+MOST_VARIABLES = 64
+MOST_TRAYS = 16
+MOST_CELLS = 256
+MOST_STATEMENTS = 1_024
+MOST_DEPTH = 4
+LONGEST_RECIPE = 8_384
+SECTION_TABLE = 32
+STATEMENT_BYTES = 8
+
+# the condition
+MOST_CONJUNCTS = 64
+MOST_NODES = 120
+NODE_BYTES = 8
+CONDITION_ROOM = 61_992
+
+# the sheet and the gate
+MOST_READINGS = 128
+MOST_COMBINATIONS = 1_048_576
+
+# the run
+USUAL_LIMIT = 10_000
+HIGHEST_LIMIT = (1 << 32) - 1
+HIGHEST_CHOICE = (1 << 16) - 1
+LONGEST_CHOICES = 524_288
+RECORD_BYTES = 12
+MOST_RECORDS = 43_690
+
+# texts and tables, as people write them
+LONGEST_TEXT = 1_048_576
+LONGEST_LINE = 1_000
+LONGEST_ROW = 4_000
+MOST_DIGITS = 20
