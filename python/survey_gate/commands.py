@@ -115,7 +115,9 @@ def run(arguments: Arguments, output: Output) -> int:
         blamed = arguments.sheet
         sheet = _gated_sheet(blamed, recipe, condition) if condition else Sheet.read(blamed, recipe)
         output.warn(blamed, sheet.warnings)
-        ran = gate.run_choices(recipe, sheet, choices, limit, arguments.guarded)
+        with Progress(1, arguments.quiet) as progress:
+            progress.sheet(shown(blamed), condition.work(sheet.columns) if condition else 0)
+            ran = gate.run_choices(recipe, sheet, choices, limit, condition, progress.tick)
     except Refused as refused:
         return output.refused(blamed, refused, files.move_aside(arguments.log))
     if ran.verdict and not ran.verdict.passed:

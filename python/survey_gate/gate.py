@@ -105,22 +105,29 @@ def run(
     The k-th read takes the reading whose number is the k-th choice, modulo the number of readings. `limit` is
     the most steps. Raises Refused as `check` does.
     """
-    return run_choices(recipe, sheet, choice_bytes(choices), limit, guarded)
+    condition = derive(recipe) if guarded else None
+    return run_choices(recipe, sheet, choice_bytes(choices), limit, condition)
 
 
-def run_choices(recipe: Recipe, sheet: Sheet, choices: bytes, limit: int, guarded: bool = True) -> Run:
-    """As `run`, with the choices as they lie in a choice file."""
+def run_choices(
+    recipe: Recipe,
+    sheet: Sheet,
+    choices: bytes,
+    limit: int,
+    condition: Optional[Condition],
+    tick: Tick = lambda work: None,
+) -> Run:
+    """As `run`, with the choices as they lie in a choice file; behind the gate if the recipe's condition is given."""
     library, room = load(), min(limit, MOST_RECORDS)
     data, readings = recipe.to_bytes(), sheet.to_bytes()
-    if not guarded:
+    if condition is None:
         return _ran(None, library.run(data, readings, limit, choices, room), recipe)
-    condition = derive(recipe)
     try:
         passed, ran = library.guarded(data, readings, limit, choices, room)
     except Refused as refused:
         raise placed(refused, recipe, condition, sheet) from None
     if not passed:
-        return Run(Verdict(False, why_held(recipe, condition, sheet, library)))
+        return Run(Verdict(False, why_held(recipe, condition, sheet, library, tick)))
     return _ran(Verdict(True), ran, recipe)
 
 

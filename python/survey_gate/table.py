@@ -68,10 +68,12 @@ class Table:
 
     def rows(self, text: str) -> List[Row]:
         """The rows by the csv module; what it cannot take apart is a mistake."""
+        kept = []
         for number, line in enumerate(lines_of(text), 1):
             if len(line) > LONGEST_ROW:
                 self.note(number, f"the line has {count(len(line))} characters", f"a line has at most {count(LONGEST_ROW)}")
-                return []
+            kept.append(line if len(line) <= LONGEST_ROW else "")
+        text = "\n".join(kept)
         reader = csv.reader(io.StringIO(text, newline=""), delimiter=_separator(text), strict=True)
         rows, line = [], 1
         try:
