@@ -128,7 +128,7 @@ def run(arguments: Arguments, output: Output) -> int:
 
 def _told_run(arguments: Arguments, output: Output, ran: gate.Run) -> int:
     overflowed = sum(record.overflowed for record in ran.records)
-    records = f"{len(ran.records)} records" + (f", {overflowed} OVERFLOWED," if overflowed else "")
+    records = f"{len(ran.records)} record{'s' * (len(ran.records) != 1)}" + (f", {overflowed} OVERFLOWED," if overflowed else "")
     text = f"end {ran.end} ({ENDS[ran.end]}) after {ran.steps} steps, {records} in {shown(arguments.log)}"
     parts = {"end": ran.end, "ended": ENDS[ran.end], "steps": ran.steps, "records": [r._asdict() for r in ran.records]}
     if ran.verdict:

@@ -9,7 +9,6 @@ from __future__ import annotations
 import os
 import re
 import stat
-import tempfile
 from typing import Iterable, List, Tuple
 
 from .trouble import Mistake, Mistakes, Trouble, count, shown
@@ -87,6 +86,8 @@ def write(path: str, data: bytes) -> None:
 
 
 def _write_beside(target: str, data: bytes) -> None:
+    import tempfile
+
     handle, beside = tempfile.mkstemp(dir=os.path.dirname(target), prefix=".survey-gate-")
     try:
         with os.fdopen(handle, "wb") as out:

@@ -8,11 +8,10 @@ from __future__ import annotations
 
 import re
 import unicodedata
-from difflib import get_close_matches
 from typing import Callable, List, Optional, Sequence, Tuple
 
 from .ranges import TYPES
-from .trouble import excerpt
+from .trouble import close_to, excerpt
 
 NAME = r"[A-Za-z_][A-Za-z_0-9]*"
 KEYWORDS = ("field", "tray", "var", "read", "to", "site", "if", "else", "end", "while")
@@ -37,7 +36,7 @@ def hint(words: str) -> Told:
         told = look(words)
         if told:
             return told
-    near = get_close_matches(first_word(words), STARTERS, 1)
+    near = close_to(first_word(words), STARTERS)
     right = f"did you mean `{near[0]}`?" if near else "a line is a declaration or a statement, as `var x u32` or `x = a + b`"
     return f"{excerpt(words)} is no declaration and no statement", right
 
@@ -55,7 +54,7 @@ def right_type(word: str, name: str) -> str:
     sized = re.fullmatch(r"(u?)int(8|16|32|64)(?:_t)?", low)
     if sized:
         return f"did you mean {'u' if sized[1] else 'i'}{sized[2]}?"
-    near = [low] if low in TYPES else [TYPE_WORDS[low]] if low in TYPE_WORDS else get_close_matches(low, TYPES, 1)
+    near = [low] if low in TYPES else [TYPE_WORDS[low]] if low in TYPE_WORDS else close_to(low, TYPES)
     return f"did you mean {near[0]}?" if near else f"types are {' '.join(TYPES)}"
 
 

@@ -11,16 +11,16 @@ import ctypes
 import os
 import threading
 from functools import lru_cache
-from pathlib import Path
 from typing import NamedTuple, Tuple
 
 from .sizes import CONDITION_ROOM, RECORD_BYTES
 from .trouble import Refused, Trouble, shown
 
-HERE = Path(__file__).resolve().parent
+HERE = os.path.dirname(os.path.realpath(__file__))
+ROOT = os.path.dirname(os.path.dirname(HERE))
 NAME = "libgate.so"
 VARIABLE = "SURVEY_GATE_LIB"
-PLACES = (HERE / NAME, HERE.parents[1] / "target" / "staticlib" / NAME)
+PLACES = (os.path.join(HERE, NAME), os.path.join(ROOT, "target", "staticlib", NAME))
 HELD = 5
 
 
@@ -93,8 +93,8 @@ def load() -> Library:
     if named:
         return Library(named)
     for place in PLACES:
-        if place.exists():
-            return Library(str(place))
+        if os.path.exists(place):
+            return Library(place)
     raise Trouble(f"the proved library {NAME} is not there; build it with python/build, or name it in {VARIABLE}")
 
 

@@ -2,7 +2,6 @@
 
 from __future__ import annotations
 
-import json
 import sys
 from typing import Any, Dict, List, Optional
 
@@ -24,6 +23,8 @@ class Output:
         if self.quiet:
             return
         if self.as_json:
+            import json
+
             text = json.dumps(parts, ensure_ascii=False)
         print(text, flush=True)
 

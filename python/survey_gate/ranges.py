@@ -2,28 +2,36 @@
 
 from __future__ import annotations
 
+import struct
+from typing import List, Sequence
+
 TYPES = ("u8", "u16", "u32", "u64", "i8", "i16", "i32", "i64")
+LETTERS = "BHIQbhiq"
+WIDTHS = tuple(1 << (code % 4) for code in range(len(TYPES)))
+FIRST_SIGNED = 4
+LOWEST = tuple(-(1 << (8 * WIDTHS[code] - 1)) if code >= FIRST_SIGNED else 0 for code in range(len(TYPES)))
+HIGHEST = tuple((1 << (8 * WIDTHS[code] - (code >= FIRST_SIGNED))) - 1 for code in range(len(TYPES)))
 
 
 def width(code: int) -> int:
     """The bytes that a value of the type takes."""
-    return 1 << (code % 4)
+    return WIDTHS[code]
 
 
 def is_signed(code: int) -> bool:
-    return code >= 4
+    return code >= FIRST_SIGNED
 
 
 def lowest(code: int) -> int:
-    return -(1 << (8 * width(code) - 1)) if is_signed(code) else 0
+    return LOWEST[code]
 
 
 def highest(code: int) -> int:
-    return (1 << (8 * width(code) - is_signed(code))) - 1
+    return HIGHEST[code]
 
 
 def fits(code: int, value: int) -> bool:
-    return lowest(code) <= value <= highest(code)
+    return LOWEST[code] <= value <= HIGHEST[code]
 
 
 def immediate_value(code: int, immediate: int) -> int:
@@ -38,9 +46,11 @@ def fits_immediate(code: int, value: int) -> bool:
     return 0 <= value < 1 << 32
 
 
-def to_bytes(code: int, value: int) -> bytes:
-    return value.to_bytes(width(code), "little", signed=is_signed(code))
+def to_bytes(code: int, values: Sequence[int]) -> bytes:
+    """Values of a type, one after the other."""
+    return struct.pack(f"<{len(values)}{LETTERS[code]}", *values)
 
 
-def from_bytes(code: int, data: bytes) -> int:
-    return int.from_bytes(data, "little", signed=is_signed(code))
+def from_bytes(code: int, data: bytes) -> List[int]:
+    """The values of a type that lie one after the other."""
+    return list(struct.unpack(f"<{len(data) // WIDTHS[code]}{LETTERS[code]}", data))

@@ -2,8 +2,8 @@
 
 from __future__ import annotations
 
+import os
 import re
-from pathlib import Path
 
 from .trouble import Refused, Trouble
 
@@ -24,8 +24,9 @@ MEANINGS = {
     14: "a conjunct has over 1,048,576 combinations of readings",
 }
 HIGHEST_REFUSAL = max(MEANINGS)
-HERE = Path(__file__).resolve().parent
-PAGES = (HERE / "REFUSALS.md", HERE.parents[1] / "docs" / "REFUSALS.md")
+HERE = os.path.dirname(os.path.realpath(__file__))
+ROOT = os.path.dirname(os.path.dirname(HERE))
+PAGES = (os.path.join(HERE, "REFUSALS.md"), os.path.join(ROOT, "docs", "REFUSALS.md"))
 
 
 def told(refused: Refused) -> str:
@@ -39,8 +40,9 @@ def page(number: int) -> str:
     if number not in MEANINGS:
         raise Trouble(f"{number} is no refusal; they are numbered 1 to {HIGHEST_REFUSAL}")
     for path in PAGES:
-        if path.exists():
-            found = re.search(rf"^## {number}:.*?(?=^## |\Z)", path.read_text(encoding="utf-8"), re.M | re.S)
+        if os.path.exists(path):
+            with open(path, encoding="utf-8") as pages:
+                found = re.search(rf"^## {number}:.*?(?=^## |\Z)", pages.read(), re.M | re.S)
             if found:
                 return found.group().strip() + "\n"
     raise Trouble("REFUSALS.md is not beside the package; it belongs to the installation")

@@ -82,7 +82,7 @@ def packed(types: Sequence[int], columns: Sequence[Sequence[int]]) -> bytes:
     """The file of these readings."""
     table, body, at = b"", b"", PAIR * len(types)
     for code, column in zip(types, columns):
-        part = b"".join(to_bytes(code, value) for value in column)
+        part = to_bytes(code, column)
         table += struct.pack("<II", at, len(part))
         body += part
         at += len(part)
@@ -104,7 +104,7 @@ def readings_of(data: bytes, types: Sequence[int], names: Sequence[str]) -> List
             raise Refused(13, f"{name} has {count(length // width(code))} readings, and a field has at most {MOST_READINGS}")
         if at + length > len(data):
             raise Refused(13, f"{name}'s readings end at byte {at + length}, and the file at {len(data)}")
-        columns.append([from_bytes(code, data[k : k + width(code)]) for k in range(at, at + length, width(code))])
+        columns.append(from_bytes(code, data[at : at + length]))
         at += length
     if at != len(data):
         raise Refused(13, f"the readings end at byte {at}, and the file at {count(len(data))}")

@@ -9,16 +9,16 @@ from __future__ import annotations
 import csv
 import io
 import re
-from difflib import get_close_matches
 from typing import List, NamedTuple, Optional
 
 from .files import lines_of
 from .ranges import TYPES, fits, highest, lowest
 from .recipe import Recipe
 from .sizes import LONGEST_ROW, MOST_DIGITS, MOST_READINGS
-from .trouble import Mistake, Mistakes, count, excerpt
+from .trouble import Mistake, Mistakes, close_to, count, excerpt
 
 SEPARATORS = ",;\t"
+WHOLE = re.compile(r"[+-]?[0-9]+")
 
 
 class Row(NamedTuple):
@@ -118,7 +118,7 @@ class Table:
             if not name:
                 self.note(line, f"column {len(before) + 1} has no name", f"the fields are {self.field_names()}")
                 return None
-            near = get_close_matches(name, wanted, 1)
+            near = close_to(name, wanted)
             right = f"did you mean '{near[0]}'?" if near else f"the fields are {self.field_names()}"
             self.note(line, f"{excerpt(name)} is no field of the recipe", right)
             return None
@@ -160,7 +160,7 @@ class Table:
 
     def value(self, line: int, cell: str, name: str) -> Optional[int]:
         """The whole number in a cell, or a mistake."""
-        if re.fullmatch(r"[+-]?[0-9]+", cell):
+        if WHOLE.fullmatch(cell):
             if len(cell.lstrip("+-0")) <= MOST_DIGITS:
                 return int(cell)
             self.note(line, f"a number of {count(len(cell))} digits under {name}", f"no type has more than {MOST_DIGITS}")

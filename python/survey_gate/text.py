@@ -8,7 +8,6 @@ with no type, and a block that is opened wrongly counts as opened, so that one m
 from __future__ import annotations
 
 import re
-from difflib import get_close_matches
 from typing import Callable, Dict, List, NamedTuple, Optional, Tuple
 
 from . import hints
@@ -26,7 +25,7 @@ from .sizes import (
     MOST_VARIABLES,
 )
 from .statements import OPERATORS, Kind, Named, Statement
-from .trouble import Mistake, Mistakes, count, excerpt
+from .trouble import Mistake, Mistakes, close_to, count, excerpt
 
 NAME = hints.NAME
 NUMBER = r"[+-]?[0-9]+"
@@ -131,7 +130,7 @@ class Reader:
         if found is None:
             if name in hints.KEYWORDS:
                 raise Wrong(f"'{name}' is a word of the language", f"name a {what}")
-            near = get_close_matches(name, self.known, 1)
+            near = close_to(name, self.known)
             right = f"did you mean '{near[0]}'?" if near else f"declare it above, as `{hints.declaration(what, name)}`"
             raise Wrong(f"{excerpt(name)} is not declared", right)
         if found.what != what:

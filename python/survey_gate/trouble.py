@@ -7,7 +7,7 @@ speaks of.
 
 from __future__ import annotations
 
-from typing import List, NamedTuple, Sequence
+from typing import Iterable, List, NamedTuple, Sequence
 
 LONGEST_EXCERPT = 40
 
@@ -67,3 +67,10 @@ def excerpt(text: str) -> str:
 def count(number: int) -> str:
     """A number with its thousands apart."""
     return f"{number:,}"
+
+
+def close_to(word: str, words: Iterable[str]) -> List[str]:
+    """The word that is most like this one, if any is."""
+    from difflib import get_close_matches
+
+    return get_close_matches(word, words, 1)
