@@ -62,7 +62,7 @@ class Step(NamedTuple):
 class Conjunct:
     """One expression, in postfix."""
 
-    def __init__(self, nodes: Sequence[Node]):
+    def __init__(self, nodes: Sequence[Node]) -> None:
         self.nodes = list(nodes)
 
     @cached_property

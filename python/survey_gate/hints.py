@@ -26,6 +26,8 @@ TYPE_WORDS = {
     "unsigned": "u32", "uint": "u32", "size_t": "u64", "usize": "u64", "isize": "i64", "float": "i32", "double": "i64",
 }
 
+WHAT = {"field": "field", "var": "variable", "tray": "tray"}
+
 Told = Tuple[str, str]
 Look = Callable[[str], Optional[Told]]
 
@@ -172,7 +174,7 @@ def _declaration(words: str) -> Optional[Told]:
     if word == "tray" and len(parts) == 2 and parts[1] in TYPES:
         return f"{parts[0]} has no length", f"say how many cells, as `tray {parts[0]} {parts[1]} 8`"
     if len(parts) == 1:
-        return f"{excerpt(parts[0])} has no type", f"say which, as `{form.replace('NAME', parts[0]).replace('TYPE', 'u32').replace('LENGTH', '8')}`"
+        return f"{excerpt(parts[0])} has no type", f"say which, as `{declaration(WHAT[word], parts[0])}`"
     if "=" in rest:
         return f"{excerpt(words)} sets a value", f"a declaration has none: write `{form}`, and the value on a line of its own"
     return f"{excerpt(words)} is no declaration", f"write `{form}`"
@@ -320,7 +322,8 @@ def _nested(a: str, right: str) -> Optional[Told]:
     """More than one operation."""
     signs = len(re.findall(r"[-+*/]", right))
     if signs > 1 or "(" in right or (signs and ("[" in right or re.search(r"\b(?:to|read)\b", right))):
-        return f"{excerpt(right)} has more than one operation", f"one a line, by variables between, as `part = b * c`, then `{a} = part + d`"
+        told = f"one a line, by variables between, as `part = b * c`, then `{a} = part + d`"
+        return f"{excerpt(right)} has more than one operation", told
     return None
 
 

@@ -35,7 +35,7 @@ class Ran(NamedTuple):
 class Library:
     """The functions of the gate. Scratch is lent once; calls that take it wait for each other."""
 
-    def __init__(self, path: str):
+    def __init__(self, path: str) -> None:
         try:
             self._gate = ctypes.CDLL(path)
             _declare(self._gate)

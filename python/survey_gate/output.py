@@ -15,7 +15,7 @@ PASS, HELD, REFUSED, TROUBLE = range(4)
 class Output:
     """Prints answers. `quiet` leaves only trouble; `as_json` gives an object a line."""
 
-    def __init__(self, quiet: bool = False, as_json: bool = False):
+    def __init__(self, quiet: bool = False, as_json: bool = False) -> None:
         self.quiet, self.as_json = quiet, as_json
 
     def answer(self, text: str, **parts: Any) -> None:

@@ -20,7 +20,7 @@ NODES_A_SECOND = 1.0e9
 class Progress:
     """Progress over a number of sheets; nothing is printed in the first second, nor if quiet."""
 
-    def __init__(self, sheets: int, quiet: bool = False, stream: Optional[TextIO] = None):
+    def __init__(self, sheets: int, quiet: bool = False, stream: Optional[TextIO] = None) -> None:
         self.sheets = sheets
         self.stream = stream or sys.stderr
         self.done = 0

@@ -24,9 +24,7 @@ MEANINGS = {
     14: "a conjunct has over 1,048,576 combinations of readings",
 }
 HIGHEST_REFUSAL = max(MEANINGS)
-HERE = os.path.dirname(os.path.realpath(__file__))
-ROOT = os.path.dirname(os.path.dirname(HERE))
-PAGES = (os.path.join(HERE, "REFUSALS.md"), os.path.join(ROOT, "docs", "REFUSALS.md"))
+PAGES = os.path.join(os.path.dirname(os.path.realpath(__file__)), "REFUSALS.md")
 
 
 def told(refused: Refused) -> str:
@@ -39,10 +37,11 @@ def page(number: int) -> str:
     """The page of REFUSALS.md on this refusal."""
     if number not in MEANINGS:
         raise Trouble(f"{number} is no refusal; they are numbered 1 to {HIGHEST_REFUSAL}")
-    for path in PAGES:
-        if os.path.exists(path):
-            with open(path, encoding="utf-8") as pages:
-                found = re.search(rf"^## {number}:.*?(?=^## |\Z)", pages.read(), re.M | re.S)
-            if found:
-                return found.group().strip() + "\n"
-    raise Trouble("REFUSALS.md is not beside the package; it belongs to the installation")
+    try:
+        with open(PAGES, encoding="utf-8") as pages:
+            found = re.search(rf"^## {number}:.*?(?=^## |\Z)", pages.read(), re.M | re.S)
+    except OSError as error:
+        raise Trouble(f"{PAGES}: {error.strerror}") from None
+    if not found:
+        raise Trouble(f"{PAGES}: it has no page on refusal {number}")
+    return found.group().strip() + "\n"

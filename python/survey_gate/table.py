@@ -31,7 +31,7 @@ class Row(NamedTuple):
 class Table:
     """A table as it is read: for each field of the recipe its readings and their lines."""
 
-    def __init__(self, recipe: Recipe, name: str):
+    def __init__(self, recipe: Recipe, name: str) -> None:
         self.recipe = recipe
         self.name = name
         self.columns: List[List[int]] = [[] for _ in recipe.fields]

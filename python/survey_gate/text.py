@@ -30,7 +30,6 @@ from .trouble import Mistake, Mistakes, close_to, count, excerpt
 NAME = hints.NAME
 NUMBER = r"[+-]?[0-9]+"
 MOST = {"field": MOST_FIELDS, "variable": MOST_VARIABLES, "tray": MOST_TRAYS}
-DECLARED_BY = {"field": "field", "variable": "var", "tray": "tray"}
 
 
 class Known(NamedTuple):
@@ -44,7 +43,7 @@ class Known(NamedTuple):
 class Wrong(Exception):
     """The line that is being read is wrong."""
 
-    def __init__(self, wrong: str, right: str):
+    def __init__(self, wrong: str, right: str) -> None:
         super().__init__(wrong)
         self.wrong, self.right = wrong, right
 
@@ -52,7 +51,7 @@ class Wrong(Exception):
 class Reader:
     """Reads a recipe's text line by line."""
 
-    def __init__(self, name: str):
+    def __init__(self, name: str) -> None:
         self.name = name
         self.recipe = Recipe(lines=[], named=True)
         self.known: Dict[str, Known] = {}
@@ -96,8 +95,7 @@ class Reader:
         """Does of a wrong line what the lines below depend on."""
         declaration = re.match(rf"(field|var|tray)\s+({NAME})\b", words)
         if declaration and declaration[2] not in TYPES:
-            what = {"var": "variable"}.get(declaration[1], declaration[1])
-            self.known.setdefault(declaration[2], Known(what, 0, None))
+            self.known.setdefault(declaration[2], Known(hints.WHAT[declaration[1]], 0, None))
         first = hints.first_word(words)
         if first in ("if", "while"):
             self.open_blocks.append((first, self.line))
@@ -131,8 +129,10 @@ class Reader:
             if name in hints.KEYWORDS:
                 raise Wrong(f"'{name}' is a word of the language", f"name a {what}")
             near = close_to(name, self.known)
-            right = f"did you mean '{near[0]}'?" if near else f"declare it above, as `{hints.declaration(what, name)}`"
-            raise Wrong(f"{excerpt(name)} is not declared", right)
+            if near:
+                raise Wrong(f"{excerpt(name)} is not declared", f"did you mean '{near[0]}'?")
+            self.known[name] = Known(what, 0, None)
+            raise Wrong(f"{excerpt(name)} is not declared", f"declare it above, as `{hints.declaration(what, name)}`")
         if found.what != what:
             raise Wrong(f"'{name}' is a {found.what}, and a {what} is wanted", hints.instead(found.what, name))
         return found

@@ -35,7 +35,7 @@ class Trouble(Exception):
 class Mistakes(Trouble):
     """All the mistakes of a file."""
 
-    def __init__(self, name: str, mistakes: Sequence[Mistake]):
+    def __init__(self, name: str, mistakes: Sequence[Mistake]) -> None:
         self.name = name
         self.mistakes = list(mistakes)
         super().__init__("\n".join(self.lines()))
@@ -47,7 +47,7 @@ class Mistakes(Trouble):
 class Refused(Exception):
     """Refusal 1 to 14 and the place in the file, where it is known."""
 
-    def __init__(self, number: int, place: str = ""):
+    def __init__(self, number: int, place: str = "") -> None:
         super().__init__(f"refused {number}" + (f": {place}" if place else ""))
         self.number = number
         self.place = place

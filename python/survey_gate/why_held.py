@@ -137,7 +137,7 @@ def _agreed(condition: Condition, number: int, picks: Sequence[int], sheet: Shee
 class Search:
     """The first combination of a conjunct's readings with which a step overflows."""
 
-    def __init__(self, conjunct: Conjunct, columns: Sequence[Sequence[int]], tick: Tick):
+    def __init__(self, conjunct: Conjunct, columns: Sequence[Sequence[int]], tick: Tick) -> None:
         self.steps = conjunct.steps
         self.atoms = conjunct.atoms
         self.readings = [columns[atom.field] for atom in self.atoms]

@@ -63,7 +63,7 @@ def why_refused(recipe: Recipe, library: Library, seconds: float = SEARCH_SECOND
 class Question:
     """Whether the recipe without some sites is accepted once more statements are left out."""
 
-    def __init__(self, recipe: Recipe, library: Library, dropped: Set[int], until: float):
+    def __init__(self, recipe: Recipe, library: Library, dropped: Set[int], until: float) -> None:
         self.recipe, self.library, self.dropped, self.until = recipe, library, dropped, until
 
     def accepted(self, labels: Iterable[int]) -> bool:
