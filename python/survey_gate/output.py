@@ -29,20 +29,19 @@ class Output:
         print(text, flush=True)
 
     def passed(self, name: str, also: str = "", **parts: Any) -> int:
-        self.answer(f"{shown(name)}: pass{_after(also)}", file=name, verdict="pass", **parts)
+        self.answer(f"{shown(name)}: pass{_after(also)}", file=name, verdict="pass", **_noted(also), **parts)
         return PASS
 
-    def held(self, name: str, reason: Hold, also: str = "", **parts: Any) -> int:
+    def held(self, name: str, reason: Hold, also: str = "") -> int:
         text = f"{shown(name)}: held: {reason}{_after(also)}"
-        self.answer(text, file=name, verdict="held", reason=str(reason), **hold_parts(reason), **parts)
+        self.answer(text, file=name, verdict="held", reason=str(reason), **hold_parts(reason), **_noted(also))
         return HELD
 
-    def refused(self, name: str, refused: Refused, also: str = "", **parts: Any) -> int:
+    def refused(self, name: str, refused: Refused, also: str = "") -> int:
         number = refused.number
         text = f"{shown(name)}: {told(refused)}{_after(also)}"
-        self.answer(
-            text, file=name, verdict="refused", refusal=number, meaning=MEANINGS[number], place=refused.place, **parts
-        )
+        parts = {"refusal": number, "meaning": MEANINGS[number], "place": refused.place, **_noted(also)}
+        self.answer(text, file=name, verdict="refused", **parts)
         return REFUSED
 
     def trouble(self, trouble: Trouble, name: Optional[str] = None) -> int:
@@ -66,6 +65,11 @@ def hold_parts(reason: Hold) -> Dict[str, Any]:
     """The reason of a hold as parts of an object."""
     parts = {key: value for key, value in vars(reason).items() if key != "readings"}
     return {**parts, "readings": [taken._asdict() for taken in reason.readings]}
+
+
+def _noted(also: str) -> Dict[str, str]:
+    """What is said besides, as where an older output is now."""
+    return {"note": also} if also else {}
 
 
 def _after(also: str) -> str:

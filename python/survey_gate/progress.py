@@ -14,6 +14,7 @@ from typing import Optional, TextIO
 QUIET_SECONDS = 1.0
 TERMINAL_SECONDS = 0.5
 FILE_SECONDS = 10.0
+TELLING_SECONDS = 0.1
 NODES_A_SECOND = 1.0e9
 
 
@@ -28,6 +29,7 @@ class Progress:
         self.work = 0
         self.heard = 0
         self.reckoned = True
+        self.speed = NODES_A_SECOND
         self.began = self.sheet_began = time.monotonic()
         self.shown = False
         self._over = threading.Event()
@@ -55,7 +57,10 @@ class Progress:
         self.heard += work
 
     def finished(self) -> None:
-        """The sheet is done."""
+        """The sheet is done. A long one says how fast this machine is."""
+        spent = time.monotonic() - self.sheet_began
+        if self.reckoned and self.work and spent > TELLING_SECONDS:
+            self.speed = self.work / spent
         self.done += 1
         self.work = 0
 
@@ -79,14 +84,14 @@ class Progress:
         """The part of this sheet's work that is done, by count or by the time."""
         if not self.work:
             return 1.0
-        worked = (now - self.sheet_began) * NODES_A_SECOND if self.reckoned else self.heard
+        worked = (now - self.sheet_began) * self.speed if self.reckoned else self.heard
         return min(worked / self.work, 0.99)
 
     def left(self, now: float) -> float:
         """The seconds that are left: of this sheet, and as long for each other as those before took."""
         spent, share = now - self.sheet_began, self.share(now)
         if self.reckoned:
-            here = max(self.work / NODES_A_SECOND - spent, 0.0)
+            here = max(self.work / self.speed - spent, 0.0)
         else:
             here = spent * (1 - share) / share if share else 0.0
         each = (self.sheet_began - self.began) / self.done if self.done else spent + here

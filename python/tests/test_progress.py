@@ -52,6 +52,14 @@ class Lines(unittest.TestCase):
         self.assertIn("searched for the reason of its hold", watched.line(now + 10))
 
 
+    def test_a_long_sheet_says_how_fast_the_machine_is(self):
+        watched = Progress(3, True)
+        watched.sheet("a.csv", 1000)
+        watched.sheet_began -= 2
+        watched.finished()
+        self.assertAlmostEqual(watched.speed, 500, delta=5)
+
+
 class Pages(unittest.TestCase):
     def test_each_refusal_has_its_page(self):
         for number, meaning in MEANINGS.items():

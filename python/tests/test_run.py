@@ -104,6 +104,13 @@ class Runs(unittest.TestCase):
         self.assertEqual(parts["records"][0], {"label": 6, "variable": "bytes", "value": 23040000, "overflowed": False})
 
 
+    def test_json_says_where_an_older_log_is(self):
+        folder = Folder(self)
+        log = folder.put("a.log", b"")
+        parts = json.loads(gate("run", "--json", BLOCK, HELD, log, *TAKE)[1])
+        self.assertEqual((parts["verdict"], parts["note"]), ("held", f"the older {log} is now {log}.old"))
+
+
 class Outputs(unittest.TestCase):
     def test_derive(self):
         folder = Folder(self)
