@@ -49,7 +49,7 @@ def _recipe_and_condition(arguments: Arguments, output: Output) -> Tuple[Recipe,
     recipe = _gated_recipe(arguments.recipe, output)
     condition = gate.derive(recipe)
     if arguments.condition:
-        given = Condition.from_bytes(files.read(arguments.condition, CONDITION_ROOM))
+        given = _gated_condition(arguments.condition)
         if given.data != condition.data:
             raise Trouble(f"{shown(arguments.condition)}: not the condition of {shown(arguments.recipe)}; derive it again")
     return recipe, condition
@@ -57,7 +57,7 @@ def _recipe_and_condition(arguments: Arguments, output: Output) -> Tuple[Recipe,
 
 def _check_sheet(path: str, recipe: Recipe, condition: Condition, output: Output, progress: Progress) -> int:
     try:
-        sheet = _gated_sheet(path, recipe, condition)
+        sheet = _gated_sheet(path, recipe)
         progress.sheet(shown(path), condition.work(sheet.columns))
         verdict = gate.check(recipe, sheet, condition, progress.tick)
     except Refused as refused:
@@ -79,25 +79,35 @@ def _gated_recipe(path: str, output: Output) -> Recipe:
     try:
         recipe = Recipe.from_either(data, path)
     except Refused as refused:
-        if load().refusal(data) != refused.number:
-            raise Trouble(f"{shown(path)}: {told(refused)}, and the gate says otherwise: one of the two is wrong") from None
-        raise
+        raise _agreed(path, refused, load().refusal(data)) from None
     output.warn(path, recipe.warnings)
     return recipe
 
 
-def _gated_sheet(path: str, recipe: Recipe, condition: Condition) -> Sheet:
-    """The sheet at a path; a file's refusal must be the gate's."""
+def _gated_sheet(path: str, recipe: Recipe) -> Sheet:
+    """The sheet at a path; a file's refusal must be the gate's, which a run of no steps tells."""
     data = files.read(path, LONGEST_TEXT)
     try:
         return Sheet.from_either(data, recipe, path)
     except Refused as refused:
-        try:
-            load().check(condition.data, data)
-        except Refused as answer:
-            if answer.number == refused.number:
-                raise refused from None
-        raise Trouble(f"{shown(path)}: {told(refused)}, and the gate says otherwise: one of the two is wrong") from None
+        answer = load().answer(lambda library: library.run(recipe.to_bytes(), data, 0, b"", 0))
+        raise _agreed(path, refused, answer) from None
+
+
+def _gated_condition(path: str) -> Condition:
+    """The condition at a path; its refusal must be the gate's."""
+    data = files.read(path, CONDITION_ROOM)
+    try:
+        return Condition.from_bytes(data)
+    except Refused as refused:
+        raise _agreed(path, refused, load().answer(lambda library: library.check(data, b""))) from None
+
+
+def _agreed(path: str, refused: Refused, answer: int) -> Exception:
+    """The refusal, or Trouble where the gate's answer is another."""
+    if answer == refused.number:
+        return refused
+    return Trouble(f"{shown(path)}: {told(refused)}, and the gate answers {answer}: one of the two is wrong")
 
 
 # ---- run, derive, list
@@ -113,7 +123,7 @@ def run(arguments: Arguments, output: Output) -> int:
         recipe = _gated_recipe(arguments.recipe, output)
         condition = gate.derive(recipe) if arguments.guarded else None
         blamed = arguments.sheet
-        sheet = _gated_sheet(blamed, recipe, condition) if condition else Sheet.read(blamed, recipe)
+        sheet = _gated_sheet(blamed, recipe)
         output.warn(blamed, sheet.warnings)
         with Progress(1, arguments.quiet) as progress:
             progress.sheet(shown(blamed), condition.work(sheet.columns) if condition else 0)

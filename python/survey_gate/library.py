@@ -11,7 +11,7 @@ import ctypes
 import os
 import threading
 from functools import lru_cache
-from typing import NamedTuple, Tuple
+from typing import Callable, NamedTuple, Tuple
 
 from .sizes import CONDITION_ROOM, RECORD_BYTES
 from .trouble import Refused, Trouble, shown
@@ -56,6 +56,14 @@ class Library:
         """The number with which the recipe is refused, or 0."""
         with self._lock:
             return self._gate.gate_derive(recipe, len(recipe), *self._lent()) >> 32
+
+    def answer(self, call: "Callable[[Library], object]") -> int:
+        """The number with which a call is refused, or 0."""
+        try:
+            call(self)
+        except Refused as refused:
+            return refused.number
+        return 0
 
     def check(self, condition: bytes, sheet: bytes) -> bool:
         """Whether the sheet passes under the condition."""

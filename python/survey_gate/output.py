@@ -29,7 +29,7 @@ class Output:
         print(text, flush=True)
 
     def passed(self, name: str, also: str = "", **parts: Any) -> int:
-        self.answer(f"{shown(name)}: pass{_after(also)}", file=name, verdict="pass", **_noted(also), **parts)
+        self.answer(f"{shown(name)}: pass{_after(also)}", file=name, verdict="pass", **parts)
         return PASS
 
     def held(self, name: str, reason: Hold, also: str = "") -> int:

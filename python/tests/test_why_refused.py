@@ -6,7 +6,8 @@ import unittest
 
 from support import SAMPLES, Folder, answers, gate, refusal, vector
 
-from survey_gate import Condition, Recipe, Refused, Sheet, check, derive
+from survey_gate import Condition, Recipe, Refused, Sheet, Trouble, check, derive
+from survey_gate.commands import _agreed
 from survey_gate.library import load
 from survey_gate.statements import Kind
 from survey_gate.why_refused import reaching, why_refused
@@ -150,6 +151,20 @@ class Places(unittest.TestCase):
                 first, second = out.splitlines()
                 self.assertRegex(first, rf"^{recipe}: refused {number}: [^:]+: .+")
                 self.assertTrue(second.startswith(f"{sheet}: refused {number}: "))
+
+
+class Disagreement(unittest.TestCase):
+    def test_a_refusal_that_is_not_the_gates_is_trouble(self):
+        refused = Refused(5, "label 0")
+        self.assertIs(_agreed("r", refused, 5), refused)
+        trouble = _agreed("r", refused, 6)
+        self.assertIsInstance(trouble, Trouble)
+        self.assertIn("r: refused 5: a statement's kind, operand or unused byte is wrong: label 0, and the gate answers 6", str(trouble))
+
+    def test_stored_conditions_are_refused_alike(self):
+        for case, _, _, answer, _, _ in answers():
+            if answer == "refused 12":
+                self.assertEqual(load().answer(lambda library: library.check(vector(case, "condition"), b"")), 12, case)
 
 
 if __name__ == "__main__":
