@@ -47,12 +47,18 @@ def check(arguments: Arguments, output: Output) -> int:
 def _recipe_and_condition(arguments: Arguments, output: Output) -> Tuple[Recipe, Condition]:
     """The recipe and its condition; a condition that is given must be the recipe's own."""
     recipe = _gated_recipe(arguments.recipe, output)
-    condition = gate.derive(recipe)
+    condition = _derived(recipe, arguments)
     if arguments.condition:
         given = _gated_condition(arguments.condition)
         if given.data != condition.data:
             raise Trouble(f"{shown(arguments.condition)}: not the condition of {shown(arguments.recipe)}; derive it again")
     return recipe, condition
+
+
+def _derived(recipe: Recipe, arguments: Arguments) -> Condition:
+    """The recipe's condition; where it is refused and the cause takes long to find, a line says so."""
+    with Progress(0, arguments.quiet):
+        return gate.derive(recipe)
 
 
 def _check_sheet(path: str, recipe: Recipe, condition: Condition, output: Output, progress: Progress) -> int:
@@ -121,7 +127,7 @@ def run(arguments: Arguments, output: Output) -> int:
     blamed = arguments.recipe
     try:
         recipe = _gated_recipe(arguments.recipe, output)
-        condition = gate.derive(recipe) if arguments.guarded else None
+        condition = _derived(recipe, arguments) if arguments.guarded else None
         blamed = arguments.sheet
         sheet = _gated_sheet(blamed, recipe)
         output.warn(blamed, sheet.warnings)
@@ -162,7 +168,7 @@ def derive(arguments: Arguments, output: Output) -> int:
     files.refuse_input_as_output(arguments.condition, [arguments.recipe])
     name = arguments.recipe
     try:
-        condition = gate.derive(_gated_recipe(name, output))
+        condition = _derived(_gated_recipe(name, output), arguments)
     except Refused as refused:
         return output.refused(name, refused, files.move_aside(arguments.condition))
     files.write(arguments.condition, condition.data)
@@ -176,7 +182,7 @@ def list_conjuncts(arguments: Arguments, output: Output) -> int:
     """The conjuncts, in infix or as document 01 prints them."""
     try:
         recipe = _gated_recipe(arguments.recipe, output)
-        condition = gate.derive(recipe)
+        condition = _derived(recipe, arguments)
     except Refused as refused:
         if not arguments.raw:
             return output.refused(arguments.recipe, refused)

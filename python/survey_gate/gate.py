@@ -70,6 +70,9 @@ def told(causes: Sequence[Cause], recipe: Recipe) -> str:
     parts = [cause.told(recipe) for cause in chosen[:MOST_CAUSES_TOLD]]
     if len(causes) > len(parts):
         parts.append(f"{len(causes)} sites are refused in all")
+    left = load().refusal(recipe.without(label for cause in causes for label in cause.labels))
+    if left:
+        parts.append(f"what is then left of the recipe is refused with {left}")
     return "; ".join(parts)
 
 

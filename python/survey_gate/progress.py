@@ -72,7 +72,9 @@ class Progress:
         self.shown = False
 
     def line(self, now: float) -> str:
-        """How far the work is."""
+        """How far the work is; without sheets it is the search for a refusal's cause."""
+        if not self.sheets:
+            return f"survey-gate: the recipe is refused, and its cause is looked for, {now - self.began:.0f} s so far"
         text = f"survey-gate: sheet {min(self.done + 1, self.sheets)} of {self.sheets}"
         left = self.left(now)
         if self.work:

@@ -11,6 +11,7 @@ from .sizes import LONGEST_TEXT
 from .statements import Kind, Named, Names, Statement, text_of
 from .trouble import Mistake, Trouble, shown
 
+MOST_PLACES_TOLD = 10
 EMPTY = "# a recipe without fields, variables, trays and statements\n"
 
 
@@ -109,6 +110,8 @@ class Recipe:
         if len(labels) == 1:
             return self.place(labels[0])
         numbers = [str(self.lines[label] if self.lines else label) for label in labels]
+        if len(numbers) > MOST_PLACES_TOLD:
+            numbers = numbers[:MOST_PLACES_TOLD] + [f"{len(numbers) - MOST_PLACES_TOLD} more"]
         return f"{'lines' if self.lines else 'labels'} {', '.join(numbers[:-1])} and {numbers[-1]}"
 
     def noticed(self) -> List[Mistake]:

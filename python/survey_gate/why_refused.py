@@ -34,10 +34,12 @@ class Cause:
     together: bool
 
     def told(self, recipe: Recipe) -> str:
+        """The cause in words, with lines or labels."""
         name = recipe.variables[recipe.statements[self.site].a].name
-        head = f"site {name} ({recipe.place(self.site)})" + (" with the sites before it" if self.together else "")
-        texts = f" ({recipe.statement_text(self.labels[0])})" if len(self.labels) == 1 else ""
-        return f"{head} is accepted without {recipe.places(self.labels)}{texts}" + ("" if self.smallest else ", maybe with fewer left out")
+        with_others = " with the sites before it" if self.together else ""
+        text = f" ({recipe.statement_text(self.labels[0])})" if len(self.labels) == 1 else ""
+        doubt = "" if self.smallest else ", and fewer might do"
+        return f"site {name} ({recipe.place(self.site)}){with_others} is accepted without {recipe.places(self.labels)}{text}{doubt}"
 
 
 def why_refused(recipe: Recipe, library: Library, seconds: float = SEARCH_SECONDS) -> List[Cause]:
@@ -84,7 +86,7 @@ def _cause(question: Question, site: int, number: int, together: bool) -> Cause:
 
 
 def _smallest(question: Question, candidates: Sequence[int]) -> Tuple[Sequence[int], bool]:
-    """A smallest set that serves, or one from which nothing can be put back, and which of the two it is."""
+    """A smallest set that serves, or one from which nothing can be put back, and whether it is a smallest."""
     kept = _irreducible(question, candidates)
     for size in range(1, len(kept)):
         for labels in combinations(candidates, size):
@@ -96,12 +98,17 @@ def _smallest(question: Question, candidates: Sequence[int]) -> Tuple[Sequence[i
 
 
 def _irreducible(question: Question, candidates: Sequence[int]) -> List[int]:
-    """A set that serves: all candidates, and then each put back with which it still serves."""
+    """A set that serves: all candidates, and then as many put back as it still serves without, by halves."""
     kept = list(candidates)
-    for label in reversed(candidates):
-        trial = [other for other in kept if other != label]
-        if trial and question.accepted(trial):
-            kept = trial
+    size = len(kept)
+    while size > 0:
+        before = len(kept)
+        for at in range(len(kept), 0, -size):
+            trial = kept[: max(at - size, 0)] + kept[at:]
+            if trial and not question.is_late() and question.accepted(trial):
+                kept = trial
+        if size > 1 or len(kept) == before or question.is_late():
+            size //= 2
     return kept
 
 

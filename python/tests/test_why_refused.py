@@ -88,6 +88,19 @@ class Causes(unittest.TestCase):
         self.assertEqual(refused.number, 10)
         self.assertIn("site a (line 263) with the sites before it is accepted without", refused.place)
 
+    def test_what_is_left_may_be_refused_still(self):
+        lines = "".join(f"c = {k}\na = read f\na = a + c\nsite a\n" for k in range(100))
+        refused = self.told("field f u8\nvar a u8\nvar c u8\n" + lines)
+        self.assertTrue(refused.place.endswith("; what is then left of the recipe is refused with 10"), refused.place)
+
+    def test_a_search_that_is_too_long_says_so(self):
+        text = "field f u64\nvar x u64\nvar y u64\nx = read f\n" + "y = read f\nx = x + y\n" * 80 + "site x\n"
+        recipe = Recipe.from_text(text)
+        (cause,) = why_refused(recipe, load(), seconds=0.3)
+        self.assertFalse(cause.smallest)
+        self.assertFalse(load().refusal(recipe.without(cause.labels)))
+        self.assertRegex(cause.told(recipe), r"without lines (\d+, ){9}\d+ and \d+ more, and fewer might do$")
+
     def test_only_statements_that_reach_the_site_are_tried(self):
         recipe = Recipe.from_text("field f u8\nvar a u8\nvar b u8\na = read f\nb = a\nsite a\n")
         self.assertEqual(reaching(recipe.statements, [2]), [0])
