@@ -125,9 +125,7 @@ def _form_commands(kinds: argparse._SubParsersAction) -> None:
 
 def main(words: Optional[Sequence[str]] = None) -> int:
     """Runs the command and gives its exit status."""
-    for stream in (sys.stdout, sys.stderr):
-        if hasattr(stream, "reconfigure"):
-            stream.reconfigure(errors="backslashreplace")
+    _prepare_streams()
     try:
         status = _act(sys.argv[1:] if words is None else words)
         sys.stdout.flush()
@@ -137,6 +135,16 @@ def main(words: Optional[Sequence[str]] = None) -> int:
     except KeyboardInterrupt:
         print("survey-gate: interrupted", file=sys.stderr)
         return TROUBLE
+
+
+def _prepare_streams() -> None:
+    """What an encoding cannot say is escaped; a stream that is closed from the start takes nothing."""
+    for name in ("stdout", "stderr"):
+        stream = getattr(sys, name)
+        if stream is None:
+            setattr(sys, name, open(os.devnull, "w", encoding="utf-8"))
+        elif hasattr(stream, "reconfigure"):
+            stream.reconfigure(errors="backslashreplace")
 
 
 def _act(words: Sequence[str]) -> int:

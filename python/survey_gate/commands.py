@@ -33,9 +33,10 @@ def check(arguments: Arguments, output: Output) -> int:
     try:
         recipe, condition = _recipe_and_condition(arguments, output)
     except Refused as refused:
-        output.refused(arguments.condition if refused.number == 12 else arguments.recipe, refused)
+        blamed, where = (arguments.condition, "condition") if refused.number == 12 else (arguments.recipe, "recipe")
+        output.refused(blamed, refused)
         for path in arguments.sheets:
-            output.refused(path, Refused(refused.number))
+            output.refused(path, Refused(refused.number, f"in the {where}"))
         return REFUSED
     status = PASS
     with Progress(len(arguments.sheets), arguments.quiet) as progress:

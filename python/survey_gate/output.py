@@ -25,7 +25,8 @@ class Output:
         if self.as_json:
             import json
 
-            text = json.dumps(parts, ensure_ascii=False)
+            plain = (getattr(sys.stdout, "encoding", None) or "").lower() != "utf-8"
+            text = json.dumps(parts, ensure_ascii=plain)
         print(text, flush=True)
 
     def passed(self, name: str, also: str = "", **parts: Any) -> int:

@@ -1,6 +1,7 @@
 """Bad input: garbage, empty and huge files, folders, no permission, a full disk. One line, status 3, nothing half written."""
 
 import ast
+import json
 import os
 import resource
 import subprocess
@@ -165,6 +166,21 @@ class Outputs(unittest.TestCase):
         ran = subprocess.run([LAUNCHER, "check", BLOCK, PASSES], stdout=write, stderr=subprocess.PIPE, text=True, check=False)
         os.close(write)
         self.assertEqual((ran.returncode, ran.stderr), (3, ""))
+
+    def test_streams_that_are_closed_from_the_start(self):
+        for closing, stdout in ((">&-", ""), ("2>&-", f"{PASSES}: pass\n")):
+            command = f'"{LAUNCHER}" check "{BLOCK}" "{PASSES}" {closing}'
+            ran = subprocess.run(["sh", "-c", command], capture_output=True, text=True, check=False)
+            self.assertEqual((ran.returncode, ran.stdout, ran.stderr), (0, stdout, ""))
+
+    def test_an_encoding_that_lacks_a_sign(self):
+        narrow = {**os.environ, "PYTHONIOENCODING": "ascii", "PYTHONUTF8": "0"}
+        held = os.path.join(SAMPLES, "held.csv")
+        ran = subprocess.run([LAUNCHER, "check", "--json", BLOCK, held], capture_output=True, text=True, check=False, env=narrow)
+        self.assertIn("channels=3 × (rate", json.loads(ran.stdout)["reason"])
+        ran = subprocess.run([LAUNCHER, "check", BLOCK, held], capture_output=True, text=True, check=False, env=narrow)
+        self.assertEqual((ran.returncode, ran.stderr), (1, ""))
+        self.assertIn("channels=3 \\xd7 (rate", ran.stdout)
 
     def test_outputs_that_are_folders_or_below_none(self):
         for output in (self.folder.path, self.folder.at("none/c"), self.folder.put("file", b"") + "/c"):

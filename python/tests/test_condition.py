@@ -1,5 +1,6 @@
 """Conditions: derived as stored, listed as stored, refused with 12 at a place; in infix by the author's names."""
 
+import json
 import os
 import unittest
 
@@ -60,7 +61,7 @@ class Conditions(unittest.TestCase):
         status, out, _ = gate("list", "--raw", sample)
         self.assertEqual((status, out), (0, Condition.of(Recipe.read(sample)).raw()))
         status, out, _ = gate("list", "--json", sample)
-        self.assertIn('"infix": "rate × u32(seconds) × 2"', out.splitlines()[0])
+        self.assertEqual(json.loads(out.splitlines()[0])["infix"], "rate × u32(seconds) × 2")
         loop = os.path.join(SAMPLES, "loop.txt")
         self.assertEqual(gate("list", "--raw", loop)[:2], (2, "refused 11\n"))
         self.assertIn("refused 11: a loop makes", gate("list", loop)[1])
