@@ -20,7 +20,7 @@ from .records import ENDS, choice_bytes, choice_file, from_choice_file, records_
 from .refusals import page, told
 from .sheet import Sheet
 from .sizes import CONDITION_ROOM, LONGEST_CHOICES, LONGEST_TEXT, MOST_RECORDS, RECORD_BYTES, USUAL_LIMIT
-from .trouble import Refused, Trouble, shown
+from .trouble import Disagreement, Refused, Trouble, shown
 
 Arguments = argparse.Namespace
 
@@ -70,6 +70,9 @@ def _check_sheet(path: str, recipe: Recipe, condition: Condition, output: Output
     except Refused as refused:
         progress.clear()
         return output.refused(path, refused)
+    except Disagreement as disagreement:
+        progress.clear()
+        return output.trouble(Trouble(f"{shown(path)}: {disagreement}"), path)
     except Trouble as trouble:
         progress.clear()
         return output.trouble(trouble, path)
@@ -137,6 +140,8 @@ def run(arguments: Arguments, output: Output) -> int:
             ran = gate.run_choices(recipe, sheet, choices, limit, condition, progress.tick)
     except Refused as refused:
         return output.refused(blamed, refused, files.move_aside(arguments.log))
+    except Disagreement as disagreement:
+        raise Trouble(f"{shown(blamed)}: {disagreement}") from None
     if ran.verdict and not ran.verdict.passed:
         return output.held(arguments.sheet, ran.verdict.reason, files.move_aside(arguments.log))
     files.write(arguments.log, ran.log)

@@ -189,7 +189,8 @@ def _site(words: str) -> Optional[Told]:
         return f"{excerpt(words)} has brackets", f"write `site {bracket[1]}`"
     if not found[1]:
         return "this site names no variable", "write `site x`"
-    return f"a site is on one variable, and not on {excerpt(found[1])}", "put the value in a variable first, as `x = a * b`, then `site x`"
+    right = "put the value in a variable first, as `x = a * b`, then `site x`"
+    return f"a site is on one variable, and not on {excerpt(found[1])}", right
 
 
 def _assignment_sign(words: str) -> Optional[Told]:
@@ -293,7 +294,8 @@ def _load(a: str, right: str) -> Optional[Told]:
 
 def _index_told(tray: str, index: str, line: str) -> Told:
     if NUMBER_LIKE.fullmatch(index):
-        return f"the number {excerpt(index)} stands as an index", f"give it a variable, as `i = {_decimal(index)}`, then `{line}`"
+        right = f"give it a variable, as `i = {_decimal(index)}`, then `{line}`"
+        return f"the number {excerpt(index)} stands as an index", right
     if not index:
         return f"{tray}[] has no index", f"name a variable, as `{line}`"
     return f"the index {excerpt(index)} is more than a variable", f"work it out first, as `i = a + b`, then `{line}`"
@@ -307,7 +309,8 @@ def _number_operand(a: str, right: str) -> Optional[Told]:
     b, sign, c = found.groups()
     for number, line in ((c, f"{a} = {b} {sign} n"), (b, f"{a} = n {sign} {c}")):
         if NUMBER_LIKE.fullmatch(number):
-            return f"the number {excerpt(number)} stands as an operand", f"give it a variable, as `n = {_decimal(number)}`, then `{line}`"
+            right = f"give it a variable, as `n = {_decimal(number)}`, then `{line}`"
+            return f"the number {excerpt(number)} stands as an operand", right
     return None
 
 
@@ -346,5 +349,6 @@ def _reading(words: str) -> Optional[Told]:
 
 
 HINTS: List[Look] = [
-    _characters, _comment, _else_if, _separator, _test, _end, _declaration, _site, _assignment_sign, _right_side, _store, _reading,
+    _characters, _comment, _else_if, _separator, _test, _end, _declaration,
+    _site, _assignment_sign, _right_side, _store, _reading,
 ]

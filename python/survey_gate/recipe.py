@@ -19,9 +19,9 @@ EMPTY = "# a recipe without fields, variables, trays and statements\n"
 class Recipe:
     """A recipe.
 
-    `fields`, `variables` and `trays` have a name, a type code and (trays) a number of cells each;
-    `statements` are as in the file. From a text, `lines` has the line of each statement, `declared` that
-    of each name, and `named` is true; from a file the names are f0, v0 and t0 onward. `warnings` say what is allowed and seldom meant.
+    `fields`, `variables` and `trays` have a name, a type code and (trays) a number of cells each; `statements` are as
+    in the file. From a text, `lines` has the line of each statement, `declared` that of each name, and `named` is
+    true; from a file the names are f0, v0 and t0 onward. `warnings` say what is allowed and seldom meant.
     """
 
     fields: List[Named] = field(default_factory=list)

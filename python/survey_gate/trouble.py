@@ -1,8 +1,8 @@
-"""What can go wrong, as three kinds of answer.
+"""What can go wrong, as kinds of answer.
 
-Trouble is one line for standard error and exit status 3; Mistakes is trouble with a line for each wrong
-line of a file. Refused is an answer of the gate, by document 01's number, with the place that it
-speaks of.
+Trouble is one line for standard error and exit status 3. Mistakes is trouble with a line for each wrong line of a
+file, Disagreement trouble between the gate and this package. Refused is an answer of the gate, by document 01's
+number, with the place that it speaks of.
 """
 
 from __future__ import annotations
@@ -30,6 +30,10 @@ class Trouble(Exception):
 
     def lines(self) -> List[str]:
         return [str(self)]
+
+
+class Disagreement(Trouble):
+    """The gate and what was worked out beside it differ. The file's name is not in it."""
 
 
 class Mistakes(Trouble):

@@ -26,7 +26,7 @@ from .ranges import TYPES, highest, immediate_value, lowest
 from .recipe import Recipe
 from .sheet import Sheet, packed
 from .statements import Kind
-from .trouble import Trouble
+from .trouble import Disagreement
 
 LONGEST_EXPRESSION = 160
 Tick = Callable[[int], None]
@@ -107,28 +107,29 @@ def _line_told(taken: Taken) -> str:
 
 
 def why_held(recipe: Recipe, condition: Condition, sheet: Sheet, library: Library, tick: Tick = lambda work: None) -> Hold:
-    """The first step that overflows; Trouble where the gate does not agree."""
+    """The first step that overflows; Disagreement where the gate does not agree."""
     data = sheet.to_bytes()
     for number, conjunct in enumerate(condition.conjuncts):
         if library.check(condition.only(number), data):
             continue
         picks = Search(conjunct, sheet.columns, tick).first()
         if picks is None:
-            raise Trouble(f"conjunct {number} is held by the gate, and in whole numbers nothing overflows: one of the two is wrong")
+            told = f"conjunct {number} is held by the gate, and in whole numbers nothing overflows"
+            raise Disagreement(f"{told}: one of the two is wrong")
         _agreed(condition, number, picks, sheet, library)
         return _hold(recipe, number, conjunct, picks, sheet)
-    raise Trouble("the gate holds the sheet, and passes it under each conjunct alone")
+    raise Disagreement("the gate holds the sheet, and passes it under each conjunct alone")
 
 
 def _agreed(condition: Condition, number: int, picks: Sequence[int], sheet: Sheet, library: Library) -> None:
-    """Trouble unless the gate holds a sheet that has just these readings under this conjunct."""
+    """Disagreement unless the gate holds a sheet that has just these readings under this conjunct."""
     columns: List[List[int]] = [[] for _ in sheet.columns]
     for atom, pick in zip(condition.conjuncts[number].atoms, picks):
         value = sheet.columns[atom.field][pick]
         if value not in columns[atom.field]:
             columns[atom.field].append(value)
     if library.check(condition.only(number), packed(sheet.types, columns)):
-        raise Trouble(f"conjunct {number} overflows in whole numbers and passes at the gate: one of the two is wrong")
+        raise Disagreement(f"conjunct {number} overflows in whole numbers and passes at the gate: one of the two is wrong")
 
 
 # ---- the search
@@ -301,7 +302,7 @@ def _hold(recipe: Recipe, number: int, conjunct: Conjunct, picks: Sequence[int],
                 f"{text} to {TYPES[node.code]}" if converts else text, taken,
             )
         values.append(value)
-    raise Trouble(f"conjunct {number}: the search named a combination in which nothing overflows")
+    raise Disagreement(f"conjunct {number}: the search named a combination in which nothing overflows")
 
 
 def _taken(

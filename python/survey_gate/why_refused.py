@@ -39,7 +39,8 @@ class Cause:
         with_others = " with the sites before it" if self.together else ""
         text = f" ({recipe.statement_text(self.labels[0])})" if len(self.labels) == 1 else ""
         doubt = "" if self.smallest else ", and fewer might do"
-        return f"site {name} ({recipe.place(self.site)}){with_others} is accepted without {recipe.places(self.labels)}{text}{doubt}"
+        site = f"site {name} ({recipe.place(self.site)}){with_others}"
+        return f"{site} is accepted without {recipe.places(self.labels)}{text}{doubt}"
 
 
 def why_refused(recipe: Recipe, library: Library, seconds: float = SEARCH_SECONDS) -> List[Cause]:

@@ -4,8 +4,9 @@ import itertools
 import random
 import time
 import unittest
+from unittest import mock
 
-from support import answers, vector
+from support import Folder, answers, gate, vector
 
 from survey_gate import Condition, Recipe, Sheet, Trouble, check
 from survey_gate.condition import READING, Atom, Conjunct, Node
@@ -172,6 +173,16 @@ class Disagreement(unittest.TestCase):
         with self.assertRaises(Trouble) as raised:
             why_held(self.recipe, self.condition, Sheet.from_csv(table, self.recipe), self.Lying(*answers))
         return str(raised.exception)
+
+    def test_the_command_names_the_sheet_and_gives_status_3(self):
+        folder = Folder(self)
+        recipe, sheet = folder.put("r.txt", BLOCK), folder.put("s.csv", "rate,seconds\n4000000000,2\n")
+        with mock.patch("survey_gate.why_held.Search.first", return_value=None):
+            for words in (("check", recipe, sheet), ("run", recipe, sheet, folder.at("log"))):
+                status, out, err = gate(*words)
+                self.assertEqual((status, out), (3, ""))
+                told = "conjunct 0 is held by the gate, and in whole numbers nothing overflows: one of the two is wrong"
+                self.assertEqual(err, f"{sheet}: {told}\n")
 
     def test_disagreement_is_trouble(self):
         self.assertIn("in whole numbers nothing overflows", self.trouble("rate,seconds\n1,1\n", False))
