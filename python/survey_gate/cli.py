@@ -157,6 +157,8 @@ def _act(words: Sequence[str]) -> int:
         if arguments.act is None:
             raise Trouble("survey-gate: no command; see survey-gate --help")
         return arguments.act(arguments, output)
+    except SystemExit as done:  # argparse has printed its help
+        return int(done.code or 0)
     except Refused as refused:
         name = getattr(arguments, "sheet" if refused.number == 13 else "recipe", "")
         print(f"{shown(name)}: {told(refused)}", file=sys.stderr)

@@ -14,7 +14,7 @@ from typing import List, NamedTuple, Optional
 from .files import lines_of
 from .ranges import TYPES, fits, highest, lowest
 from .recipe import Recipe
-from .sizes import LONGEST_ROW, MOST_DIGITS, MOST_READINGS
+from .sizes import LONGEST_ROW, MOST_DIGITS, MOST_MISTAKES, MOST_READINGS
 from .trouble import Mistake, Mistakes, close_to, count, excerpt
 
 SEPARATORS = ",;\t"
@@ -52,6 +52,9 @@ class Table:
             order = self.matched(rows[0])
             for row in rows[1:] if order else []:
                 self.take(row, order, len(rows[0].cells))
+                if len(self.mistakes) >= MOST_MISTAKES:
+                    self.note(row.line, f"over {count(MOST_MISTAKES)} mistakes", "the lines below are not read")
+                    break
         if self.mistakes:
             raise Mistakes(self.name, sorted(self.mistakes))
         for part, readings in zip(self.recipe.fields, self.columns):

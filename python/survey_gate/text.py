@@ -20,6 +20,7 @@ from .sizes import (
     MOST_DEPTH,
     MOST_DIGITS,
     MOST_FIELDS,
+    MOST_MISTAKES,
     MOST_STATEMENTS,
     MOST_TRAYS,
     MOST_VARIABLES,
@@ -66,6 +67,9 @@ class Reader:
                 self.read_line(line)
             except Wrong as wrong:
                 self.note(wrong.wrong, wrong.right)
+            if len(self.mistakes) == MOST_MISTAKES:
+                self.note(f"over {count(MOST_MISTAKES)} mistakes", "the lines below are not read")
+                break
         for word, line in self.open_blocks:
             need = "an else and an end" if word == "if" else "an end"
             self.mistakes.append(Mistake(line, f"this {word} has no end", f"write {need} below its lines"))

@@ -214,6 +214,11 @@ class Texts(unittest.TestCase):
         lines = self.mistakes(text)
         self.assertEqual([line.split(":")[1] for line in lines], ["1", "5", "6", "8", "9"])
 
+    def test_a_file_that_is_no_recipe_at_all(self):
+        lines = self.mistakes("So it goes.\n" * 90_000)
+        self.assertEqual(len(lines), 5001)
+        self.assertEqual(lines[-1], "R:5000: over 5,000 mistakes; the lines below are not read")
+
     def test_lines_are_counted_as_editors_do(self):
         for ending in ("\n", "\r\n", "\r"):
             self.assertTrue(self.mistakes(f"var a u8{ending}{ending}# \x0c \x1c \u2028 here{ending}a = 300")[0].startswith("R:4: 300"))

@@ -101,6 +101,11 @@ class Tables(unittest.TestCase):
         self.wrong("f,g\n1," + "9" * 99 + "\n", "T:2: a number of 99 digits under g")
         self.wrong("f,g\n1," + "9" * 5000 + "\n", "T:2: the line has 5,002 characters")
 
+    def test_a_file_that_is_no_table_at_all(self):
+        with self.assertRaises(Mistakes) as raised:
+            sheet("f,g\n" + "so,it\n" * 90_000)
+        self.assertEqual(raised.exception.lines()[-1], "T:2501: over 5,000 mistakes; the lines below are not read")
+
     def test_a_reading_below_a_blank_cell(self):
         self.wrong("f,g\n1,\n2,3\n", "T:3: g has a reading below its blank cell in line 2")
 
