@@ -26,6 +26,7 @@ class Parser(argparse.ArgumentParser):
     """Wrong usage is one line and status 3."""
 
     def error(self, message: str) -> NoReturn:
+        """Raises, where argparse would print its usage and end with 2."""
         raise Trouble(f"{self.prog}: {shown(message)}; see {self.prog} --help")
 
 
@@ -33,6 +34,7 @@ def whole(most: int) -> Callable[[str], int]:
     """A whole number from 0 to `most`, in decimal digits."""
 
     def number(word: str) -> int:
+        """The number, or the reason why it is none."""
         if not (word.isascii() and word.isdigit() and len(word) <= len(str(most)) and int(word) <= most):
             raise argparse.ArgumentTypeError(f"'{shown(word[:20])}' is no whole number from 0 to {most}")
         return int(word)
@@ -57,6 +59,7 @@ def parser() -> Parser:
 
 
 def _command(kinds: argparse._SubParsersAction, name: str, act: commands.Arguments, text: str, json: bool = False) -> Parser:
+    """A command with what all have in common."""
     made = kinds.add_parser(name, help=text, description=text, epilog=EPILOG, allow_abbrev=False)
     made.set_defaults(act=act)
     made.add_argument("-q", "--quiet", action="store_true", help="print trouble only")
@@ -148,6 +151,7 @@ def _prepare_streams() -> None:
 
 
 def _act(words: Sequence[str]) -> int:
+    """Parses the words and does what they say."""
     output = Output()
     try:
         arguments = parser().parse_args(words)

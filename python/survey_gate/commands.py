@@ -63,6 +63,7 @@ def _derived(recipe: Recipe, arguments: Arguments) -> Condition:
 
 
 def _check_sheet(path: str, recipe: Recipe, condition: Condition, output: Output, progress: Progress) -> int:
+    """One sheet: its line, and its status."""
     try:
         sheet = _gated_sheet(path, recipe)
         progress.sheet(shown(path), condition.work(sheet.columns))
@@ -149,6 +150,7 @@ def run(arguments: Arguments, output: Output) -> int:
 
 
 def _told_run(arguments: Arguments, output: Output, ran: gate.Run) -> int:
+    """The line of a run."""
     overflowed = sum(record.overflowed for record in ran.records)
     records = f"{len(ran.records)} record{'s' * (len(ran.records) != 1)}" + (f", {overflowed} OVERFLOWED," if overflowed else "")
     text = f"end {ran.end} ({ENDS[ran.end]}) after {ran.steps} steps, {records} in {shown(arguments.log)}"

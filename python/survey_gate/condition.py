@@ -89,6 +89,7 @@ class Conjunct:
         return product
 
     def raw(self) -> str:
+        """The nodes as document 01's listing prints them."""
         return " ".join(node.raw() for node in self.nodes)
 
     def atom_names(self, names: Sequence[str]) -> Dict[Atom, str]:

@@ -59,13 +59,14 @@ def lines_of(text: str) -> List[str]:
 def refuse_input_as_output(output: str, inputs: Iterable[str]) -> None:
     """Trouble where the output is one of the inputs, by whatever name."""
     for path in inputs:
-        if os.path.realpath(path) == os.path.realpath(output) or _same(path, output):
+        if _same(path, output):
             raise Trouble(f"{shown(output)}: it is one of the inputs; name another file for the output")
 
 
 def _same(one: str, other: str) -> bool:
+    """Whether two names are of one ordinary file."""
     try:
-        return os.path.samefile(one, other) and stat.S_ISREG(os.stat(one).st_mode)
+        return os.path.samefile(one, other) and os.path.isfile(one)
     except (OSError, ValueError):
         return False
 
@@ -73,12 +74,11 @@ def _same(one: str, other: str) -> bool:
 def write(path: str, data: bytes) -> None:
     """Writes the file whole or not at all."""
     try:
-        target = os.path.realpath(path)
-        if os.path.exists(target) and not os.path.isfile(target):
-            with open(target, "wb") as out:
+        if os.path.exists(path) and not os.path.isfile(path):
+            with open(path, "wb") as out:
                 out.write(data)
-            return
-        _write_beside(target, data)
+        else:
+            _write_beside(os.path.realpath(path), data)
     except OSError as error:
         raise failed(path, error) from None
     except ValueError:
@@ -86,6 +86,7 @@ def write(path: str, data: bytes) -> None:
 
 
 def _write_beside(target: str, data: bytes) -> None:
+    """Writes a new file in the target's folder and renames it."""
     import tempfile
 
     handle, beside = tempfile.mkstemp(dir=os.path.dirname(target), prefix=".survey-gate-")

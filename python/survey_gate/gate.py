@@ -135,5 +135,6 @@ def run_choices(
 
 
 def _ran(verdict: Optional[Verdict], ran: Ran, recipe: Recipe) -> Run:
+    """A run with its records taken apart."""
     records: List[Record] = records_of(ran.log, recipe)
     return Run(verdict, ran.end, ran.steps, ran.log, tuple(records))

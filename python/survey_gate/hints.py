@@ -44,6 +44,7 @@ def hint(words: str) -> Told:
 
 
 def first_word(words: str) -> str:
+    """The word that the line starts with."""
     found = re.match(r"[A-Za-z_]+|\}", words)
     return found.group() if found else ""
 
@@ -102,6 +103,7 @@ def _characters(words: str) -> Optional[Told]:
 
 
 def _comment(words: str) -> Optional[Told]:
+    """A comment in another language's form."""
     for mark in ("//", "/*", "--", "%%"):
         if mark in words:
             return f"'{mark}' starts no comment", "a comment starts with #"
@@ -109,6 +111,7 @@ def _comment(words: str) -> Optional[Told]:
 
 
 def _separator(words: str) -> Optional[Told]:
+    """A semicolon."""
     if words.endswith(";"):
         return "the line ends with ';'", "a line ends by itself: leave it out"
     if ";" in words:
@@ -117,6 +120,7 @@ def _separator(words: str) -> Optional[Told]:
 
 
 def _else_if(words: str) -> Optional[Told]:
+    """An else with more behind it."""
     if re.match(r"else\s*if\b|elif\b|elsif\b|elseif\b", words):
         right = "write `else`, and below it an `if` with its own else and end"
         return f"{excerpt(words)}: an else has no test", right
@@ -126,6 +130,7 @@ def _else_if(words: str) -> Optional[Told]:
 
 
 def _end(words: str) -> Optional[Told]:
+    """An end with more behind it, or in another language's form."""
     if first_word(words) in ENDS:
         return f"{excerpt(words)} closes no block", "write `end` alone on its line"
     return None
@@ -156,6 +161,7 @@ def _test(words: str) -> Optional[Told]:
 
 
 def _declaration(words: str) -> Optional[Told]:
+    """A declaration whose parts are wrong."""
     found = re.fullmatch(r"(field|var|tray)\b\s*(.*)", words)
     if not found:
         return None
@@ -181,6 +187,7 @@ def _declaration(words: str) -> Optional[Told]:
 
 
 def _site(words: str) -> Optional[Told]:
+    """A site on anything but a variable."""
     found = re.fullmatch(r"site\b\s*(.*)", words)
     if not found:
         return None
@@ -194,6 +201,7 @@ def _site(words: str) -> Optional[Told]:
 
 
 def _assignment_sign(words: str) -> Optional[Told]:
+    """A value set by another sign than =."""
     found = re.match(rf"({NAME})\s*(\+|-|\*|/|%)=\s*(.*)", words)
     if found:
         a, sign, rest = found.groups()
@@ -263,12 +271,14 @@ def _conversion_word(a: str, right: str) -> Optional[Told]:
 
 
 def _comparison(a: str, right: str) -> Optional[Told]:
+    """A comparison as a value."""
     if re.search(r"[<>!=]=|(?<![<>])[<>](?![<>])|\band\b|\bor\b|\bnot\b|&&|\|\||\?", right):
         return f"{excerpt(right)} is a comparison", "there is none: read its outcome from a field, 0 or 1"
     return None
 
 
 def _other_operation(a: str, right: str) -> Optional[Told]:
+    """An operation that there is not."""
     found = re.search(r"\*\*|<<|>>|[%&|^~]", right)
     if not found:
         return None
@@ -293,6 +303,7 @@ def _load(a: str, right: str) -> Optional[Told]:
 
 
 def _index_told(tray: str, index: str, line: str) -> Told:
+    """What is wrong with an index, and the line with a right one."""
     if NUMBER_LIKE.fullmatch(index):
         right = f"give it a variable, as `i = {_decimal(index)}`, then `{line}`"
         return f"the number {excerpt(index)} stands as an index", right
@@ -315,6 +326,7 @@ def _number_operand(a: str, right: str) -> Optional[Told]:
 
 
 def _negative(a: str, right: str) -> Optional[Told]:
+    """A sign before a variable."""
     found = re.fullmatch(rf"[-+]\s*({NAME})", right)
     if found:
         return f"{excerpt(right)} has a sign and no left side", f"subtract it from 0: `zero = 0`, then `{a} = zero - {found[1]}`"
@@ -342,6 +354,7 @@ def _store(words: str) -> Optional[Told]:
 
 
 def _reading(words: str) -> Optional[Told]:
+    """A read or a conversion that goes nowhere."""
     found = re.fullmatch(rf"(read|to)\b\s*({NAME})?.*", words)
     if found:
         return f"{excerpt(words)} sets nothing", f"write where it goes, as `x = {found[1]} {found[2] or 'f'}`"

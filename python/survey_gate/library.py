@@ -91,6 +91,7 @@ class Library:
         return end != HELD, Ran(end, steps.value, log[: written.value * RECORD_BYTES])
 
     def _lent(self) -> Tuple[object, int, object, int]:
+        """The condition's room and the scratch, as slices."""
         return self._condition, CONDITION_ROOM, self._scratch, len(self._scratch)
 
 
@@ -107,6 +108,7 @@ def load() -> Library:
 
 
 def _lent_log(records: int) -> Tuple[ctypes.Array, ctypes.c_uint64, ctypes.c_uint64]:
+    """Room for so many records, and for the numbers of steps and records."""
     return ctypes.create_string_buffer(max(records, 1) * RECORD_BYTES), ctypes.c_uint64(), ctypes.c_uint64()
 
 

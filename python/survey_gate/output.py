@@ -30,15 +30,18 @@ class Output:
         print(text, flush=True)
 
     def passed(self, name: str, also: str = "", **parts: Any) -> int:
+        """A sheet that passes."""
         self.answer(f"{shown(name)}: pass{_after(also)}", file=name, verdict="pass", **parts)
         return PASS
 
     def held(self, name: str, reason: Hold, also: str = "") -> int:
+        """A sheet that is held, with the reason."""
         text = f"{shown(name)}: held: {reason}{_after(also)}"
         self.answer(text, file=name, verdict="held", reason=str(reason), **hold_parts(reason), **_noted(also))
         return HELD
 
     def refused(self, name: str, refused: Refused, also: str = "") -> int:
+        """A sheet, or a recipe, that is refused."""
         number = refused.number
         text = f"{shown(name)}: {told(refused)}{_after(also)}"
         parts = {"refusal": number, "meaning": MEANINGS[number], "place": refused.place, **_noted(also)}
@@ -57,6 +60,7 @@ class Output:
         return TROUBLE
 
     def warn(self, name: str, warnings: List[Mistake]) -> None:
+        """Warnings, on standard error."""
         if not self.quiet:
             for warning in warnings:
                 print(warning.told(name, "warning: "), file=sys.stderr, flush=True)
@@ -74,4 +78,5 @@ def _noted(also: str) -> Dict[str, str]:
 
 
 def _after(also: str) -> str:
+    """What is said besides, at the end of a line."""
     return f"; {also}" if also else ""

@@ -100,6 +100,7 @@ class Progress:
         return here + each * max(self.sheets - self.done - 1, 0)
 
     def _watch(self) -> None:
+        """Prints the line from the first second on, until the work is over."""
         if self._over.wait(QUIET_SECONDS):
             return
         while True:

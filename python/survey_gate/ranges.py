@@ -19,18 +19,22 @@ def width(code: int) -> int:
 
 
 def is_signed(code: int) -> bool:
+    """Whether the type has negative values."""
     return code >= FIRST_SIGNED
 
 
 def lowest(code: int) -> int:
+    """The lowest value of the type."""
     return LOWEST[code]
 
 
 def highest(code: int) -> int:
+    """The highest value of the type."""
     return HIGHEST[code]
 
 
 def fits(code: int, value: int) -> bool:
+    """Whether the value is in the type."""
     return LOWEST[code] <= value <= HIGHEST[code]
 
 

@@ -69,6 +69,7 @@ class Recipe:
 
     @property
     def names(self) -> Names:
+        """The fields, variables and trays by what they are."""
         return {"field": self.fields, "variable": self.variables, "tray": self.trays}
 
     @property
@@ -99,6 +100,7 @@ class Recipe:
         return "\n".join(lines) + "\n" if lines else EMPTY
 
     def statement_text(self, label: int) -> str:
+        """The statement at a label, as a line of text."""
         return text_of(self.statements[label], self.names)
 
     def place(self, label: int) -> str:

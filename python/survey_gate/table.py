@@ -64,9 +64,11 @@ class Table:
         return self
 
     def note(self, line: int, wrong: str, right: str) -> None:
+        """Notes a mistake."""
         self.mistakes.append(Mistake(line, wrong, right))
 
     def field_names(self) -> str:
+        """The names of the recipe's fields, for a message."""
         return ", ".join(part.name for part in self.recipe.fields)
 
     def rows(self, text: str) -> List[Row]:
@@ -107,6 +109,7 @@ class Table:
         return order if any(number is not None for number in order) else None
 
     def by_order(self, line: int, names: List[str]) -> Optional[List[Optional[int]]]:
+        """The columns in their order, for a recipe without names."""
         fields = len(self.recipe.fields)
         if len(names) != fields:
             self.note(line, f"{len(names)} columns", f"the recipe has {fields} fields")
@@ -116,6 +119,7 @@ class Table:
         return list(range(fields))
 
     def field_of(self, line: int, name: str, before: List[str]) -> Optional[int]:
+        """The number of the field that a column is named after; nothing, and a mistake, where there is none."""
         wanted = [part.name for part in self.recipe.fields]
         if name not in wanted:
             if not name:
@@ -133,6 +137,7 @@ class Table:
     # -- the rows below
 
     def take(self, row: Row, order: List[Optional[int]], columns: int) -> None:
+        """Takes the cells of a row."""
         if len(row.cells) != columns:
             right = f"the first line names {columns}; a cell without a reading is blank"
             self.note(row.line, f"{len(row.cells)} cells", right)
@@ -142,6 +147,7 @@ class Table:
                 self.take_cell(row.line, cell.strip(), number)
 
     def take_cell(self, line: int, cell: str, number: int) -> None:
+        """Takes a cell into its field's readings."""
         part = self.recipe.fields[number]
         if not cell:
             self.ended[number] = self.ended[number] or line
@@ -180,6 +186,7 @@ def _separator(text: str) -> str:
 
 
 def _right_number(cell: str) -> str:
+    """What would be right in the place of a cell that is no whole number."""
     if any(character.isdecimal() and not "0" <= character <= "9" for character in cell):
         return "digits are 0 to 9"
     if re.fullmatch(r"[+-]?0[xX][0-9a-fA-F]{1,16}", cell):

@@ -79,9 +79,11 @@ class Reader:
         return self.recipe
 
     def note(self, wrong: str, right: str) -> None:
+        """Notes a mistake in the line that is being read."""
         self.mistakes.append(Mistake(self.line, wrong, right))
 
     def read_line(self, line: str) -> None:
+        """Reads a line; raises Wrong."""
         if len(line) > LONGEST_LINE:
             raise Wrong(f"the line has {count(len(line))} characters", f"a line has at most {count(LONGEST_LINE)}")
         words = line.split("#", 1)[0].strip()
@@ -128,6 +130,7 @@ class Reader:
             raise Wrong(f"this is {what} {len(table)}", f"a recipe has at most {MOST[what]}")
 
     def look_up(self, what: str, name: str) -> Known:
+        """What a name stands for, if it is what is wanted."""
         found = self.known.get(name)
         if found is None:
             if name in hints.KEYWORDS:
@@ -142,9 +145,11 @@ class Reader:
         return found
 
     def variable(self, name: str) -> Known:
+        """A variable by its name."""
         return self.look_up("variable", name)
 
     def index(self, name: str) -> int:
+        """The number of a variable that may be an index."""
         found = self.variable(name)
         if found.code is not None and is_signed(found.code):
             raise Wrong(f"the index '{name}' is {TYPES[found.code]}", "index with an unsigned variable: u8, u16, u32 or u64")
@@ -160,6 +165,7 @@ class Reader:
     # -- lines
 
     def put(self, kind: int, a: int = 0, b: int = 0, c: int = 0, immediate: int = 0) -> None:
+        """Adds a statement."""
         self.recipe.statements.append(Statement(kind, a, b, c, immediate))
         self.recipe.lines.append(self.line)
         if len(self.recipe.statements) == MOST_STATEMENTS + 1:

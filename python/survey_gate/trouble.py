@@ -29,6 +29,7 @@ class Trouble(Exception):
     """A file that cannot be read or written, wrong usage, or a disagreement with the gate."""
 
     def lines(self) -> List[str]:
+        """The lines for standard error."""
         return [str(self)]
 
 
@@ -45,6 +46,7 @@ class Mistakes(Trouble):
         super().__init__("\n".join(self.lines()))
 
     def lines(self) -> List[str]:
+        """The lines for standard error."""
         return [mistake.told(self.name) for mistake in self.mistakes]
 
 

@@ -101,6 +101,7 @@ class Hold:
 
 
 def _line_told(taken: Taken) -> str:
+    """Where a reading stands: its line, or its number."""
     if taken.line is None:
         return f"{taken.atom}: reading {taken.number} of {taken.of}"
     return f"{taken.atom}: line {taken.line}"
@@ -189,6 +190,7 @@ class Search:
         return None
 
     def put(self, level: int, reading: int) -> None:
+        """Gives an atom a reading."""
         for place, atom in enumerate(self.atom_at):
             if atom == level:
                 self.values[place] = reading

@@ -70,13 +70,16 @@ class Question:
         self.recipe, self.library, self.dropped, self.until = recipe, library, dropped, until
 
     def accepted(self, labels: Iterable[int]) -> bool:
+        """Whether it is accepted without these as well."""
         return not self.library.refusal(self.recipe.without(self.dropped.union(labels)))
 
     def is_late(self) -> bool:
+        """Whether the time is over."""
         return time.monotonic() > self.until
 
 
 def _cause(question: Question, site: int, number: int, together: bool) -> Cause:
+    """The cause for a site: the smallest set of the statements that matter."""
     statements = question.recipe.statements
     sites = [label for label, s in enumerate(statements) if s.kind == Kind.SITE and label not in question.dropped]
     candidates = reaching(statements, sites)
@@ -152,6 +155,7 @@ def _sources(statement: Statement) -> Set[Place]:
 
 
 def _closure(start: Set[Place], comes_from: Dict[Place, Set[Place]]) -> Set[Place]:
+    """All that these places come from, themselves included."""
     found, todo = set(start), list(start)
     while todo:
         for place in comes_from.get(todo.pop(), set()) - found:

@@ -2,9 +2,10 @@
 
 import json
 import os
+import subprocess
 import unittest
 
-from support import SAMPLES, Folder, answers, gate, load, refusal, vector
+from support import LAUNCHER, SAMPLES, Folder, answers, gate, load, refusal, vector
 
 from survey_gate import Recipe
 from survey_gate.records import choice_file, from_choice_file, records_of
@@ -149,6 +150,10 @@ class Outputs(unittest.TestCase):
         self.assertEqual(gate("derive", BLOCK, link)[0], 0)
         self.assertTrue(os.path.islink(link))
         self.assertEqual((len(load(real)), os.stat(real).st_mode & 0o777), (275, 0o640))
+
+    def test_a_pipe_is_written_as_it_stands(self):
+        ran = subprocess.run([LAUNCHER, "derive", "-q", BLOCK, "/dev/stdout"], capture_output=True, check=False)
+        self.assertEqual((ran.returncode, len(ran.stdout), ran.stderr), (0, 275, b""))
 
     def test_choices_and_logs(self):
         self.assertEqual(from_choice_file(choice_file(7, [1, 2])), (7, b"\1\0\2\0"))
