@@ -30,11 +30,11 @@ class Lines(unittest.TestCase):
         self.assertEqual(self.shown(Terminal(), 0.0), "")
 
     def test_long_work_is_told(self):
-        told = self.shown(io.StringIO(), 0.2)
-        self.assertRegex(told, r"^survey-gate: sheet 1 of 3, a\.csv: some \d+ % checked, 0 s so far, about \d+ s to go\n$")
+        told = self.shown(io.StringIO(), 0.6)
+        self.assertRegex(told, r"^survey-gate: sheet 1 of 3, a\.csv: some \d+ % checked, \d+ s so far, about \d+ s to go\n$")
 
     def test_a_terminals_line_is_taken_away(self):
-        told = self.shown(Terminal(), 0.2)
+        told = self.shown(Terminal(), 0.6)
         self.assertTrue(told.startswith("\r\x1b[Ksurvey-gate: sheet 1 of 3"))
         self.assertTrue(told.endswith("\r\x1b[K"))
 
