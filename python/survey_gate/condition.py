@@ -7,6 +7,7 @@ appearance; the gate tries every combination of their fields' readings.
 from __future__ import annotations
 
 import struct
+from collections import Counter
 from dataclasses import dataclass
 from functools import cached_property
 from typing import Dict, List, NamedTuple, Optional, Sequence, Tuple
@@ -23,6 +24,7 @@ CONSTANT, READING = 0, 1
 RAW = {Kind.ADD: "add", Kind.SUBTRACT: "sub", Kind.MULTIPLY: "mul", Kind.DIVIDE: "div", Kind.CONVERT: "to"}
 SIGN = {Kind.ADD: "+", Kind.SUBTRACT: "-", Kind.MULTIPLY: "×", Kind.DIVIDE: "/"}
 HIGHEST_KIND = Kind.CONVERT
+LONGEST_PRODUCT = 10**15
 
 
 class Node(NamedTuple):
@@ -176,10 +178,21 @@ class Condition:
         for number, conjunct in enumerate(self.conjuncts):
             product = conjunct.combinations(columns)
             if product > MOST_COMBINATIONS:
-                shown = conjunct.atom_names(names)
-                told = " × ".join(f"{len(columns[atom.field])} of {shown[atom]}" for atom in conjunct.atoms)
-                return f"conjunct {number} has {told} = {count(product)}"
+                times = Counter(atom.field for atom in conjunct.atoms)
+                told = ", ".join(
+                    f"{names[field]} {_times(reads)} ({len(columns[field])} readings)" for field, reads in times.items()
+                )
+                return f"conjunct {number} reads {told}: {_product(product)} combinations"
         return None
+
+
+def _times(reads: int) -> str:
+    return "once" if reads == 1 else f"{reads} times"
+
+
+def _product(product: int) -> str:
+    """A number of combinations, a very long one by its length."""
+    return count(product) if product < LONGEST_PRODUCT else f"over 10^{len(str(product)) - 1}"
 
 
 def _parts(data: bytes) -> Tuple[List[int], List[bytes]]:
