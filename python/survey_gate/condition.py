@@ -180,13 +180,14 @@ class Condition:
             if product > MOST_COMBINATIONS:
                 times = Counter(atom.field for atom in conjunct.atoms)
                 told = ", ".join(
-                    f"{names[field]} {_times(reads)} ({len(columns[field])} readings)" for field, reads in times.items()
+                    f"{names[field]} {_times(reads)} (of {len(columns[field])})" for field, reads in times.items()
                 )
                 return f"conjunct {number} reads {told}: {_product(product)} combinations"
         return None
 
 
 def _times(reads: int) -> str:
+    """How often a conjunct reads a field."""
     return "once" if reads == 1 else f"{reads} times"
 
 

@@ -60,7 +60,7 @@ class Table:
         for part, readings in zip(self.recipe.fields, self.columns):
             if not readings:
                 wrong = f"the column {part.name} is blank, so nothing that reads {part.name} is tested"
-                self.warnings.append(Mistake(1, wrong, "a run that reads it ends there"))
+                self.warnings.append(Mistake(rows[0].line, wrong, "a run that reads it ends there"))
         return self
 
     def note(self, line: int, wrong: str, right: str) -> None:

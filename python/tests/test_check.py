@@ -36,7 +36,7 @@ class Statuses(unittest.TestCase):
         status, out, err = gate("check", many, wide, narrow)
         self.assertEqual((status, err), (2, ""))
         self.assertEqual(out.splitlines()[0], f"{wide}: refused 14: a conjunct has over 1,048,576 combinations of readings: "
-                         "conjunct 0 reads f 3 times (128 readings): 2,097,152 combinations")
+                         "conjunct 0 reads f 3 times (of 128): 2,097,152 combinations")
         self.assertEqual(out.splitlines()[1], f"{narrow}: pass")
 
     def test_2_the_recipe_is_refused(self):

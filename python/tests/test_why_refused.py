@@ -120,14 +120,14 @@ class Places(unittest.TestCase):
         sheet = Sheet.from_csv("f\n" + "0\n" * 128, recipe)
         with self.assertRaises(Refused) as raised:
             check(recipe, sheet)
-        place = "conjunct 0 reads f 3 times (128 readings): 2,097,152 combinations"
+        place = "conjunct 0 reads f 3 times (of 128): 2,097,152 combinations"
         self.assertEqual((raised.exception.number, raised.exception.place), (14, place))
 
     def test_14_with_more_than_can_be_counted(self):
         recipe = Recipe.from_text("field f u8\nfield g u8\nvar a u8\nvar b u8\n" + "b = read f\na = a + b\n" * 20 + "b = read g\na = a + b\nsite a\n")
         with self.assertRaises(Refused) as raised:
             check(recipe, Sheet(recipe.types, [[1] * 128, [1]]))
-        place = "conjunct 0 reads f 20 times (128 readings), g once (1 readings): over 10^42 combinations"
+        place = "conjunct 0 reads f 20 times (of 128), g once (of 1): over 10^42 combinations"
         self.assertEqual((raised.exception.number, raised.exception.place), (14, place))
 
     def test_13_names_the_entry(self):
