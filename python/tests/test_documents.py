@@ -1,11 +1,12 @@
 """The documents are true: the commands of RECIPES.md give what it prints, and the mends of REFUSALS.md serve."""
 
+import importlib.util
 import os
 import re
 import subprocess
 import unittest
 
-from support import ROOT, load
+from support import ROOT, load, vector
 
 from survey_gate import Condition, Recipe
 from survey_gate.library import load as library
@@ -89,6 +90,26 @@ class Mends(unittest.TestCase):
         head = "field f u8\nvar n u8\nvar one u8\nvar n32 u32\nvar x u32\nvar s u32\none = 1\ns = 5\nn = read f\n"
         self.assertEqual(self.answer(head + "while n\nx = x + s\nn = n - one\nend\nsite x\n"), 11)
         self.assertEqual(self.answer(head + "n32 = to n\nx = n32 * s\nsite x\n"), "conjuncts 1")
+
+
+class Cases(unittest.TestCase):
+    """cases/CASES.md is what its generator writes, and says rightly which files the programs have."""
+
+    def test_the_table_is_of_these_cases(self):
+        where = os.path.join(ROOT, "cases", "generators", "table.py")
+        spec = importlib.util.spec_from_file_location("table", where)
+        generator = importlib.util.module_from_spec(spec)
+        spec.loader.exec_module(generator)
+        self.assertEqual(load(ROOT, "cases", "CASES.md").decode(), generator.table())
+
+    def test_the_files_of_the_programs(self):
+        for program, case, kinds in (
+            ("gate", "000", ("condition", "sheet")),
+            ("run", "013", ("recipe", "sheet", "choices")),
+            ("guarded", "013", ("recipe", "sheet", "choices")),
+        ):
+            for kind in kinds:
+                self.assertEqual(load(ROOT, "crates", program, "data", kind), vector(case, kind), program)
 
 
 if __name__ == "__main__":
