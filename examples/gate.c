@@ -48,7 +48,12 @@ int main(int count, char **words) {
     recipe_length = load(words[1], recipe, sizeof recipe);
     sheet_length = load(words[2], sheet, sizeof sheet);
     for (at = 0; at < reads; at++) {
-        unsigned long choice = strtoul(words[at + 3], NULL, 10);
+        char *rest;
+        unsigned long choice = strtoul(words[at + 3], &rest, 10);
+        if (*rest || choice > UINT16_MAX) {
+            fprintf(stderr, "%s: no choice; a choice is a number from 0 to 65535\n", words[at + 3]);
+            return 3;
+        }
         choices[2 * at] = (uint8_t)choice;
         choices[2 * at + 1] = (uint8_t)(choice >> 8);
     }
