@@ -1,13 +1,24 @@
 /* The survey gate: from a recipe to its condition, from a condition and a sheet to a verdict, and a
  * recipe's run. Each function is proved to equal document 01's definition for every input.
+ * docs/FORMATS.md has the files byte by byte, docs/REFUSALS.md the refusals, examples/gate.c a program.
  *
- * A slice is a pointer and a number of elements. Slices that are written to must not overlap any
- * other. An answer's upper 32 bits are the number of the refusal, 1 to 14 (docs/REFUSALS.md), or 0;
- * its lower 32 bits are then what each function says. After a refusal everything that is lent, but
- * scratch, is as it was. What is in scratch before a call does not matter. After it the first
- * gate_scratch() words may hold anything, but that the refusals 1 to 8, and of gate_run every refusal,
- * leave them as they were; every word past them is as it was. A call takes less than 524,288 bytes of
- * stack.
+ * Slices. A slice is a pointer and a number of elements. With a length of 0 the pointer may be NULL,
+ * since nothing is read or written through it. Bytes may stand at any address; scratch, `steps` and
+ * `records` are aligned as uint64_t, and the last two are never NULL. Slices that are only read may
+ * overlap each other; what is written to (`condition`, `log`, `scratch`, `steps`, `records`) overlaps
+ * nothing else.
+ *
+ * Answers. An answer's upper 32 bits are the number of the refusal, 1 to 14, or 0; its lower 32 bits
+ * are then what each function says. After a refusal everything that is lent, but scratch, is as it was.
+ *
+ * Scratch. What is in it before a call does not matter; a call leaves some of its first gate_scratch()
+ * words changed. The words from gate_scratch() on are as they were. The refusals 1 to 8, and of
+ * gate_run every refusal, leave all of scratch as it was.
+ *
+ * Threads. The library keeps no state, takes no memory and reads no file. Any number of threads may
+ * call at once, each with its own scratch and its own outputs; what is only read may be shared.
+ *
+ * Stack. A call takes less than 524,288 bytes of stack.
  */
 #ifndef GATE_H
 #define GATE_H
@@ -19,30 +30,89 @@
 extern "C" {
 #endif
 
-/* The least number of bytes of a condition output. */
-#define GATE_CONDITION 61992
+/* Sizes. */
+#define GATE_SCRATCH_WORDS 85195u /* words of scratch that serve every call: gate_scratch() */
+#define GATE_CONDITION_BYTES 61992u /* the least bytes of a condition output; no condition is longer */
+#define GATE_RECIPE_BYTES 8384u /* the longest recipe */
+#define GATE_SHEET_BYTES 33024u /* the longest sheet */
+#define GATE_RECORD_BYTES 12u /* a record of a log */
+#define GATE_CHOICE_BYTES 2u /* a choice */
+#define GATE_STACK_BYTES 524288u /* the stack that is enough for every call */
+#define GATE_MOST_FIELDS 32u
+#define GATE_MOST_VARIABLES 64u
+#define GATE_MOST_TRAYS 16u
+#define GATE_MOST_CELLS 256u /* of a tray */
+#define GATE_MOST_STATEMENTS 1024u
+#define GATE_MOST_CONJUNCTS 64u
+#define GATE_MOST_NODES 120u /* of a conjunct */
+#define GATE_MOST_READINGS 128u /* of a field */
+#define GATE_MOST_COMBINATIONS 1048576u /* of a conjunct */
 
-/* The least number of words of scratch, for every call. */
+/* The verdict of gate_check. */
+enum gate_verdict { GATE_PASS = 0, GATE_HELD = 1 };
+
+/* The end of gate_run and gate_guarded; the last is of gate_guarded alone. */
+enum gate_end {
+    GATE_END_FINISHED = 0,
+    GATE_END_STEP_LIMIT = 1,
+    GATE_END_NO_READINGS = 2, /* a read of a field without readings */
+    GATE_END_CHOICES_USED_UP = 3,
+    GATE_END_LOG_FULL = 4,
+    GATE_END_HELD = 5 /* the sheet is held, and nothing was run */
+};
+
+/* The refusals. */
+enum gate_refusal {
+    GATE_REFUSAL_ROOM = 1, /* too little room was lent */
+    GATE_REFUSAL_RECIPE_TABLE = 2, /* the recipe's length or section table is wrong */
+    GATE_REFUSAL_ENTRIES = 3, /* a section has too many entries */
+    GATE_REFUSAL_DECLARATION = 4, /* a type code, a tray's length or its zero byte is wrong */
+    GATE_REFUSAL_STATEMENT = 5, /* a statement's kind, operand or unused byte is wrong */
+    GATE_REFUSAL_TYPES = 6, /* types disagree */
+    GATE_REFUSAL_NUMBER = 7, /* a number does not fit its type */
+    GATE_REFUSAL_BLOCKS = 8, /* blocks are unmatched or too deep */
+    GATE_REFUSAL_NODES = 9, /* an expression on its way to a site has over 120 nodes */
+    GATE_REFUSAL_CONJUNCTS = 10, /* there are over 64 expressions */
+    GATE_REFUSAL_LOOP = 11, /* a loop makes a value from its own earlier value */
+    GATE_REFUSAL_CONDITION = 12, /* the condition is damaged, or is no condition */
+    GATE_REFUSAL_SHEET = 13, /* the sheet is damaged, or belongs to another recipe */
+    GATE_REFUSAL_COMBINATIONS = 14 /* a conjunct has over 1,048,576 combinations of readings */
+};
+
+/* Of an answer: the number of the refusal, or 0; and what the function says where it is 0. */
+#define GATE_REFUSED(answer) ((uint32_t)((uint64_t)(answer) >> 32))
+#define GATE_VALUE(answer) ((uint32_t)(answer))
+
+/* Of a record, a pointer to its first byte: the site's label, whether a step of the value's making
+ * overflowed (never behind the gate), and the value, sign extended if its type is signed. */
+#define GATE_RECORD_LABEL(record) ((uint32_t)(record)[0] | (uint32_t)(record)[1] << 8)
+#define GATE_RECORD_MARK(record) ((record)[2])
+#define GATE_RECORD_VALUE(record) (GATE_WORD((record) + 4) | (uint64_t)GATE_WORD((record) + 8) << 32)
+#define GATE_WORD(bytes) \
+    ((uint32_t)(bytes)[0] | (uint32_t)(bytes)[1] << 8 | (uint32_t)(bytes)[2] << 16 | (uint32_t)(bytes)[3] << 24)
+
+/* The least number of words of scratch, for every call: GATE_SCRATCH_WORDS. */
 uint64_t gate_scratch(void);
 
 /* Derives the recipe's condition. Gives its length in bytes; it stands at the start of `condition`, and
- * every byte past it is as it was. Wants GATE_CONDITION bytes and gate_scratch() words, else refuses
+ * every byte past it is as it was. Wants GATE_CONDITION_BYTES and gate_scratch() words, else refuses
  * with 1; then 2 to 11. */
 uint64_t gate_derive(const uint8_t *recipe, size_t recipe_length,
                      uint8_t *condition, size_t condition_length,
                      uint64_t *scratch, size_t scratch_length);
 
-/* Gives 0 if the sheet passes under the condition and 1 if it is held, or refuses with 12 to 14.
- * Writes nothing. */
+/* Gives GATE_PASS if the sheet passes under the condition and GATE_HELD if it is held, or refuses with
+ * 12 to 14. Writes nothing. The condition must be the recipe's own: the gate cannot know from which
+ * recipe it came. */
 uint64_t gate_check(const uint8_t *condition, size_t condition_length,
                     const uint8_t *sheet, size_t sheet_length);
 
 /* Runs the recipe on the sheet for at most `limit` steps. `choices` has 2 bytes, little-endian, for each
- * read; an odd last byte is passed over. Gives the end: 0 finished, 1 step limit, 2 field without
- * readings, 3 choices used up, 4 log full. The records, 12 bytes each, stand at the start of `log`,
- * which may have any length, and every byte past them is as it was; the numbers of steps and of
- * records go to `steps` and `records`, which a refusal leaves as they were. Wants gate_scratch() words,
- * else refuses with 1; then 2 to 8 and 13. */
+ * read: which reading of its field it takes, modulo their number; an odd last byte is passed over.
+ * Gives the end. The records, GATE_RECORD_BYTES each, stand at the start of `log`, which may have any
+ * length, and every byte past them is as it was; the numbers of steps and of records go to `steps` and
+ * `records`, which a refusal leaves as they were. Wants gate_scratch() words, else refuses with 1; then
+ * 2 to 8 and 13. */
 uint64_t gate_run(const uint8_t *recipe, size_t recipe_length,
                   const uint8_t *sheet, size_t sheet_length, uint32_t limit,
                   const uint8_t *choices, size_t choices_length,
@@ -52,8 +122,8 @@ uint64_t gate_run(const uint8_t *recipe, size_t recipe_length,
 
 /* Derives the recipe's condition and runs the recipe only if the sheet passes under it. Gives the end
  * as gate_run, with `log`, `steps` and `records` as there and the condition as gate_derive writes it;
- * or 5 where the sheet is held, and then everything lent but scratch is as it was. Wants
- * GATE_CONDITION bytes and gate_scratch() words, else refuses with 1; then 2 to 11, 13 and 14. No
+ * or GATE_END_HELD where the sheet is held, and then everything lent but scratch is as it was. Wants
+ * GATE_CONDITION_BYTES and gate_scratch() words, else refuses with 1; then 2 to 11, 13 and 14. No
  * record that it writes is marked, and each is the whole number of the exact run. */
 uint64_t gate_guarded(const uint8_t *recipe, size_t recipe_length,
                       const uint8_t *sheet, size_t sheet_length, uint32_t limit,

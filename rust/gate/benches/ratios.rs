@@ -3,7 +3,15 @@
 //!
 //!     cargo bench
 
-use gate::*;
+#![allow(
+    clippy::cast_possible_truncation,
+    clippy::cast_possible_wrap,
+    clippy::cast_sign_loss,
+    clippy::cast_precision_loss,
+    reason = "the numbers of a test are small, and values wrap to their types"
+)]
+
+use gate::{check, derive, run, scratch, Choices, Refusal, Verdict, CONDITION};
 use gate_oracle as plain;
 use gate_oracle::build::{constant, recipe, s};
 use gate_oracle::generate::{self, Rng};
@@ -80,7 +88,7 @@ fn mixed() -> Vec<u8> {
             constant(0, 1),
             constant(1, 1_103_515_245),
             constant(2, 12_345),
-            constant(5, u32::MAX as i64),
+            constant(5, i64::from(u32::MAX)),
             constant(6, 1),
             s(14, 5, 0, 0),
             s(9, 0, 4, 0),
@@ -103,7 +111,7 @@ fn mixed() -> Vec<u8> {
 /// while n: x = read; site x; n = n - 1.
 fn reading() -> Vec<u8> {
     let code = [
-        constant(1, u32::MAX as i64),
+        constant(1, i64::from(u32::MAX)),
         constant(2, 1),
         s(14, 1, 0, 0),
         s(7, 0, 0, 0),
@@ -155,12 +163,12 @@ fn main() {
 
     heading("derive");
     let mut derives = |name: &str, unit: &str, count: f64, file: &[u8]| {
-        let answer = plain::derive(file).map(|file| file[0]).map_err(Refusal);
-        let ours = derive(file, &mut condition, &mut work).map(|_| condition[0]);
+        let answer = plain::derive(file).map(|file| file[0]);
+        let ours = derive(file, &mut condition, &mut work).map(|_| condition[0]).map_err(Refusal::number);
         assert_eq!(answer, ours);
         let name = match answer {
             Ok(conjuncts) => format!("{name}: {conjuncts} conjuncts"),
-            Err(refusal) => format!("{name}: refused {}", refusal.0),
+            Err(number) => format!("{name}: refused {number}"),
         };
         compare(&name, unit, count, || derive(file, &mut condition, &mut work), || plain::derive(file));
     };
@@ -203,10 +211,11 @@ fn main() {
 
     heading("run");
     let few = sheet(4, 3);
-    let choices: Vec<u8> = (0..800_000).map(|i| (i * 7) as u8).collect();
-    let mut runs = |name: &str, file: &[u8], limit: u32, choices: &[u8]| {
+    let none = Choices::default();
+    let choices = Choices::of_bytes((0..800_000).map(|i| (i * 7) as u8).collect::<Vec<u8>>());
+    let mut runs = |name: &str, file: &[u8], limit: u32, choices: &Choices| {
         let ours = run(file, &few, limit, choices, &mut log, &mut work).unwrap();
-        let theirs = plain::run(file, &few, limit, choices, &mut log).unwrap();
+        let theirs = plain::run(file, &few, limit, choices.as_bytes(), &mut log).unwrap();
         assert_eq!((ours.end as u8, ours.steps, ours.records), (theirs.end, theirs.steps, theirs.records));
         let mut other = vec![0u8; log.len()];
         compare(
@@ -214,11 +223,11 @@ fn main() {
             "step",
             ours.steps as f64,
             || run(file, &few, limit, choices, &mut log, &mut work),
-            || plain::run(file, &few, limit, choices, &mut other),
+            || plain::run(file, &few, limit, choices.as_bytes(), &mut other),
         );
     };
-    runs("a mixed loop, 1,000,000 steps", &mixed(), 1_000_000, &[]);
-    runs("a mixed loop, 100,000 steps", &mixed(), 100_000, &[]);
-    runs("a mixed loop, 100 steps", &mixed(), 100, &[]);
+    runs("a mixed loop, 1,000,000 steps", &mixed(), 1_000_000, &none);
+    runs("a mixed loop, 100,000 steps", &mixed(), 100_000, &none);
+    runs("a mixed loop, 100 steps", &mixed(), 100, &none);
     runs("reads and sites, 1,000,000 steps", &reading(), 1_000_000, &choices);
 }

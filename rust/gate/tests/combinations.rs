@@ -3,7 +3,14 @@
 //!
 //! CONJUNCTS gives the number of conjuncts, SEED the first one's seed; a conjunct is its seed.
 
-use gate::{check, Verdict};
+#![allow(
+    clippy::cast_possible_truncation,
+    clippy::cast_possible_wrap,
+    clippy::cast_sign_loss,
+    reason = "the numbers of a test are small, and values wrap to their types"
+)]
+
+use gate::{check, Refusal, Verdict};
 use gate_oracle::condition::{node, write};
 use gate_oracle::generate::Rng;
 
@@ -37,7 +44,7 @@ impl Fields {
 
     /// The readings: small ones, and now and then a large one.
     fn sheet(&self, rng: &mut Rng) -> Vec<u8> {
-        let large = rng.chance(50) as usize;
+        let large = usize::from(rng.chance(50));
         let (mut table, mut body): (Vec<u8>, Vec<u8>) = (Vec::new(), Vec::new());
         for (&ty, &count) in self.types.iter().zip(&self.counts) {
             table.extend((8 * self.types.len() as u32 + body.len() as u32).to_le_bytes());
@@ -105,10 +112,10 @@ fn many_combinations() {
         let condition = write(&fields.types, &[nodes]);
         let sheet = fields.sheet(rng);
         let expected = gate_oracle::check(&condition, &sheet);
-        let answer = check(&condition, &sheet).map(|verdict| verdict == Verdict::Pass).map_err(|refusal| refusal.0);
+        let answer = check(&condition, &sheet).map(|verdict| verdict == Verdict::Pass).map_err(Refusal::number);
         assert_eq!(expected, answer, "SEED={seed} CONJUNCTS=1");
-        passed += (expected == Ok(true)) as usize;
-        many += (expected == Ok(true) && fields.product >= 128) as usize;
+        passed += usize::from(expected == Ok(true));
+        many += usize::from(expected == Ok(true) && fields.product >= 128);
     }
     println!("{passed} of {conjuncts} passed, {many} of them with 128 combinations or more");
 }

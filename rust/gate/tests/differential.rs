@@ -3,7 +3,15 @@
 //!
 //! CASES gives the number of cases, SEED the first one's seed; both are printed. A case is its seed.
 
-use gate::*;
+#![allow(
+    clippy::cast_possible_truncation,
+    clippy::cast_possible_wrap,
+    clippy::cast_sign_loss,
+    reason = "the numbers of a test are small, and values wrap to their types"
+)]
+
+use gate::{check, derive, guarded, library, records, run, scratch, scratch_words};
+use gate::{Choices, Guarded, Ran, Refusal, Verdict, CONDITION, RECORD};
 use gate_oracle::generate::{self, Rng};
 use std::sync::atomic::{AtomicU64, Ordering};
 
@@ -32,6 +40,35 @@ fn numbers(ran: Ran) -> (u8, u64, u64) {
     (ran.end as u8, ran.steps, ran.records)
 }
 
+/// What a run takes.
+struct Inputs {
+    recipe: Vec<u8>,
+    sheet: Vec<u8>,
+    limit: u32,
+    choices: Choices,
+}
+
+impl Inputs {
+    fn of(rng: &mut Rng) -> Inputs {
+        let mut recipe = generate::recipe(rng);
+        if rng.chance(15) {
+            generate::damage(rng, &mut recipe);
+        }
+        let mut sheet = generate::sheet(rng, &field_types(&recipe));
+        if rng.chance(3) {
+            generate::damage(rng, &mut sheet);
+        }
+        let (limit, choices) = (generate::limit(rng), Choices::of_bytes(generate::choices(rng)));
+        Inputs { recipe, sheet, limit, choices }
+    }
+
+    /// The run as the other implementation has it.
+    fn expected(&self, log: &mut [u8]) -> Result<(u8, u64, u64), u8> {
+        let ran = gate_oracle::run(&self.recipe, &self.sheet, self.limit, self.choices.as_bytes(), log)?;
+        Ok((ran.end, ran.steps, ran.records))
+    }
+}
+
 struct Bench {
     condition: Vec<u8>,
     scratch: Vec<u64>,
@@ -54,7 +91,7 @@ impl Bench {
                 self.condition[..written].fill(MARK);
             }
             (Err(number), Err(refusal)) => {
-                assert_eq!(*number, refusal.0);
+                assert_eq!(*number, refusal.number());
                 assert!(untouched(&self.condition));
             }
             (expected, answer) => panic!("derive: {expected:?}, {answer:?}"),
@@ -62,15 +99,15 @@ impl Bench {
         expected
     }
 
-    /// Too little room is refused with 1, whatever the recipe, by the wrapper and by the library, and nothing is touched.
+    /// Too little room is refused with 1, whatever the recipe, and nothing is touched.
     fn short(&mut self, rng: &mut Rng, recipe: &[u8]) {
         let (room, words) = (CONDITION - 1 - rng.below(3), scratch_words() - 1 - rng.below(3));
         let Bench { condition, scratch } = self;
-        assert_eq!(derive(recipe, &mut condition[..room], scratch), Err(Refusal(1)));
-        assert_eq!(derive(recipe, condition, &mut scratch[..words]), Err(Refusal(1)));
+        assert_eq!(derive(recipe, &mut condition[..room], scratch), Err(Refusal::Room));
+        assert_eq!(derive(recipe, condition, &mut scratch[..words]), Err(Refusal::Room));
         let (to, work) = (condition.as_mut_ptr(), scratch.as_mut_ptr());
         let mut log = [MARK; 24];
-        assert_eq!(run(recipe, &[], 1, &[], &mut log, &mut scratch[..words]), Err(Refusal(1)));
+        assert_eq!(run(recipe, &[], 1, &Choices::default(), &mut log, &mut scratch[..words]), Err(Refusal::Room));
         // SAFETY: each length is at most that of the slice pointed to.
         unsafe {
             assert_eq!(library::gate_derive(recipe.as_ptr(), recipe.len(), to, room, work, scratch.len()), 1 << 32);
@@ -80,12 +117,38 @@ impl Bench {
             let (to_log, room) = (log.as_mut_ptr(), log.len());
             let (file, length) = (recipe.as_ptr(), recipe.len());
             let answer = library::gate_run(
-                file, length, none, 0, 1, none, 0, to_log, room, work, words, &mut steps, &mut records,
+                file,
+                length,
+                none,
+                0,
+                1,
+                none,
+                0,
+                to_log,
+                room,
+                work,
+                words,
+                &raw mut steps,
+                &raw mut records,
             );
             assert_eq!((answer, steps, records), (1 << 32, 7, 9));
             let all = condition.len();
             let answer = library::gate_guarded(
-                file, length, none, 0, 1, none, 0, to_log, room, to, all, work, words, &mut steps, &mut records,
+                file,
+                length,
+                none,
+                0,
+                1,
+                none,
+                0,
+                to_log,
+                room,
+                to,
+                all,
+                work,
+                words,
+                &raw mut steps,
+                &raw mut records,
             );
             assert_eq!((answer, steps, records), (1 << 32, 7, 9));
         }
@@ -93,37 +156,33 @@ impl Bench {
         assert!(untouched(&log));
     }
 
-    fn check(&self, condition: &[u8], sheet: &[u8]) -> Result<bool, u8> {
+    fn check(condition: &[u8], sheet: &[u8]) -> Result<bool, u8> {
         let expected = gate_oracle::check(condition, sheet);
-        let answer = check(condition, sheet).map(|verdict| verdict == Verdict::Pass).map_err(|refusal| refusal.0);
+        let answer = check(condition, sheet).map(|verdict| verdict == Verdict::Pass).map_err(Refusal::number);
         assert_eq!(expected, answer);
         expected
     }
 
-    fn run(&mut self, recipe: &[u8], sheet: &[u8], limit: u32, choices: &[u8], length: usize) {
+    fn run(&mut self, inputs: &Inputs, length: usize) {
         let (mut log, mut other) = (vec![MARK; length], vec![MARK; length]);
-        let expected = gate_oracle::run(recipe, sheet, limit, choices, &mut other);
-        let answer = run(recipe, sheet, limit, choices, &mut log, &mut self.scratch);
-        assert_eq!(
-            expected.map(|ran| (ran.end, ran.steps as u64, ran.records as u64)),
-            answer.map(numbers).map_err(|refusal| refusal.0)
-        );
+        let expected = inputs.expected(&mut other);
+        let Inputs { recipe, sheet, limit, choices } = inputs;
+        let answer = run(recipe, sheet, *limit, choices, &mut log, &mut self.scratch);
+        assert_eq!(expected, answer.map(numbers).map_err(Refusal::number));
         assert_eq!(log, other);
     }
 
     /// The run behind the gate, from the answers of the three apart.
     fn guarded(
         &mut self,
-        recipe: &[u8],
-        sheet: &[u8],
-        limit: u32,
-        choices: &[u8],
+        inputs: &Inputs,
         length: usize,
         derived: &Result<Vec<u8>, u8>,
         verdict: Option<Result<bool, u8>>,
     ) {
         let mut log = vec![MARK; length];
-        let answer = guarded(recipe, sheet, limit, choices, &mut log, &mut self.condition, &mut self.scratch);
+        let Inputs { recipe, sheet, limit, choices } = inputs;
+        let answer = guarded(recipe, sheet, *limit, choices, &mut log, &mut self.condition, &mut self.scratch);
         let expected = match (derived, verdict) {
             (Err(number), _) => Err(*number),
             (Ok(_), Some(Err(number))) => Err(number),
@@ -131,14 +190,13 @@ impl Bench {
             (derived, verdict) => panic!("{derived:?}, {verdict:?}"),
         };
         match (expected, answer) {
-            (Err(number), Err(refusal)) if number == refusal.0 => assert!(untouched(&log)),
+            (Err(number), Err(refusal)) if number == refusal.number() => assert!(untouched(&log)),
             (Ok(false), Ok(Guarded::Held)) => assert!(untouched(&log)),
             (Ok(true), Ok(Guarded::Ran(ran))) => {
                 let mut other = vec![MARK; length];
-                let expected = gate_oracle::run(recipe, sheet, limit, choices, &mut other).unwrap();
-                assert_eq!(numbers(ran), (expected.end, expected.steps as u64, expected.records as u64));
+                assert_eq!(Ok(numbers(ran)), inputs.expected(&mut other));
                 assert_eq!(log, other);
-                assert!(log.chunks_exact(RECORD).take(ran.records as usize).all(|record| record[2] == 0));
+                assert!(records(&log).take(ran.records as usize).all(|record| !record.marked));
                 let file = derived.as_ref().unwrap();
                 assert_eq!(&self.condition[..file.len()], &file[..]);
                 self.condition[..file.len()].fill(MARK);
@@ -150,25 +208,16 @@ impl Bench {
 
     fn case(&mut self, seed: u64) {
         let rng = &mut Rng::new(seed);
-        let mut recipe = generate::recipe(rng);
-        if rng.chance(15) {
-            generate::damage(rng, &mut recipe);
-        }
-        let mut sheet = generate::sheet(rng, &field_types(&recipe));
-        if rng.chance(3) {
-            generate::damage(rng, &mut sheet);
-        }
-        let (limit, choices) = (generate::limit(rng), generate::choices(rng));
+        let inputs = Inputs::of(rng);
         let length = generate::log_length(rng);
-
-        let derived = self.derive(rng, &recipe);
-        let verdict = derived.as_ref().ok().map(|condition| self.check(condition, &sheet));
-        self.run(&recipe, &sheet, limit, &choices, length);
-        self.guarded(&recipe, &sheet, limit, &choices, length, &derived, verdict);
-        if seed % 64 == 0 {
-            self.short(rng, &recipe);
+        let derived = self.derive(rng, &inputs.recipe);
+        let verdict = derived.as_ref().ok().map(|condition| Self::check(condition, &inputs.sheet));
+        self.run(&inputs, length);
+        self.guarded(&inputs, length, &derived, verdict);
+        if seed.is_multiple_of(64) {
+            self.short(rng, &inputs.recipe);
             for length in 0..3 * RECORD + 2 {
-                self.run(&recipe, &sheet, limit, &choices, length);
+                self.run(&inputs, length);
             }
         }
 
@@ -180,16 +229,16 @@ impl Bench {
             generate::damage(rng, &mut condition);
         }
         let sheet = generate::sheet(rng, &listed_types(&condition));
-        let _ = self.check(&condition, &sheet);
+        let _ = Self::check(&condition, &sheet);
     }
 }
 
 #[test]
 fn generated_cases() {
-    let (first, cases) = (setting("SEED", 1), setting("CASES", 1_000_000));
+    let (first, cases) = (setting("SEED", 1), setting("CASES", 100_000));
     println!("SEED={first} CASES={cases}");
     let next = AtomicU64::new(first);
-    let threads = std::thread::available_parallelism().map_or(1, |n| n.get());
+    let threads = std::thread::available_parallelism().map_or(1, std::num::NonZero::get);
     std::thread::scope(|scope| {
         for _ in 0..threads {
             scope.spawn(|| {

@@ -2,7 +2,7 @@
 //! process. The recipe has the deepest walk, four nested whiles, and the deepest descent of the gate, a
 //! sum of twenty readings.
 
-use gate::*;
+use gate::{check, derive, guarded, run, scratch, Choices, End, Guarded, Verdict, CONDITION};
 use gate_oracle::build::{recipe, s};
 
 const STACK: usize = 524_288;
@@ -22,7 +22,7 @@ fn deepest() -> Vec<u8> {
 const SHEET: [u8; 16] = [8, 0, 0, 0, 8, 0, 0, 0, 1, 0, 0, 0, 2, 0, 0, 0];
 
 fn all_calls() {
-    let (recipe, choices) = (deepest(), [0; 40]);
+    let (recipe, choices) = (deepest(), Choices::from([0; 20]));
     let (mut condition, mut log, mut work) = (vec![0; CONDITION], vec![0; 240], scratch());
     let length = derive(&recipe, &mut condition, &mut work).unwrap();
     assert_eq!(check(&condition[..length], &SHEET), Ok(Verdict::Pass));

@@ -1,6 +1,13 @@
 //! The outside vectors through the proved library: every answer and every output byte.
 
-use gate::*;
+#![allow(
+    clippy::cast_possible_truncation,
+    clippy::cast_possible_wrap,
+    clippy::cast_sign_loss,
+    reason = "the numbers of a test are small, and values wrap to their types"
+)]
+
+use gate::{check, derive, run, scratch, Choices, Ran, Refusal, Verdict, CONDITION, RECORD};
 use gate_oracle::run::choice_file;
 use std::fs;
 use std::path::PathBuf;
@@ -10,7 +17,7 @@ fn file(case: &str, name: &str) -> Option<Vec<u8>> {
 }
 
 fn refused(refusal: Refusal) -> String {
-    format!("refused {}", refusal.0)
+    format!("refused {}", refusal.number())
 }
 
 fn verdict(condition: &[u8], sheet: &[u8]) -> String {
@@ -55,8 +62,9 @@ fn all_cases() {
 
         let choices = input("choices");
         let (limit, choices) = choice_file(&choices);
+        let choices = Choices::of_bytes(choices);
         let mut log = vec![0xA5; log_length.parse().unwrap()];
-        let answer = match run(&recipe, &sheet, limit, choices, &mut log, &mut scratch) {
+        let answer = match run(&recipe, &sheet, limit, &choices, &mut log, &mut scratch) {
             Ok(Ran { end, steps, records }) => {
                 let written = RECORD * records as usize;
                 assert_eq!(Some(&log[..written]), file(case, "log").as_deref(), "{case}");

@@ -4,9 +4,9 @@
 //! kinds of atoms during the walk: variables, with their number in the place of
 //! the field number, and loaded values, with the load's label there and with n.
 
-use crate::condition::*;
-use crate::recipe::*;
-use crate::types::*;
+use crate::condition::{field, file_order, kind, node, ty, MOST_CONJUNCTS, MOST_NODES, READING};
+use crate::recipe::{Block, Recipe, Statement};
+use crate::types::{CONSTANT, CONVERT, COPY, END, LOAD, READ, SITE, STORE, WHILE};
 use std::cmp::Ordering;
 
 /// Node kinds that occur only during the walk.
@@ -92,7 +92,7 @@ fn renumber(conjunct: &mut [u64]) {
             let nameless = *n as u32;
             let same = after[..met].iter().filter(|&&a| a as u32 == nameless).count();
             before[met] = *n;
-            after[met] = nameless as u64 | (same as u64 + 1) << 32;
+            after[met] = u64::from(nameless) | (same as u64 + 1) << 32;
             met += 1;
             met - 1
         });
@@ -162,11 +162,7 @@ impl Walk<'_> {
     /// The set of one site at the recipe's start.
     fn site(&self, label: usize) -> Result<Set, u8> {
         let variable = self.recipe.statements[label].a;
-        let mut set = Set {
-            conjuncts: vec![vec![self.variable(variable)]],
-            variables: 1 << variable,
-            trays: 0,
-        };
+        let mut set = Set { conjuncts: vec![vec![self.variable(variable)]], variables: 1 << variable, trays: 0 };
         let mut at = label;
         let mut inside = self.recipe.inside[label];
         while let Some(block) = inside {
@@ -177,13 +173,13 @@ impl Walk<'_> {
             };
             set = self.back(start, at, set)?;
             if self.recipe.statements[block.open].kind == WHILE {
-                set = self.settle(block, set)?;
+                set = self.settle(block, &set)?;
             }
             at = block.open;
             inside = self.recipe.inside[at];
         }
         set = self.back(0, at, set)?;
-        self.start(set)
+        Self::start(set)
     }
 
     /// Walks back from the label `at` to the label `start` of the same block.
@@ -198,7 +194,7 @@ impl Walk<'_> {
                         let no = self.back(middle + 1, block.end, set)?;
                         union(&yes, no)?
                     }
-                    None => self.settle(block, set)?,
+                    None => self.settle(block, &set)?,
                 };
                 at = block.open;
             } else {
@@ -211,11 +207,11 @@ impl Walk<'_> {
     /// The whole of a while, from the set after it. S(0) is that set, S(k+1) is
     /// S(0) joined with the body's walk of S(k); the first S(k) equal to S(k-1),
     /// k from 1 to 16, is the result.
-    fn settle(&self, block: &Block, after: Set) -> Result<Set, u8> {
+    fn settle(&self, block: &Block, after: &Set) -> Result<Set, u8> {
         let mut last = after.clone();
         for _ in 0..MOST_ROUNDS {
             let body = self.back(block.open + 1, block.end, last.clone())?;
-            let next = union(&after, body)?;
+            let next = union(after, body)?;
             if next.conjuncts == last.conjuncts {
                 return Ok(next);
             }
@@ -227,7 +223,7 @@ impl Walk<'_> {
     /// The rule of one statement. Kinds 0 to 6 put in no atoms with n and leave
     /// those present in their order, so they need no renumbering.
     fn statement(&self, label: usize, set: &mut Set) -> Result<(), u8> {
-        let s = &self.recipe.statements[label];
+        let s = self.recipe.statements[label];
         if s.kind == STORE {
             return self.store(s, set);
         }
@@ -256,7 +252,7 @@ impl Walk<'_> {
             READ | LOAD => {
                 // A fresh atom has n = 0 until it is renumbered.
                 let new = if s.kind == READ {
-                    node(READING, ty, s.b as u16, 0)
+                    node(READING, ty, u16::from(s.b), 0)
                 } else {
                     set.trays |= 1 << s.b;
                     node(LOADED, ty, label as u16, 0)
@@ -278,7 +274,7 @@ impl Walk<'_> {
     }
 
     /// The rule of a store. It makes no conjunct longer, so 9 cannot arise.
-    fn store(&self, s: &Statement, set: &mut Set) -> Result<(), u8> {
+    fn store(&self, s: Statement, set: &mut Set) -> Result<(), u8> {
         let bit = 1u16 << s.a;
         if set.trays & bit == 0 {
             return Ok(());
@@ -313,7 +309,7 @@ impl Walk<'_> {
             }
             for subset in 1..1 << atoms.len() {
                 let mut replaced = conjunct.clone();
-                for n in replaced.iter_mut() {
+                for n in &mut replaced {
                     if let Some(place) = atoms.iter().position(|atom| atom == n) {
                         if subset >> place & 1 == 1 {
                             *n = stored;
@@ -330,7 +326,7 @@ impl Walk<'_> {
     }
 
     /// The rule at the recipe's start: every variable and cell is 0 there.
-    fn start(&self, mut set: Set) -> Result<Set, u8> {
+    fn start(mut set: Set) -> Result<Set, u8> {
         set.variables = 0;
         set.trays = 0;
         set.change(|conjunct| {
@@ -348,7 +344,7 @@ impl Walk<'_> {
 
     /// The node of a variable.
     fn variable(&self, variable: u8) -> u64 {
-        node(VARIABLE, self.recipe.variables[variable as usize], variable as u16, 0)
+        node(VARIABLE, self.recipe.variables[variable as usize], u16::from(variable), 0)
     }
 
     /// Whether a node is a value loaded from a tray.

@@ -12,6 +12,7 @@ pub struct BigInt {
 }
 
 impl BigInt {
+    #[must_use]
     pub fn zero() -> BigInt {
         BigInt::default()
     }
@@ -23,28 +24,32 @@ impl BigInt {
         BigInt { negative: negative && !digits.is_empty(), digits }
     }
 
+    #[must_use]
     pub fn is_zero(&self) -> bool {
         self.digits.is_empty()
     }
 
+    #[must_use]
     pub fn is_negative(&self) -> bool {
         self.negative
     }
 
     /// The number of bits of the magnitude; 0 for zero.
+    #[must_use]
     pub fn bits(&self) -> u64 {
         match self.digits.last() {
             None => 0,
-            Some(top) => 32 * self.digits.len() as u64 - top.leading_zeros() as u64,
+            Some(top) => 32 * self.digits.len() as u64 - u64::from(top.leading_zeros()),
         }
     }
 
     /// The number as an `i128` if it fits.
+    #[must_use]
     pub fn to_i128(&self) -> Option<i128> {
         if self.digits.len() > 4 {
             return None;
         }
-        let magnitude = self.digits.iter().rev().fold(0u128, |sum, &d| sum << 32 | d as u128);
+        let magnitude = self.digits.iter().rev().fold(0u128, |sum, &d| sum << 32 | u128::from(d));
         if self.negative {
             (magnitude <= 1 << 127).then(|| (magnitude as i128).wrapping_neg())
         } else {
@@ -52,15 +57,18 @@ impl BigInt {
         }
     }
 
+    #[must_use]
     pub fn negate(mut self) -> BigInt {
         self.negative = !self.negative && !self.digits.is_empty();
         self
     }
 
+    #[must_use]
     pub fn add(&self, other: &BigInt) -> BigInt {
         self.add_signed(other, other.negative)
     }
 
+    #[must_use]
     pub fn subtract(&self, other: &BigInt) -> BigInt {
         self.add_signed(other, !other.negative)
     }
@@ -75,11 +83,13 @@ impl BigInt {
         }
     }
 
+    #[must_use]
     pub fn multiply(&self, other: &BigInt) -> BigInt {
         BigInt::new(self.negative != other.negative, multiply(&self.digits, &other.digits))
     }
 
     /// The quotient with its fraction dropped toward zero; nothing for a zero divisor.
+    #[must_use]
     pub fn divide(&self, other: &BigInt) -> Option<BigInt> {
         if other.is_zero() {
             return None;
@@ -127,9 +137,7 @@ impl fmt::Display for BigInt {
             groups.push(divide_small(&mut rest, 1_000_000_000));
         }
         let mut text = groups.pop().unwrap_or(0).to_string();
-        for group in groups.iter().rev() {
-            text.push_str(&format!("{group:09}"));
-        }
+        text.extend(groups.iter().rev().map(|group| format!("{group:09}")));
         f.pad_integral(!self.negative, "", &text)
     }
 }
@@ -143,7 +151,7 @@ fn add(left: &[u32], right: &[u32]) -> Vec<u32> {
     let mut sum = Vec::with_capacity(long.len() + 1);
     let mut carry = 0u64;
     for (i, &digit) in long.iter().enumerate() {
-        carry += digit as u64 + short.get(i).copied().unwrap_or(0) as u64;
+        carry += u64::from(digit) + u64::from(short.get(i).copied().unwrap_or(0));
         sum.push(carry as u32);
         carry >>= 32;
     }
@@ -156,9 +164,9 @@ fn subtract(left: &[u32], right: &[u32]) -> Vec<u32> {
     let mut difference = Vec::with_capacity(left.len());
     let mut borrow = 0i64;
     for (i, &digit) in left.iter().enumerate() {
-        let part = digit as i64 - right.get(i).copied().unwrap_or(0) as i64 - borrow;
+        let part = i64::from(digit) - i64::from(right.get(i).copied().unwrap_or(0)) - borrow;
         difference.push(part as u32);
-        borrow = (part < 0) as i64;
+        borrow = i64::from(part < 0);
     }
     difference
 }
@@ -168,7 +176,7 @@ fn multiply(left: &[u32], right: &[u32]) -> Vec<u32> {
     for (i, &l) in left.iter().enumerate() {
         let mut carry = 0u64;
         for (j, &r) in right.iter().enumerate() {
-            carry += l as u64 * r as u64 + product[i + j] as u64;
+            carry += u64::from(l) * u64::from(r) + u64::from(product[i + j]);
             product[i + j] = carry as u32;
             carry >>= 32;
         }
@@ -181,9 +189,9 @@ fn multiply(left: &[u32], right: &[u32]) -> Vec<u32> {
 fn divide_small(digits: &mut Vec<u32>, divisor: u32) -> u32 {
     let mut remainder = 0u64;
     for digit in digits.iter_mut().rev() {
-        let part = remainder << 32 | *digit as u64;
-        *digit = (part / divisor as u64) as u32;
-        remainder = part % divisor as u64;
+        let part = remainder << 32 | u64::from(*digit);
+        *digit = (part / u64::from(divisor)) as u32;
+        remainder = part % u64::from(divisor);
     }
     while digits.last() == Some(&0) {
         digits.pop();
@@ -205,14 +213,14 @@ fn divide(left: &[u32], right: &[u32]) -> Vec<u32> {
     let shift = right[right.len() - 1].leading_zeros();
     let divisor = shift_left(right, shift);
     let n = right.len();
-    let (top, second) = (divisor[n - 1] as u64, divisor[n - 2] as u64);
+    let (top, second) = (u64::from(divisor[n - 1]), u64::from(divisor[n - 2]));
     let mut rest = shift_left(left, shift);
     let mut quotient = vec![0u32; left.len() - n + 1];
     for j in (0..quotient.len()).rev() {
-        let head = (rest[j + n] as u64) << 32 | rest[j + n - 1] as u64;
+        let head = u64::from(rest[j + n]) << 32 | u64::from(rest[j + n - 1]);
         let mut trial = head / top;
         let mut over = head % top;
-        while trial >> 32 != 0 || trial * second > (over << 32 | rest[j + n - 2] as u64) {
+        while trial >> 32 != 0 || trial * second > (over << 32 | u64::from(rest[j + n - 2])) {
             trial -= 1;
             over += top;
             if over >> 32 != 0 {
@@ -222,20 +230,20 @@ fn divide(left: &[u32], right: &[u32]) -> Vec<u32> {
         let mut borrow = 0i64;
         let mut carry = 0u64;
         for i in 0..n {
-            carry += trial * divisor[i] as u64;
-            let part = rest[i + j] as i64 - (carry as u32) as i64 - borrow;
+            carry += trial * u64::from(divisor[i]);
+            let part = i64::from(rest[i + j]) - i64::from(carry as u32) - borrow;
             rest[i + j] = part as u32;
-            borrow = (part < 0) as i64;
+            borrow = i64::from(part < 0);
             carry >>= 32;
         }
-        let part = rest[j + n] as i64 - carry as i64 - borrow;
+        let part = i64::from(rest[j + n]) - carry as i64 - borrow;
         rest[j + n] = part as u32;
         if part < 0 {
             // The trial digit was one too high: put the divisor back once.
             trial -= 1;
             let mut carry = 0u64;
             for i in 0..n {
-                carry += rest[i + j] as u64 + divisor[i] as u64;
+                carry += u64::from(rest[i + j]) + u64::from(divisor[i]);
                 rest[i + j] = carry as u32;
                 carry >>= 32;
             }
@@ -251,7 +259,7 @@ fn shift_left(digits: &[u32], shift: u32) -> Vec<u32> {
     let mut shifted = Vec::with_capacity(digits.len() + 1);
     let mut carry = 0u64;
     for &digit in digits {
-        carry |= (digit as u64) << shift;
+        carry |= u64::from(digit) << shift;
         shifted.push(carry as u32);
         carry >>= 32;
     }
@@ -273,15 +281,15 @@ mod tests {
 
     /// A number of up to 126 bits with runs of ones and zeros at times.
     fn number(state: &mut u64) -> i128 {
-        let mut n = (random(state) as i128) << 62 ^ random(state) as i128;
-        if random(state) % 3 == 0 {
+        let mut n = i128::from(random(state)) << 62 ^ i128::from(random(state));
+        if random(state).is_multiple_of(3) {
             n |= 0xffff_ffff << (random(state) % 64);
         }
-        if random(state) % 3 == 0 {
+        if random(state).is_multiple_of(3) {
             n &= !(0xffff_ffff << (random(state) % 64));
         }
         n >>= random(state) % 120;
-        if random(state) % 2 == 0 {
+        if random(state).is_multiple_of(2) {
             -n
         } else {
             n

@@ -1,6 +1,7 @@
 //! Recipes by their parts, for tests and benchmarks.
 
 /// The recipe file of its four sections.
+#[must_use]
 pub fn recipe(fields: &[u8], variables: &[u8], trays: &[[u8; 4]], statements: &[[u8; 8]]) -> Vec<u8> {
     let (trays, statements) = (trays.concat(), statements.concat());
     let sections = [fields, variables, &trays, &statements];
@@ -16,11 +17,13 @@ pub fn recipe(fields: &[u8], variables: &[u8], trays: &[[u8; 4]], statements: &[
 }
 
 /// A statement without an immediate.
+#[must_use]
 pub fn s(kind: u8, a: u8, b: u8, c: u8) -> [u8; 8] {
     [kind, a, b, c, 0, 0, 0, 0]
 }
 
 /// A variable set to a number.
+#[must_use]
 pub fn constant(a: u8, value: i64) -> [u8; 8] {
     let v = (value as u32).to_le_bytes();
     [0, a, 0, 0, v[0], v[1], v[2], v[3]]

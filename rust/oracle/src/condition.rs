@@ -5,7 +5,7 @@
 //! or n in 32 to 63.
 
 use crate::recipe::{word, MOST_FIELDS};
-use crate::types::*;
+use crate::types::{immediate, is_signed, ADD, CONSTANT, CONVERT, DIVIDE, MULTIPLY, SUBTRACT, TYPES};
 use std::cmp::Ordering;
 use std::fmt::Write;
 
@@ -15,23 +15,28 @@ pub const MOST_NODES: usize = 120;
 /// The kind of a node that reads a field. (1 is a copy among statements.)
 pub const READING: u8 = 1;
 
+#[must_use]
 pub fn node(kind: u8, ty: u8, field: u16, rest: u32) -> u64 {
-    kind as u64 | (ty as u64) << 8 | (field as u64) << 16 | (rest as u64) << 32
+    u64::from(kind) | u64::from(ty) << 8 | u64::from(field) << 16 | u64::from(rest) << 32
 }
 
+#[must_use]
 pub fn kind(node: u64) -> u8 {
     node as u8
 }
 
+#[must_use]
 pub fn ty(node: u64) -> u8 {
     (node >> 8) as u8
 }
 
+#[must_use]
 pub fn field(node: u64) -> usize {
     (node >> 16) as u16 as usize
 }
 
 /// The immediate or n.
+#[must_use]
 pub fn rest(node: u64) -> u32 {
     (node >> 32) as u32
 }
@@ -43,6 +48,7 @@ pub struct Condition {
 }
 
 /// The order of conjuncts in a file: by node count, then by bytes.
+#[must_use]
 pub fn file_order(left: &[u64], right: &[u64]) -> Ordering {
     let bytes = |nodes: &[u64], i: usize| nodes[i].swap_bytes();
     left.len().cmp(&right.len()).then_with(|| {
@@ -171,6 +177,7 @@ fn well_formed(nodes: &[u64], types: &[u8]) -> bool {
 }
 
 /// The listing of conjuncts that stand in file order.
+#[must_use]
 pub fn listing(conjuncts: &[Vec<u64>]) -> String {
     let mut text = format!("conjuncts {}\n", conjuncts.len());
     for (place, conjunct) in conjuncts.iter().enumerate() {

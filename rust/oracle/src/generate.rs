@@ -2,13 +2,17 @@
 
 use crate::condition::{self, file_order, node, MOST_NODES, READING};
 use crate::recipe::{word, MOST_STATEMENTS};
-use crate::types::*;
+use crate::types::{
+    immediate, is_signed, width, wrap, ADD, CONSTANT, CONVERT, COPY, DIVIDE, ELSE, END, IF, LOAD, MULTIPLY, READ, SITE,
+    STORE, SUBTRACT, TYPES, WHILE,
+};
 
 /// A small random generator (splitmix).
 pub struct Rng(u64);
 
 impl Rng {
     /// A generator for a seed; neighbouring seeds give unrelated numbers.
+    #[must_use]
     pub fn new(seed: u64) -> Rng {
         Rng(seed.wrapping_mul(0x2545_f491_4f6c_dd1d))
     }
@@ -95,15 +99,13 @@ pub fn recipe(rng: &mut Rng) -> Vec<u8> {
     if rng.chance(6) {
         return recipe_at_a_limit(rng);
     }
-    let palette: Vec<u8> =
-        (0..rng.between(1, 3)).map(|_| rng.pick(&[0, 1, 1, 2, 2, 2, 3, 4, 5, 6, 6, 7])).collect();
+    let palette: Vec<u8> = (0..rng.between(1, 3)).map(|_| rng.pick(&[0, 1, 1, 2, 2, 2, 3, 4, 5, 6, 6, 7])).collect();
     let any = |rng: &mut Rng| if rng.chance(90) { rng.pick(&palette) } else { rng.below(8) as u8 };
     let field_count = rng.pick(&[0, 1, 1, 1, 2, 2, 2, 2, 3, 3, 3, 4, 6]);
     let fields: Vec<u8> = (0..field_count).map(|_| any(rng)).collect();
     let ordinary = rng.between(2, 10);
-    let mut variables: Vec<u8> = (0..ordinary)
-        .map(|_| if field_count > 0 && rng.chance(60) { rng.pick(&fields) } else { any(rng) })
-        .collect();
+    let mut variables: Vec<u8> =
+        (0..ordinary).map(|_| if field_count > 0 && rng.chance(60) { rng.pick(&fields) } else { any(rng) }).collect();
     for _ in 0..rng.between(2, 4) {
         variables.push(rng.pick(&[0, 0, 1, 2, 3, 4, 6]));
     }
@@ -111,26 +113,13 @@ pub fn recipe(rng: &mut Rng) -> Vec<u8> {
     let mut trays = Vec::new();
     for _ in 0..rng.pick(&[0, 0, 1, 1, 1, 2, 3]) {
         let length = rng.pick(&[1, 1, 1, 2, 2, 3, 4, 7, 256]);
-        trays.push((
-            if rng.chance(80) { rng.pick(&variables[..ordinary]) } else { any(rng) },
-            length,
-        ));
+        trays.push((if rng.chance(80) { rng.pick(&variables[..ordinary]) } else { any(rng) }, length));
     }
     let wild = rng.chance(20);
     let ranks = trays.iter().map(|_| rng.below(ordinary + 1)).collect();
     let (values, held) = (vec![ZERO; variables.len()], vec![ZERO; trays.len()]);
-    let mut maker = Maker {
-        rng,
-        fields,
-        variables,
-        trays,
-        statements: Vec::new(),
-        ordinary,
-        wild,
-        values,
-        held,
-        ranks,
-    };
+    let mut maker =
+        Maker { rng, fields, variables, trays, statements: Vec::new(), ordinary, wild, values, held, ranks };
     let size = maker.rng.pick(&[4, 8, 12, 16, 20, 25, 30, 40, 60, 120]);
     let size = if maker.rng.chance(1) { 900 } else { size };
     // Mostly some readings to begin with.
@@ -205,8 +194,7 @@ fn recipe_at_a_limit(rng: &mut Rng) -> Vec<u8> {
 
 /// The file of a recipe.
 fn write(fields: &[u8], variables: &[u8], trays: &[(u8, u16)], statements: &[[u8; 8]]) -> Vec<u8> {
-    let trays: Vec<u8> =
-        trays.iter().flat_map(|&(ty, length)| [ty, 0, length as u8, (length >> 8) as u8]).collect();
+    let trays: Vec<u8> = trays.iter().flat_map(|&(ty, length)| [ty, 0, length as u8, (length >> 8) as u8]).collect();
     let statements: Vec<u8> = statements.concat();
     let sections = [fields, variables, &trays, &statements];
     let mut file = Vec::new();
@@ -255,8 +243,7 @@ impl Maker<'_> {
     fn set_constant(&mut self, a: usize) {
         let ty = self.variables[a];
         let any = edge_or_small(self.rng, ty);
-        let value =
-            if immediate(ty, any as u32) == Some(any) { any } else { self.rng.below(8) as u64 };
+        let value = if immediate(ty, any as u32) == Some(any) { any } else { self.rng.below(8) as u64 };
         self.push(CONSTANT, a, 0, 0, value as u32);
         self.values[a] = ZERO;
     }
@@ -264,8 +251,7 @@ impl Maker<'_> {
     /// A variable of a type to take from, below a rank if inside a loop.
     fn source(&mut self, ty: u8, rank: usize, looped: bool) -> Option<usize> {
         let free = self.wild || !looped || self.rng.chance(3);
-        let right: Vec<usize> =
-            (0..self.ordinary).filter(|&v| self.variables[v] == ty && (free || v < rank)).collect();
+        let right: Vec<usize> = (0..self.ordinary).filter(|&v| self.variables[v] == ty && (free || v < rank)).collect();
         if right.is_empty() {
             None
         } else {
@@ -289,8 +275,8 @@ impl Maker<'_> {
         let ty = self.variables[a];
         let sources = (self.source(ty, a, looped), self.source(ty, a, looped));
         let (Some(b), Some(c)) = sources else { return self.read() };
-        let (x, y) = (self.values[b], self.values[c]);
-        let guess = guess(x.nodes + y.nodes + 1, x.ways * y.ways);
+        let (left, right) = (self.values[b], self.values[c]);
+        let guess = guess(left.nodes + right.nodes + 1, left.ways * right.ways);
         if !self.wild && (guess.nodes > 115 || guess.ways > 40) && self.rng.chance(97) {
             return self.read();
         }
@@ -324,8 +310,7 @@ impl Maker<'_> {
 
     /// Some unsigned variable for an index; the last one is.
     fn index(&mut self) -> usize {
-        let right: Vec<usize> =
-            (0..self.variables.len()).filter(|&v| !is_signed(self.variables[v])).collect();
+        let right: Vec<usize> = (0..self.variables.len()).filter(|&v| !is_signed(self.variables[v])).collect();
         if self.rng.chance(60) {
             self.variables.len() - 1
         } else {
@@ -422,10 +407,7 @@ impl Maker<'_> {
         let before = (self.values.clone(), self.held.clone());
         let spare: Vec<usize> = (self.ordinary..self.variables.len() - 1).collect();
         let counter = self.rng.pick(&spare);
-        let one = spare
-            .iter()
-            .copied()
-            .find(|&v| v != counter && self.variables[v] == self.variables[counter]);
+        let one = spare.iter().copied().find(|&v| v != counter && self.variables[v] == self.variables[counter]);
         match (self.rng.below(10), one) {
             (0..=5, Some(one)) => {
                 let turns = self.rng.between(1, 4) as u32;
@@ -537,7 +519,7 @@ fn is_recipe(bytes: &[u8]) -> bool {
     bytes.len() >= 32
         && (0..4).all(|i| {
             let length = word(bytes, 8 * i + 4) as usize;
-            let right = word(bytes, 8 * i) as usize == start && length % [1, 1, 4, 8][i] == 0;
+            let right = word(bytes, 8 * i) as usize == start && length.is_multiple_of([1, 1, 4, 8][i]);
             start += length;
             right
         })
@@ -554,10 +536,8 @@ fn damage_recipe(rng: &mut Rng, bytes: &mut Vec<u8>) {
     let mut parts: Vec<Vec<u8>> = (0..4).map(|i| bytes[section(bytes, i)].to_vec()).collect();
     let statement = |rng: &mut Rng, parts: &[Vec<u8>]| 8 * rng.below((parts[3].len() / 8).max(1));
     let of_kinds = |rng: &mut Rng, parts: &[Vec<u8>], kinds: std::ops::RangeInclusive<u8>| {
-        let right: Vec<usize> = (0..parts[3].len() / 8)
-            .map(|s| 8 * s)
-            .filter(|&s| kinds.contains(&parts[3][s]))
-            .collect();
+        let right: Vec<usize> =
+            (0..parts[3].len() / 8).map(|s| 8 * s).filter(|&s| kinds.contains(&parts[3][s])).collect();
         if right.is_empty() {
             None
         } else {
@@ -611,9 +591,7 @@ fn damage_recipe(rng: &mut Rng, bytes: &mut Vec<u8>) {
             if let Some(at) = of_kinds(rng, &parts, COPY..=STORE) {
                 let names = parts[1].len().max(1);
                 let place = at + rng.between(1, 3);
-                if parts[3][at] != COPY && parts[3][at] != CONVERT && parts[3][at] != READ
-                    || place < at + 3
-                {
+                if parts[3][at] != COPY && parts[3][at] != CONVERT && parts[3][at] != READ || place < at + 3 {
                     parts[3][place] = rng.below(names) as u8;
                 }
             }
@@ -621,17 +599,8 @@ fn damage_recipe(rng: &mut Rng, bytes: &mut Vec<u8>) {
         // An immediate outside its type.
         8 | 9 => {
             if let Some(at) = of_kinds(rng, &parts, CONSTANT..=CONSTANT) {
-                let value = rng.pick(&[
-                    0x80u32,
-                    0xff,
-                    0x100,
-                    0x8000,
-                    0xffff,
-                    0x10000,
-                    0x8000_0000,
-                    0xffff_ffff,
-                    0xffff_ff7f,
-                ]);
+                let value =
+                    rng.pick(&[0x80u32, 0xff, 0x100, 0x8000, 0xffff, 0x10000, 0x8000_0000, 0xffff_ffff, 0xffff_ff7f]);
                 parts[3][at + 4..at + 8].copy_from_slice(&value.to_le_bytes());
             }
         }
@@ -699,8 +668,7 @@ pub fn sheet(rng: &mut Rng, types: &[u8]) -> Vec<u8> {
 
 /// A made-up condition in form over any types; one in five is damaged.
 pub fn condition(rng: &mut Rng) -> Vec<u8> {
-    let types: Vec<u8> =
-        (0..rng.pick(&[0, 1, 2, 3, 4, 8, 32])).map(|_| rng.below(8) as u8).collect();
+    let types: Vec<u8> = (0..rng.pick(&[0, 1, 2, 3, 4, 8, 32])).map(|_| rng.below(8) as u8).collect();
     let count = rng.pick(&[0, 1, 1, 2, 3, 5, 12, 64]);
     let mut conjuncts: Vec<Vec<u64>> = Vec::new();
     for _ in 0..count {
@@ -715,7 +683,8 @@ pub fn condition(rng: &mut Rng) -> Vec<u8> {
     conjuncts.dedup();
     if rng.chance(3) && conjuncts.len() > 1 {
         let (i, j) = (rng.below(conjuncts.len()), rng.below(conjuncts.len()));
-        conjuncts[i] = conjuncts[j].clone();
+        let copy = conjuncts[j].clone();
+        conjuncts[i] = copy;
     }
     let mut file = condition::write(&types, &conjuncts);
     if rng.chance(20) {
@@ -725,14 +694,7 @@ pub fn condition(rng: &mut Rng) -> Vec<u8> {
 }
 
 /// Appends an expression of a type with at most `size` nodes, n numbered by first appearance.
-fn expression(
-    rng: &mut Rng,
-    types: &[u8],
-    ty: u8,
-    size: usize,
-    highest: &mut [u32; 32],
-    nodes: &mut Vec<u64>,
-) {
+fn expression(rng: &mut Rng, types: &[u8], ty: u8, size: usize, highest: &mut [u32; 32], nodes: &mut Vec<u64>) {
     if size >= 3 && rng.chance(80) {
         let left = rng.between(1, size - 2);
         expression(rng, types, ty, left, highest, nodes);
@@ -743,8 +705,7 @@ fn expression(
     }
     let right: Vec<usize> = (0..types.len()).filter(|&f| types[f] == ty).collect();
     if size >= 2 && (right.is_empty() || rng.chance(40)) {
-        let from =
-            if types.is_empty() || rng.chance(20) { rng.below(8) as u8 } else { rng.pick(types) };
+        let from = if types.is_empty() || rng.chance(20) { rng.below(8) as u8 } else { rng.pick(types) };
         expression(rng, types, from, size - 1, highest, nodes);
         nodes.push(node(CONVERT, ty, 0, 0));
         return;
@@ -752,8 +713,7 @@ fn expression(
     if !right.is_empty() && rng.chance(85) {
         let field = rng.pick(&right);
         let fresh = highest[field] == 0 || (highest[field] < 4 && rng.chance(40));
-        let n =
-            if fresh { highest[field] + 1 } else { rng.between(1, highest[field] as usize) as u32 };
+        let n = if fresh { highest[field] + 1 } else { rng.between(1, highest[field] as usize) as u32 };
         highest[field] = highest[field].max(n);
         nodes.push(node(READING, ty, field as u16, n));
         return;

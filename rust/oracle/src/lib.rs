@@ -5,6 +5,14 @@
 //! table. Cause 1 speaks of lent lengths and cannot arise here, since the
 //! library owns its outputs and scratch.
 
+#![allow(
+    clippy::cast_possible_truncation,
+    clippy::cast_possible_wrap,
+    clippy::cast_sign_loss,
+    reason = "values wrap to their types, and file numbers are narrowed where the document bounds them"
+)]
+#![allow(clippy::missing_errors_doc, reason = "every error is a refusal's number, as said above")]
+
 pub mod analysis;
 pub mod bigint;
 pub mod build;
@@ -36,6 +44,7 @@ pub fn check(condition: &[u8], sheet: &[u8]) -> Result<bool, u8> {
 }
 
 /// What the listing program prints for a recipe.
+#[must_use]
 pub fn listing(recipe: &[u8]) -> String {
     let conjuncts = recipe::Recipe::read(recipe).and_then(|r| analysis::conjuncts(&r));
     match conjuncts {

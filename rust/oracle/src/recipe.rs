@@ -1,6 +1,8 @@
 //! The recipe reader: checks 2 to 8, each over the whole recipe before the next.
 
-use crate::types::*;
+use crate::types::{
+    immediate, is_signed, ADD, CONSTANT, CONVERT, COPY, DIVIDE, ELSE, END, IF, LOAD, READ, SITE, STORE, WHILE,
+};
 
 pub const LONGEST: usize = 8_384;
 pub const MOST_FIELDS: usize = 32;
@@ -46,6 +48,7 @@ pub struct Recipe {
 }
 
 /// The little-endian number at a place.
+#[must_use]
 pub fn word(bytes: &[u8], at: usize) -> u32 {
     u32::from_le_bytes([bytes[at], bytes[at + 1], bytes[at + 2], bytes[at + 3]])
 }
@@ -70,22 +73,15 @@ impl Recipe {
             .chunks_exact(8)
             .map(|s| Statement { kind: s[0], a: s[1], b: s[2], c: s[3], immediate: word(s, 4) })
             .collect();
-        let mut recipe = Recipe {
-            fields,
-            variables,
-            trays,
-            statements,
-            blocks: Vec::new(),
-            block: Vec::new(),
-            inside: Vec::new(),
-        };
-        if !recipe.statements.iter().all(|s| recipe.operands_right(s)) {
+        let mut recipe =
+            Recipe { fields, variables, trays, statements, blocks: Vec::new(), block: Vec::new(), inside: Vec::new() };
+        if !recipe.statements.iter().all(|&s| recipe.operands_right(s)) {
             return Err(5);
         }
-        if !recipe.statements.iter().all(|s| recipe.types_agree(s)) {
+        if !recipe.statements.iter().all(|&s| recipe.types_agree(s)) {
             return Err(6);
         }
-        if !recipe.statements.iter().all(|s| recipe.immediate_fits(s)) {
+        if !recipe.statements.iter().all(|&s| recipe.immediate_fits(s)) {
             return Err(7);
         }
         recipe.match_blocks().ok_or(8)?;
@@ -93,7 +89,7 @@ impl Recipe {
     }
 
     /// Check 5: the kind, what the operands name, and zero in the unused bytes.
-    fn operands_right(&self, s: &Statement) -> bool {
+    fn operands_right(&self, s: Statement) -> bool {
         let variable = |n: u8| (n as usize) < self.variables.len();
         let field = |n: u8| (n as usize) < self.fields.len();
         let tray = |n: u8| (n as usize) < self.trays.len();
@@ -112,7 +108,7 @@ impl Recipe {
     }
 
     /// Check 6.
-    fn types_agree(&self, s: &Statement) -> bool {
+    fn types_agree(&self, s: Statement) -> bool {
         let variable = |n: u8| self.variables[n as usize];
         let tray = |n: u8| self.trays[n as usize].ty;
         match s.kind {
@@ -126,7 +122,7 @@ impl Recipe {
     }
 
     /// Check 7.
-    fn immediate_fits(&self, s: &Statement) -> bool {
+    fn immediate_fits(&self, s: Statement) -> bool {
         s.kind != CONSTANT || immediate(self.variables[s.a as usize], s.immediate).is_some()
     }
 
@@ -183,7 +179,7 @@ fn sections(bytes: &[u8]) -> Option<[&[u8]; 4]> {
     for (i, size) in [1, 1, 4, 8].into_iter().enumerate() {
         let offset = word(bytes, 8 * i) as usize;
         let length = word(bytes, 8 * i + 4) as usize;
-        if offset != start || length > bytes.len() - start || length % size != 0 {
+        if offset != start || length > bytes.len() - start || !length.is_multiple_of(size) {
             return None;
         }
         found[i] = &bytes[start..start + length];

@@ -1,7 +1,7 @@
 //! The sheet reader.
 
 use crate::recipe::word;
-use crate::types::*;
+use crate::types::{width, wrap};
 
 pub const MOST_READINGS: usize = 128;
 
@@ -19,6 +19,7 @@ impl Sheet {
 
     /// The readings of a field.
     #[inline]
+    #[must_use]
     pub fn readings(&self, field: usize) -> &[u64] {
         &self.values[self.starts[field]..self.starts[field + 1]]
     }

@@ -50,18 +50,21 @@ pub const WHILE: u8 = 14;
 
 /// Whether a type code is one of the signed types.
 #[inline]
+#[must_use]
 pub fn is_signed(ty: u8) -> bool {
     ty >= 4
 }
 
 /// The width of a type in bytes.
 #[inline]
+#[must_use]
 pub fn width(ty: u8) -> usize {
     (TYPES[ty as usize].bits / 8) as usize
 }
 
 /// Keeps the low bits of a number that its type has, extended again.
 #[inline]
+#[must_use]
 pub fn wrap(ty: u8, number: u64) -> u64 {
     let shift = 64 - TYPES[ty as usize].bits;
     if is_signed(ty) {
@@ -73,23 +76,26 @@ pub fn wrap(ty: u8, number: u64) -> u64 {
 
 /// A held value as a whole number.
 #[inline]
+#[must_use]
 pub fn number(ty: u8, value: u64) -> i128 {
     if is_signed(ty) {
-        value as i64 as i128
+        i128::from(value as i64)
     } else {
-        value as i128
+        i128::from(value)
     }
 }
 
 /// A 4-byte immediate as a held value, or nothing if it lies outside the type.
 #[inline]
+#[must_use]
 pub fn immediate(ty: u8, bytes: u32) -> Option<u64> {
-    let value = if is_signed(ty) { bytes as i32 as i64 as u64 } else { bytes as u64 };
+    let value = if is_signed(ty) { i64::from(bytes as i32) as u64 } else { u64::from(bytes) };
     (wrap(ty, value) == value).then_some(value)
 }
 
 /// One of the kinds 2 to 5 on two values of a type; nothing if it overflows.
 #[inline]
+#[must_use]
 pub fn exact(kind: u8, ty: u8, left: u64, right: u64) -> Option<u64> {
     let range = &TYPES[ty as usize & 7];
     if is_signed(ty) {
@@ -114,25 +120,26 @@ pub fn exact(kind: u8, ty: u8, left: u64, right: u64) -> Option<u64> {
 
 /// One of the kinds 2 to 5, wrapped to the type, and whether it overflowed.
 #[inline]
+#[must_use]
 pub fn wrapping(kind: u8, ty: u8, left: u64, right: u64) -> (u64, bool) {
-    match exact(kind, ty, left, right) {
-        Some(result) => (result, false),
-        None => {
-            let result = match kind {
-                ADD => left.wrapping_add(right),
-                SUBTRACT => left.wrapping_sub(right),
-                MULTIPLY => left.wrapping_mul(right),
-                // A zero divisor gives 0; else this is the lowest value by -1.
-                _ if right == 0 => 0,
-                _ => left.wrapping_neg(),
-            };
-            (wrap(ty, result), true)
-        }
+    if let Some(result) = exact(kind, ty, left, right) {
+        (result, false)
+    } else {
+        let result = match kind {
+            ADD => left.wrapping_add(right),
+            SUBTRACT => left.wrapping_sub(right),
+            MULTIPLY => left.wrapping_mul(right),
+            // A zero divisor gives 0; else this is the lowest value by -1.
+            _ if right == 0 => 0,
+            _ => left.wrapping_neg(),
+        };
+        (wrap(ty, result), true)
     }
 }
 
 /// Whether a value of one type fits another.
 #[inline]
+#[must_use]
 pub fn fits(from: u8, to: u8, value: u64) -> bool {
     let range = &TYPES[to as usize & 7];
     if is_signed(from) && (value as i64) < 0 {

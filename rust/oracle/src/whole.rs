@@ -9,9 +9,12 @@
 //! reaches a site is ever worked out.
 
 use crate::bigint::BigInt;
-use crate::recipe::*;
+use crate::recipe::Recipe;
 use crate::sheet::Sheet;
-use crate::types::*;
+use crate::types::{
+    fits, immediate, number, wrap, wrapping, ADD, CONSTANT, CONVERT, COPY, DIVIDE, ELSE, END, LOAD, MULTIPLY, READ,
+    SITE, STORE, SUBTRACT,
+};
 
 /// A noted value: the site's label, the whole number, and the places in its set
 /// whose step overflowed on its wrapped operands.
@@ -36,13 +39,7 @@ struct Trace {
 }
 
 /// The notes of the whole-number run, or the refusal 2 to 8 or 13.
-pub fn whole_run(
-    recipe: &[u8],
-    sheet: &[u8],
-    limit: u32,
-    choices: &[u8],
-    log_len: usize,
-) -> Result<Vec<Noted>, u8> {
+pub fn whole_run(recipe: &[u8], sheet: &[u8], limit: u32, choices: &[u8], log_len: usize) -> Result<Vec<Noted>, u8> {
     let trace = trace(recipe, sheet, limit, choices, log_len)?;
     let numbers = trace.numbers();
     let mut notes = Vec::with_capacity(trace.sites.len());
@@ -55,19 +52,13 @@ pub fn whole_run(
 /// A bound on the bits of any number that the whole-number run works out, found
 /// without working them out. Numbers can double in length with each step, so
 /// tests ask this first and pass over runs that no memory would hold.
-pub fn whole_bits(
-    recipe: &[u8],
-    sheet: &[u8],
-    limit: u32,
-    choices: &[u8],
-    log_len: usize,
-) -> Result<u64, u8> {
+pub fn whole_bits(recipe: &[u8], sheet: &[u8], limit: u32, choices: &[u8], log_len: usize) -> Result<u64, u8> {
     let trace = trace(recipe, sheet, limit, choices, log_len)?;
     let needed = trace.needed();
     let mut bits: Vec<u64> = Vec::with_capacity(trace.makings.len());
     for making in &trace.makings {
         bits.push(match *making {
-            Making::Given(number) => 128 - number.unsigned_abs().leading_zeros() as u64,
+            Making::Given(number) => 128 - u64::from(number.unsigned_abs().leading_zeros()),
             Making::Worked { kind, left, right, .. } => match kind {
                 ADD | SUBTRACT => bits[left].max(bits[right]).saturating_add(1),
                 MULTIPLY => bits[left].saturating_add(bits[right]),
@@ -85,20 +76,13 @@ struct Kept {
     making: usize,
 }
 
-fn trace(
-    recipe: &[u8],
-    sheet: &[u8],
-    limit: u32,
-    choices: &[u8],
-    log_len: usize,
-) -> Result<Trace, u8> {
+fn trace(recipe: &[u8], sheet: &[u8], limit: u32, choices: &[u8], log_len: usize) -> Result<Trace, u8> {
     let recipe = Recipe::read(recipe)?;
     let sheet = Sheet::read(sheet, &recipe.fields)?;
     // Making 0 is the number 0 that everything starts with.
     let mut trace = Trace { makings: vec![Making::Given(0)], sites: Vec::new() };
     let mut variables = vec![Kept::default(); recipe.variables.len()];
-    let mut trays: Vec<Vec<Kept>> =
-        recipe.trays.iter().map(|tray| vec![Kept::default(); tray.length]).collect();
+    let mut trays: Vec<Vec<Kept>> = recipe.trays.iter().map(|tray| vec![Kept::default(); tray.length]).collect();
     let mut steps = 0u32;
     let mut reads = 0;
     let mut label = 0;
@@ -141,8 +125,7 @@ fn trace(
                 let Kept { held, making } = variables[b];
                 let (from, to) = (recipe.variables[b], recipe.variables[a]);
                 let overflowed = !fits(from, to, held);
-                let worked =
-                    Making::Worked { kind: CONVERT, left: making, right: making, overflowed };
+                let worked = Making::Worked { kind: CONVERT, left: making, right: making, overflowed };
                 variables[a] = Kept { held: wrap(to, held), making: trace.push(worked) };
             }
             READ => {
@@ -191,8 +174,7 @@ impl Trace {
             needed[making] = true;
         }
         for place in (0..needed.len()).rev() {
-            if let (true, Making::Worked { left, right, .. }) = (needed[place], self.makings[place])
-            {
+            if let (true, Making::Worked { left, right, .. }) = (needed[place], self.makings[place]) {
                 needed[left] = true;
                 needed[right] = true;
             }
@@ -231,9 +213,7 @@ impl Trace {
         for making in &self.makings {
             tainted.push(match *making {
                 Making::Given(_) => false,
-                Making::Worked { left, right, overflowed, .. } => {
-                    overflowed || tainted[left] || tainted[right]
-                }
+                Making::Worked { left, right, overflowed, .. } => overflowed || tainted[left] || tainted[right],
             });
         }
         let mut seen_for = vec![usize::MAX; self.makings.len()];
@@ -247,7 +227,7 @@ impl Trace {
                 }
                 seen_for[place] = site;
                 if let Making::Worked { left, right, overflowed, .. } = self.makings[place] {
-                    count += overflowed as u32;
+                    count += u32::from(overflowed);
                     left_to_see.push(left);
                     left_to_see.push(right);
                 }

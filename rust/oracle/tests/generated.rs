@@ -25,7 +25,7 @@ fn logged(recipe: &[u8], label: u16, bytes: &[u8]) -> BigInt {
     let value = u64::from_le_bytes(bytes.try_into().unwrap());
     let number = types::number(ty, value);
     let range = &TYPES[ty as usize];
-    assert!(range.lowest as i128 <= number && number <= range.highest as i128);
+    assert!(i128::from(range.lowest) <= number && number <= i128::from(range.highest));
     BigInt::from(number)
 }
 
@@ -94,7 +94,7 @@ fn coherent() {
             assert_eq!(record[3], 0, "case {case}");
             // A value is marked just if some step in its making overflowed, and
             // an unmarked one is exact.
-            assert_eq!(record[2], (note.overflows > 0) as u8, "case {case}");
+            assert_eq!(record[2], u8::from(note.overflows > 0), "case {case}");
             let same = logged(&recipe, note.label, &record[4..]) == note.number;
             assert!(same || record[2] == 1, "case {case}");
             if verdict == Some(Ok(true)) {

@@ -2,6 +2,13 @@
 //! analysis on trees without any short cut, and the gate by counting through all
 //! combinations.
 
+#![allow(
+    clippy::cast_possible_truncation,
+    clippy::cast_possible_wrap,
+    clippy::cast_sign_loss,
+    reason = "the numbers of a test are small, and values wrap to their types"
+)]
+
 use gate_oracle::condition::{field, kind, rest, ty, Condition};
 use gate_oracle::generate::{self, Rng};
 use gate_oracle::types::*;
@@ -43,9 +50,7 @@ fn arithmetic() {
         if high - low < 256 {
             values.extend(low..=high);
         } else {
-            for edge in
-                [0, low, high, high / 2, low / 2, 46_341, 65_536, 1 << 31, 1 << 32, 0xb504_f334]
-            {
+            for edge in [0, low, high, high / 2, low / 2, 46_341, 65_536, 1 << 31, 1 << 32, 0xb504_f334] {
                 values.extend(edge - 3..=edge + 3);
             }
             values.extend((0..60).map(|_| number(ty, wrap(ty, rng.draw() >> rng.below(64)))));
@@ -198,13 +203,13 @@ fn walk(recipe: &recipe::Recipe, list: &[Part], mut set: Trees) -> Result<Trees,
                 let other = walk(recipe, no, set)?;
                 rule(one.into_iter().chain(other))?
             }
-            Part::While(body) => rounds(recipe, body, set)?,
+            Part::While(body) => rounds(recipe, body, &set)?,
         };
     }
     Ok(set)
 }
 
-fn rounds(recipe: &recipe::Recipe, body: &[Part], first: Trees) -> Result<Trees, u8> {
+fn rounds(recipe: &recipe::Recipe, body: &[Part], first: &Trees) -> Result<Trees, u8> {
     let mut before = first.clone();
     for _ in 1..=16 {
         let walked = walk(recipe, body, before.clone())?;
@@ -229,8 +234,7 @@ fn plain(recipe: &recipe::Recipe, label: usize, set: &Trees) -> Result<Trees, u8
         READ => Tree::Reading(s.b, 9_999),
         LOAD => Tree::Loaded(label, 9_999),
         STORE => {
-            let of_tray =
-                |tree: &Tree| matches!(tree, Tree::Loaded(l, _) if recipe.statements[*l].b == s.a);
+            let of_tray = |tree: &Tree| matches!(tree, Tree::Loaded(l, _) if recipe.statements[*l].b == s.a);
             let mut all = Vec::new();
             for tree in set {
                 let mut atoms: Vec<Tree> = Vec::new();
@@ -243,16 +247,11 @@ fn plain(recipe: &recipe::Recipe, label: usize, set: &Trees) -> Result<Trees, u8
                 // More than enough to pass 64; a long enumeration would only take time.
                 let counted = atoms.len().min(8);
                 let long = recipe.trays[s.a as usize].length > 1;
-                for subset in if long { 0..1 << counted } else { (1 << counted) - 1..1 << counted }
-                {
-                    all.push(tree.replace(
-                        &mut |atom| match atoms.iter().position(|a| a == atom) {
-                            Some(place) if !long || (place < 8 && subset >> place & 1 == 1) => {
-                                *variable(s.c)
-                            }
-                            _ => atom.clone(),
-                        },
-                    ));
+                for subset in if long { 0..1 << counted } else { (1 << counted) - 1..1 << counted } {
+                    all.push(tree.replace(&mut |atom| match atoms.iter().position(|a| a == atom) {
+                        Some(place) if !long || (place < 8 && subset >> place & 1 == 1) => *variable(s.c),
+                        _ => atom.clone(),
+                    }));
                 }
             }
             return rule(all);
@@ -278,7 +277,7 @@ fn from(recipe: &recipe::Recipe, list: &[Part], site: usize) -> Result<Trees, u8
         Part::If(yes, no) => from(recipe, if has(yes, site) { yes } else { no }, site)?,
         Part::While(body) => {
             let first = from(recipe, body, site)?;
-            rounds(recipe, body, first)?
+            rounds(recipe, body, &first)?
         }
     };
     walk(recipe, &list[..place], set)
@@ -294,9 +293,7 @@ fn plain_listing(bytes: &[u8]) -> Result<Vec<String>, u8> {
         let set = rule(set.iter().map(|tree| {
             tree.replace(&mut |atom| match *atom {
                 Tree::Variable(v) => Tree::Constant(recipe.variables[v as usize], 0),
-                Tree::Loaded(l, _) => {
-                    Tree::Constant(recipe.trays[recipe.statements[l].b as usize].ty, 0)
-                }
+                Tree::Loaded(l, _) => Tree::Constant(recipe.trays[recipe.statements[l].b as usize].ty, 0),
                 ref other => other.clone(),
             })
         }))?;
@@ -317,9 +314,8 @@ fn analysis() {
         match plain_listing(&recipe) {
             Err(number) => assert_eq!(quick, format!("refused {number}\n"), "case {case}"),
             Ok(mut expected) => {
-                let mut lines: Vec<&str> =
-                    quick.lines().skip(1).map(|line| line.split_once(": ").unwrap().1).collect();
-                lines.sort();
+                let mut lines: Vec<&str> = quick.lines().skip(1).map(|line| line.split_once(": ").unwrap().1).collect();
+                lines.sort_unstable();
                 expected.sort();
                 assert_eq!(lines, expected, "case {case}");
             }
@@ -339,7 +335,7 @@ fn plain_gate(condition: &Condition, sheet: &[u8]) -> Option<bool> {
             let bytes = part.chunks_exact([1, 2, 4, 8][ty as usize % 4]);
             bytes
                 .map(|bytes| {
-                    let value = bytes.iter().rev().fold(0, |sum, &byte| sum << 8 | byte as i128);
+                    let value = bytes.iter().rev().fold(0, |sum, &byte| sum << 8 | i128::from(byte));
                     let (low, high) = range(ty);
                     if value > high {
                         value - (high - low + 1)
@@ -353,7 +349,7 @@ fn plain_gate(condition: &Condition, sheet: &[u8]) -> Option<bool> {
     let mut pass = true;
     for conjunct in &condition.conjuncts {
         let mut atoms: Vec<u64> = conjunct.iter().copied().filter(|&n| kind(n) == 1).collect();
-        atoms.sort();
+        atoms.sort_unstable();
         atoms.dedup();
         let counts: Vec<usize> = atoms.iter().map(|&n| readings[field(n)].len()).collect();
         let total = counts.iter().try_fold(1usize, |product, &n| product.checked_mul(n));
@@ -368,8 +364,8 @@ fn plain_gate(condition: &Condition, sheet: &[u8]) -> Option<bool> {
             let mut stack: Vec<i128> = Vec::new();
             for &n in conjunct {
                 let value = match kind(n) {
-                    0 if ty(n) < 4 => rest(n) as i128,
-                    0 => rest(n) as i32 as i128,
+                    0 if ty(n) < 4 => i128::from(rest(n)),
+                    0 => i128::from(rest(n) as i32),
                     1 => chosen[&n],
                     kind => {
                         let right = stack.pop().unwrap();

@@ -51,8 +51,7 @@ fn trays() {
 
 #[test]
 fn a_loop_that_does_not_settle() {
-    let statements =
-        [s(14, 0, 0, 0), constant(1, 1), s(2, 0, 0, 1), s(13, 0, 0, 0), s(10, 0, 0, 0)];
+    let statements = [s(14, 0, 0, 0), constant(1, 1), s(2, 0, 0, 1), s(13, 0, 0, 0), s(10, 0, 0, 0)];
     assert_eq!(derive(&recipe(&[], &[U32; 2], &[], &statements)), Err(11));
 }
 
@@ -72,8 +71,7 @@ fn combinations() {
 
 #[test]
 fn two_reads() {
-    let statements =
-        [s(7, 0, 0, 0), s(6, 2, 0, 0), s(7, 1, 0, 0), s(6, 3, 1, 0), s(4, 4, 2, 3), s(10, 4, 0, 0)];
+    let statements = [s(7, 0, 0, 0), s(6, 2, 0, 0), s(7, 1, 0, 0), s(6, 3, 1, 0), s(4, 4, 2, 3), s(10, 4, 0, 0)];
     let recipe = recipe(&[U16], &[U16, U16, U32, U32, U32], &[], &statements);
     assert_eq!(listing(&recipe), "conjuncts 1\n0: f0<1>:u16 to:u32 f0<2>:u16 to:u32 mul:u32\n");
 }

@@ -70,7 +70,9 @@ fn differences(directory: &Path, line: &str) -> Vec<String> {
 
     let text = match whole_run(&recipe, &sheet, limit, choices, log_length) {
         Ok(notes) => {
-            notes.iter().map(|n| format!("{} {} {}\n", n.label, n.number, n.overflows)).collect()
+            let lines: Vec<String> =
+                notes.iter().map(|n| format!("{} {} {}\n", n.label, n.number, n.overflows)).collect();
+            lines.concat()
         }
         Err(number) => format!("refused {number}\n"),
     };

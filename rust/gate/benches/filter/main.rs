@@ -6,10 +6,18 @@
 //!
 //!     cargo bench --bench filter
 
+#![allow(
+    clippy::cast_possible_truncation,
+    clippy::cast_possible_wrap,
+    clippy::cast_sign_loss,
+    clippy::cast_precision_loss,
+    reason = "the numbers of a test are small, and values wrap to their types"
+)]
+
 mod plain;
 
-use gate_oracle::condition::{node, write};
 use gate::{check, Verdict};
+use gate_oracle::condition::{node, write};
 use std::hint::black_box;
 
 /// The CPU time of this thread in seconds, so that a shared machine disturbs less.
@@ -23,11 +31,8 @@ fn now() -> f64 {
         fn clock_gettime(clock: i32, time: *mut Time) -> i32;
     }
     const THREAD_CPU: i32 = 3;
-    let mut time = Time {
-        seconds: 0,
-        nanos: 0,
-    };
-    unsafe { clock_gettime(THREAD_CPU, &mut time) };
+    let mut time = Time { seconds: 0, nanos: 0 };
+    unsafe { clock_gettime(THREAD_CPU, &raw mut time) };
     time.seconds as f64 + time.nanos as f64 * 1e-9
 }
 
@@ -122,75 +127,28 @@ fn on_stack(bytes: usize) {
     let condition = write(&[U32], &[sum(U32, 20, &[constant(U32, 1), op(2, U32)])]);
     let file = field(U32, 2, |i| 1 + i);
     let run = move || proved(&condition, &file);
-    let answer = std::thread::Builder::new()
-        .stack_size(bytes)
-        .spawn(run)
-        .unwrap()
-        .join()
-        .unwrap();
+    let answer = std::thread::Builder::new().stack_size(bytes).spawn(run).unwrap().join().unwrap();
     println!("\n20 atoms on a stack of {bytes} bytes: {}", if answer { "pass" } else { "not passed" });
 }
 
 fn main() {
     let rounds = 7;
     let pair = |ty: u8, list: &[(u8, u32)]| -> Vec<u64> {
-        list.iter()
-            .flat_map(|&(kind, value)| [constant(ty, value), op(kind, ty)])
-            .collect()
+        list.iter().flat_map(|&(kind, value)| [constant(ty, value), op(kind, ty)]).collect()
     };
     let mixed = [(2, 9), (4, 3), (3, 7), (5, 3)];
     let minus = [(2, 9), (4, (-3i32) as u32), (3, 7), (5, (-3i32) as u32)];
     let small = |i: i64| 1 + i;
     let signs = |i: i64| (i - 16) * 7;
     let cases: Vec<(&str, Vec<u64>, Vec<u8>, u8)> = vec![
-        (
-            "u32 additions",
-            tailed(U32, &pair(U32, &[(2, 1)])),
-            sheet(U32, small),
-            U32,
-        ),
-        (
-            "u32 and u64, conversions",
-            tailed(U32, &[op(6, U64), op(6, U32)]),
-            sheet(U32, small),
-            U32,
-        ),
-        (
-            "u32 products, sums, quotients",
-            tailed(U32, &pair(U32, &[(4, 3), (2, 5), (5, 3)])),
-            sheet(U32, small),
-            U32,
-        ),
-        (
-            "u32 + - x /",
-            tailed(U32, &pair(U32, &mixed)),
-            sheet(U32, small),
-            U32,
-        ),
-        (
-            "i32 + - x /, mixed signs",
-            tailed(I32, &pair(I32, &minus)),
-            sheet(I32, signs),
-            I32,
-        ),
-        (
-            "i64 + - x /, mixed signs",
-            tailed(I64, &pair(I64, &minus)),
-            sheet(I64, signs),
-            I64,
-        ),
-        (
-            "u64 + - x /",
-            tailed(U64, &pair(U64, &mixed)),
-            sheet(U64, small),
-            U64,
-        ),
-        (
-            "i64 additions, mixed signs",
-            tailed(I64, &pair(I64, &[(2, 5)])),
-            sheet(I64, signs),
-            I64,
-        ),
+        ("u32 additions", tailed(U32, &pair(U32, &[(2, 1)])), sheet(U32, small), U32),
+        ("u32 and u64, conversions", tailed(U32, &[op(6, U64), op(6, U32)]), sheet(U32, small), U32),
+        ("u32 products, sums, quotients", tailed(U32, &pair(U32, &[(4, 3), (2, 5), (5, 3)])), sheet(U32, small), U32),
+        ("u32 + - x /", tailed(U32, &pair(U32, &mixed)), sheet(U32, small), U32),
+        ("i32 + - x /, mixed signs", tailed(I32, &pair(I32, &minus)), sheet(I32, signs), I32),
+        ("i64 + - x /, mixed signs", tailed(I64, &pair(I64, &minus)), sheet(I64, signs), I64),
+        ("u64 + - x /", tailed(U64, &pair(U64, &mixed)), sheet(U64, small), U64),
+        ("i64 additions, mixed signs", tailed(I64, &pair(I64, &[(2, 5)])), sheet(I64, signs), I64),
         (
             "u32 additions of atoms",
             {
@@ -200,30 +158,10 @@ fn main() {
             sheet(U32, small),
             U32,
         ),
-        (
-            "u32 additions, atoms 29 nodes apart",
-            spread(U32, 4, 14),
-            sheet(U32, small),
-            U32,
-        ),
-        (
-            "u32 + - x /, 10 atoms of 4 readings",
-            sum(U32, 10, &pair(U32, &mixed)),
-            field(U32, 4, small),
-            U32,
-        ),
-        (
-            "u32 + - x /, 20 atoms of 2 readings",
-            sum(U32, 20, &pair(U32, &mixed)),
-            field(U32, 2, small),
-            U32,
-        ),
-        (
-            "u32 additions, 20 atoms of 2 readings 6 nodes apart",
-            spread(U32, 20, 2),
-            field(U32, 2, small),
-            U32,
-        ),
+        ("u32 additions, atoms 29 nodes apart", spread(U32, 4, 14), sheet(U32, small), U32),
+        ("u32 + - x /, 10 atoms of 4 readings", sum(U32, 10, &pair(U32, &mixed)), field(U32, 4, small), U32),
+        ("u32 + - x /, 20 atoms of 2 readings", sum(U32, 20, &pair(U32, &mixed)), field(U32, 2, small), U32),
+        ("u32 additions, 20 atoms of 2 readings 6 nodes apart", spread(U32, 20, 2), field(U32, 2, small), U32),
         (
             "u32 + - x /, fields of 64, 64, 128 and 2 readings",
             sum_of(U32, (0..4).map(|f| node(1, U32, f, 1)), &pair(U32, &mixed)),
@@ -233,9 +171,9 @@ fn main() {
     ];
     println!("| conjunct | proved | i128 | checked | independent | /i128 | /checked | /independent |");
     println!("|---|---|---|---|---|---|---|---|");
-    for (name, nodes, sheet, ty) in cases.into_iter() {
+    for (name, nodes, sheet, ty) in cases {
         let fields = u32::from_le_bytes(sheet[..4].try_into().unwrap()) / 8;
-        let condition = write(&vec![ty; fields as usize], &[nodes.clone()]);
+        let condition = write(&vec![ty; fields as usize], std::slice::from_ref(&nodes));
         assert!(proved(&condition, &sheet), "{name}");
         assert!(plain::wide(&condition, &sheet), "{name}");
         assert!(plain::checked(&condition, &sheet), "{name}");

@@ -1,0 +1,153 @@
+"""check: a line or an object for each sheet, and the four exit statuses."""
+
+import json
+import os
+import subprocess
+import unittest
+
+from support import LAUNCHER, SAMPLES, Folder, answers, gate, refusal, vector
+
+from survey_gate import Condition, Recipe, Sheet, check, run
+from survey_gate.library import load
+
+BLOCK = os.path.join(SAMPLES, "block.txt")
+LOOP = os.path.join(SAMPLES, "loop.txt")
+PASSES = os.path.join(SAMPLES, "passes.csv")
+HELD = os.path.join(SAMPLES, "held.csv")
+REASON = "channels=3 × (rate=192000 × seconds=3600 × 2) + rate=192000 × seconds=3600 × 2 = 5529600000 is above u32's 4294967295"
+
+
+class Statuses(unittest.TestCase):
+    def test_0_all_pass(self):
+        self.assertEqual(gate("check", BLOCK, PASSES, PASSES), (0, f"{PASSES}: pass\n" * 2, ""))
+
+    def test_1_some_held(self):
+        status, out, err = gate("check", BLOCK, HELD, PASSES)
+        self.assertEqual((status, err), (1, ""))
+        held, passes = out.splitlines()
+        self.assertTrue(held.startswith(f"{HELD}: held: {REASON}; channels: line 2, rate: line 3, seconds: line 3; "), held)
+        self.assertEqual(passes, f"{PASSES}: pass")
+
+    def test_2_some_refused(self):
+        folder = Folder(self)
+        many = folder.put("many.txt", "field f u8\nvar a u8\nvar b u8\n" + "b = read f\na = a * b\n" * 3 + "site a\n")
+        wide = folder.put("wide.csv", "f\n" + "1\n" * 128)
+        narrow = folder.put("narrow.csv", "f\n200\n")
+        status, out, err = gate("check", many, wide, narrow)
+        self.assertEqual((status, err), (2, ""))
+        self.assertEqual(out.splitlines()[0], f"{wide}: refused 14: a conjunct has over 1,048,576 combinations of readings: "
+                         "conjunct 0 reads f 3 times (of 128): 2,097,152 combinations")
+        self.assertEqual(out.splitlines()[1], f"{narrow}: pass")
+
+    def test_2_the_recipe_is_refused(self):
+        status, out, err = gate("check", LOOP, PASSES, HELD)
+        self.assertEqual(status, 2)
+        recipe, first, second = out.splitlines()
+        self.assertEqual(recipe, f"{LOOP}: refused 11: a loop makes a value from its own earlier value: "
+                         "site x (line 10) is accepted without line 8 (x = x + one)")
+        self.assertTrue(first.startswith(f"{PASSES}: refused 11") and second.startswith(f"{HELD}: refused 11"))
+        self.assertIn(f"{LOOP}:2: warning: n is never set", err)
+
+    def test_3_trouble_and_the_others_are_still_checked(self):
+        folder = Folder(self)
+        wrong = folder.put("wrong.csv", "rate,seconds,channels\n1,x,300\n")
+        status, out, err = gate("check", BLOCK, HELD, wrong, folder.at("none.csv"), PASSES)
+        self.assertEqual(status, 3)
+        self.assertEqual([line.split(": ")[1] for line in out.splitlines()], ["held", "pass"])
+        self.assertEqual([line.split(": ")[0] for line in err.splitlines()], [f"{wrong}:2", f"{wrong}:2", folder.at("none.csv")])
+
+    def test_3_usage(self):
+        for words in ((), ("check",), ("check", BLOCK), ("frob",), ("check", "--frob", BLOCK, PASSES), ("recipe",),
+                      ("choices", "f", "-1"), ("choices", "f", "٣"), ("run", BLOCK, PASSES, "l", "--take", "70000"),
+                      ("--explain", "15"), ("--explain", "x"), ("run", BLOCK, PASSES, "l", "--take", "1", "--choices", "c")):
+            status, out, err = gate(*words)
+            self.assertEqual((status, out, err.count("\n")), (3, "", 1), words)
+
+    def test_as_a_process(self):
+        for words, status in (((BLOCK, PASSES), 0), ((BLOCK, HELD), 1), ((LOOP, PASSES), 2), ((BLOCK, "none"), 3)):
+            ran = subprocess.run([LAUNCHER, "check", "-q", *words], capture_output=True, check=False)
+            self.assertEqual((ran.returncode, ran.stdout), (status, b""))
+
+
+class Forms(unittest.TestCase):
+    def test_json_is_an_object_a_line(self):
+        folder = Folder(self)
+        wrong = folder.put("wrong.csv", "rate,seconds,channels\n1,x,3\n")
+        status, out, _ = gate("check", "--json", BLOCK, PASSES, HELD, wrong)
+        passes, held, trouble = [json.loads(line) for line in out.splitlines()]
+        self.assertEqual(status, 3)
+        self.assertEqual(passes, {"file": PASSES, "verdict": "pass"})
+        self.assertEqual((held["file"], held["verdict"], held["conjunct"], held["operation"]), (HELD, "held", 2, "+"))
+        self.assertEqual((held["left"], held["right"], held["result"]), (4147200000, 1382400000, 5529600000))
+        self.assertEqual((held["type"], held["end"]), ("u32", 4294967295))
+        self.assertEqual(held["readings"][1], {"atom": "rate", "field": "rate", "value": 192000, "number": 2, "of": 2, "line": 3})
+        self.assertTrue(held["reason"].startswith(REASON))
+        self.assertEqual((trouble["verdict"], trouble["mistakes"][0]["line"]), ("trouble", 2))
+        refused = json.loads(gate("check", "--json", LOOP, PASSES)[1].splitlines()[0])
+        self.assertEqual((refused["file"], refused["verdict"], refused["refusal"]), (LOOP, "refused", 11))
+        self.assertIn("line 8", refused["place"])
+
+    def test_quiet_prints_trouble_only(self):
+        self.assertEqual(gate("check", "-q", BLOCK, HELD), (1, "", ""))
+        self.assertEqual(gate("check", "-q", LOOP, PASSES), (2, "", ""))
+        self.assertEqual(gate("check", "-q", BLOCK, "none")[2], "none: No such file or directory\n")
+
+    def test_files_and_texts_mix(self):
+        folder = Folder(self)
+        recipe, sheet = folder.at("r.recipe"), folder.at("s.sheet")
+        gate("recipe", "make", BLOCK, recipe)
+        gate("sheet", "make", BLOCK, HELD, sheet)
+        status, out, err = gate("check", BLOCK, sheet)
+        self.assertEqual((status, err), (1, ""))
+        self.assertIn("rate: reading 2 of 2", out)
+        status, out, err = gate("check", recipe, HELD, sheet)
+        self.assertEqual(status, 1)
+        self.assertIn("f1=3600", out)
+        self.assertIn("the columns are taken in their order", err)
+
+    def test_a_blank_column_is_warned_of(self):
+        folder = Folder(self)
+        blank = folder.put("blank.csv", "rate,seconds,channels\n,60,3\n")
+        status, out, err = gate("check", BLOCK, blank)
+        self.assertEqual((status, out), (0, f"{blank}: pass\n"))
+        self.assertIn(f"{blank}:1: warning: the column rate is blank", err)
+
+    def test_odd_file_names(self):
+        folder = Folder(self)
+        odd = folder.put("a\nb\udcff.csv", "rate,seconds,channels\n1,1,1\n")
+        status, out, err = gate("check", BLOCK, odd)
+        self.assertEqual((status, out.count("\n"), err), (0, 1, ""))
+        self.assertIn("a\\nb", out)
+
+
+class Library(unittest.TestCase):
+    def test_stored_verdicts(self):
+        for case, _, derived, _, verdict, _ in answers():
+            if refusal(derived) or verdict == "refused 13":
+                continue
+            recipe = Recipe.from_bytes(vector(case, "recipe"))
+            sheet = Sheet.from_bytes(vector(case, "sheet"), recipe)
+            if verdict in ("pass", "held"):
+                self.assertEqual(check(recipe, sheet).passed, verdict == "pass", case)
+
+    def test_stored_verdicts_on_other_conditions(self):
+        for case, _, _, answer, _, _ in answers():
+            if answer in ("pass", "held"):
+                self.assertEqual(load().check(vector(case, "condition"), vector(case, "sheet")), answer == "pass", case)
+
+    def test_use(self):
+        recipe = Recipe.read(BLOCK)
+        condition = Condition.of(recipe)
+        sheet = Sheet.read(PASSES, recipe)
+        self.assertTrue(check(recipe, sheet, condition).passed)
+        ran = run(recipe, sheet, choices=[1, 1, 0, 1, 1, 1])
+        self.assertEqual((ran.end, ran.steps), (0, 31))
+        self.assertEqual([(r.label, r.variable, r.value, r.overflowed) for r in ran.records],
+                         [(6, "bytes", 23040000, False), (18, "last", 207360000, False)])
+        held = run(recipe, Sheet.read(HELD, recipe), choices=[1, 1, 0, 1, 1, 1])
+        self.assertFalse(held.verdict.passed)
+        self.assertEqual((held.end, held.records), (None, ()))
+
+
+if __name__ == "__main__":
+    unittest.main()

@@ -1,0 +1,71 @@
+"""Conditions: derived as stored, listed as stored, refused with 12 at a place; in infix by the author's names."""
+
+import json
+import os
+import unittest
+
+from support import SAMPLES, answers, gate, refusal, vector
+
+from survey_gate import Condition, Recipe, Refused
+from survey_gate.library import load
+
+
+class Conditions(unittest.TestCase):
+    def test_derived_and_listed_as_stored(self):
+        for case, _, derived, _, _, _ in answers():
+            number = refusal(derived)
+            data = vector(case, "recipe")
+            self.assertEqual(load().refusal(data), number, case)
+            if not number:
+                condition = Condition.of(Recipe.from_bytes(data))
+                self.assertEqual(condition.data, vector(case, "derived"), case)
+                self.assertEqual(condition.raw().encode(), vector(case, "listing"), case)
+
+    def test_refusal_12_is_the_stored_one_and_has_a_place(self):
+        for case, _, _, answer, _, _ in answers():
+            try:
+                Condition.from_bytes(vector(case, "condition"))
+                self.assertNotEqual(answer, "refused 12", case)
+            except Refused as refused:
+                self.assertEqual((answer, refused.number), ("refused 12", 12), case)
+                self.assertTrue(refused.place)
+
+    def test_a_conjunct_alone_is_a_condition(self):
+        for case, _, derived, _, _, _ in answers():
+            if not refusal(derived):
+                condition = Condition.from_bytes(vector(case, "derived"))
+                for number, conjunct in enumerate(condition.conjuncts):
+                    alone = Condition.from_bytes(condition.only(number))
+                    self.assertEqual(alone.conjuncts[0].nodes, conjunct.nodes)
+
+    def infix(self, text):
+        recipe = Recipe.from_text(text)
+        return [part.infix([f.name for f in recipe.fields]) for part in Condition.of(recipe).conjuncts]
+
+    def test_infix(self):
+        head = "field f i32\nfield g i32\nvar a i32\nvar b i32\nvar c i32\nvar d i32\nvar w i64\na = read f\nb = read f\nc = read g\n"
+        for lines, told in (
+            ("d = a - b\nd = d - c\nsite d", "f<1> - f<2> - g"),
+            ("d = b - c\nd = a - d\nsite d", "f<1> - (f<2> - g)"),
+            ("d = a + c\nd = d * b\nsite d", "(f<1> + g) × f<2>"),
+            ("d = a * c\nd = a / d\nsite d", "f / (f × g)"),
+            ("d = -5\nd = d * a\nsite d", "(-5) × f"),
+            ("w = to a\nsite w", "i64(f)"),
+        ):
+            self.assertEqual(self.infix(head + lines + "\n"), [told])
+
+    def test_list(self):
+        sample = os.path.join(SAMPLES, "block.txt")
+        status, out, _ = gate("list", sample)
+        self.assertEqual((status, out.splitlines()[:2]), (0, ["conjuncts 3", "0: rate × u32(seconds) × 2"]))
+        status, out, _ = gate("list", "--raw", sample)
+        self.assertEqual((status, out), (0, Condition.of(Recipe.read(sample)).raw()))
+        status, out, _ = gate("list", "--json", sample)
+        self.assertEqual(json.loads(out.splitlines()[0])["infix"], "rate × u32(seconds) × 2")
+        loop = os.path.join(SAMPLES, "loop.txt")
+        self.assertEqual(gate("list", "--raw", loop)[:2], (2, "refused 11\n"))
+        self.assertIn("refused 11: a loop makes", gate("list", loop)[1])
+
+
+if __name__ == "__main__":
+    unittest.main()

@@ -1,0 +1,133 @@
+/* What include/gate.h says of lent slices, through the library: NULL with length 0, odd addresses,
+ * overlap of what is read, scratch before and after, threads. Prints nothing if all of it is so. */
+#undef NDEBUG
+#include <assert.h>
+#include <gate.h>
+#include <pthread.h>
+#include <string.h>
+
+enum { MARK = 0xA5, SPARE = 8, ROOM = GATE_SCRATCH_WORDS + SPARE, LIMIT = 100 };
+
+/* A recipe of nothing, whose condition has no conjunct and whose sheet is empty. */
+static const uint8_t nothing[32] = {32, 0, 0, 0, 0, 0, 0, 0, 32, 0, 0, 0, 0, 0, 0, 0,
+                                    32, 0, 0, 0, 0, 0, 0, 0, 32, 0, 0, 0, 0, 0, 0, 0};
+/* The same with one statement, an end without a block: refused with 8. */
+static const uint8_t unmatched[40] = {32, 0, 0, 0, 0, 0, 0, 0, 32, 0, 0, 0, 0, 0, 0, 0,
+                                      32, 0, 0, 0, 0, 0, 0, 0, 32, 0, 0, 0, 8, 0, 0, 0,
+                                      13, 0, 0, 0, 0, 0, 0, 0};
+/* field f u8; var x u8; x = read f; x = x + x; site x. */
+static const uint8_t doubled[58] = {32, 0, 0, 0, 1, 0, 0, 0, 33, 0, 0, 0, 1, 0, 0, 0,
+                                    34, 0, 0, 0, 0, 0, 0, 0, 34, 0, 0, 0, 24, 0, 0, 0,
+                                    0, 0, 7, 0, 0, 0, 0, 0, 0, 0, 2, 0, 0, 0, 0, 0, 0, 0,
+                                    10, 0, 0, 0, 0, 0, 0, 0};
+/* Readings 100 and 127, whose doubles fit, and 128, whose double does not. */
+static const uint8_t passing[10] = {8, 0, 0, 0, 2, 0, 0, 0, 100, 127};
+static const uint8_t holding[9] = {8, 0, 0, 0, 1, 0, 0, 0, 128};
+
+struct lent {
+    uint8_t condition[GATE_CONDITION_BYTES];
+    uint8_t log[2 * GATE_RECORD_BYTES];
+    uint64_t scratch[ROOM], steps, records;
+};
+static struct lent all_lent[3];
+
+static int marked(const void *bytes, size_t length) {
+    const uint8_t *byte = (const uint8_t *)bytes;
+    while (length && byte[length - 1] == MARK)
+        length--;
+    return length == 0;
+}
+
+static uint64_t derive(struct lent *d, const uint8_t *recipe, size_t length) {
+    return gate_derive(recipe, length, d->condition, sizeof d->condition, d->scratch, ROOM);
+}
+
+static uint64_t run(struct lent *d, const uint8_t *recipe, size_t length, const uint8_t *sheet, size_t sheet_length) {
+    return gate_run(recipe, length, sheet, sheet_length, LIMIT, NULL, 0, NULL, 0, d->scratch, ROOM, &d->steps,
+                    &d->records);
+}
+
+static uint64_t guarded(struct lent *d, const uint8_t *recipe, size_t length, const uint8_t *sheet, size_t sheet_length,
+                        const uint8_t *choices, size_t choices_length) {
+    return gate_guarded(recipe, length, sheet, sheet_length, LIMIT, choices, choices_length, d->log, sizeof d->log,
+                        d->condition, sizeof d->condition, d->scratch, ROOM, &d->steps, &d->records);
+}
+
+static void null_with_length_0(struct lent *d) {
+    uint64_t length = derive(d, nothing, sizeof nothing);
+    assert(length == 8);
+    assert(gate_check(d->condition, length, NULL, 0) == GATE_PASS);
+    assert(GATE_REFUSED(gate_check(NULL, 0, NULL, 0)) == GATE_REFUSAL_CONDITION);
+    assert(run(d, nothing, sizeof nothing, NULL, 0) == GATE_END_FINISHED && d->steps == 0 && d->records == 0);
+    assert(guarded(d, nothing, sizeof nothing, NULL, 0, NULL, 0) == GATE_END_FINISHED);
+    assert(GATE_REFUSED(derive(d, NULL, 0)) == GATE_REFUSAL_RECIPE_TABLE);
+    assert(GATE_REFUSED(run(d, NULL, 0, NULL, 0)) == GATE_REFUSAL_RECIPE_TABLE);
+    assert(GATE_REFUSED(guarded(d, NULL, 0, NULL, 0, NULL, 0)) == GATE_REFUSAL_RECIPE_TABLE);
+    assert(GATE_REFUSED(gate_derive(nothing, sizeof nothing, NULL, 0, NULL, 0)) == GATE_REFUSAL_ROOM);
+    assert(GATE_REFUSED(gate_run(NULL, 0, NULL, 0, 0, NULL, 0, NULL, 0, NULL, 0, &d->steps, &d->records)) ==
+           GATE_REFUSAL_ROOM);
+    assert(GATE_REFUSED(gate_guarded(NULL, 0, NULL, 0, 0, NULL, 0, NULL, 0, NULL, 0, NULL, 0, &d->steps,
+                                     &d->records)) == GATE_REFUSAL_ROOM);
+}
+
+/* Everything that a refusal leaves as it was, scratch among it. */
+static void refusals_leave_all(struct lent *d) {
+    memset(d, MARK, sizeof *d);
+    assert(GATE_REFUSED(derive(d, unmatched, sizeof unmatched)) == GATE_REFUSAL_BLOCKS);
+    assert(GATE_REFUSED(run(d, unmatched, sizeof unmatched, NULL, 0)) == GATE_REFUSAL_BLOCKS);
+    assert(GATE_REFUSED(guarded(d, unmatched, sizeof unmatched, NULL, 0, NULL, 0)) == GATE_REFUSAL_BLOCKS);
+    assert(GATE_REFUSED(gate_derive(nothing, sizeof nothing, d->condition, sizeof d->condition, d->scratch,
+                                    GATE_SCRATCH_WORDS - 1)) == GATE_REFUSAL_ROOM);
+    assert(marked(d, sizeof *d));
+}
+
+static void hold_leaves_outputs(struct lent *d) {
+    memset(d, MARK, sizeof *d);
+    assert(guarded(d, doubled, sizeof doubled, holding, sizeof holding, passing, 2) == GATE_END_HELD);
+    assert(marked(d->condition, sizeof d->condition) && marked(d->log, sizeof d->log));
+    assert(marked(&d->steps, sizeof d->steps) && marked(&d->records, sizeof d->records));
+    assert(marked(d->scratch + GATE_SCRATCH_WORDS, SPARE * sizeof *d->scratch));
+}
+
+/* Bytes at every address modulo 8; the sheet's bytes are the choices too. */
+static void odd_addresses_and_overlap(struct lent *d) {
+    uint8_t recipe[sizeof doubled + 8], sheet[sizeof passing + 8];
+    size_t shift;
+    for (shift = 0; shift < 8; shift++) {
+        memcpy(recipe + shift, doubled, sizeof doubled);
+        memcpy(sheet + shift, passing, sizeof passing);
+        memset(d->log, MARK, sizeof d->log);
+        assert(guarded(d, recipe + shift, sizeof doubled, sheet + shift, sizeof passing, sheet + shift,
+                       sizeof passing) == GATE_END_FINISHED);
+        assert(d->steps == 3 && d->records == 1 && GATE_RECORD_LABEL(d->log) == 2);
+        assert(GATE_RECORD_MARK(d->log) == 0 && GATE_RECORD_VALUE(d->log) == 200);
+        assert(marked(d->log + GATE_RECORD_BYTES, GATE_RECORD_BYTES));
+    }
+}
+
+static void *often(void *mine) {
+    int times;
+    for (times = 0; times < 200; times++) {
+        odd_addresses_and_overlap((struct lent *)mine);
+        hold_leaves_outputs((struct lent *)mine);
+    }
+    return NULL;
+}
+
+static void threads_with_scratch_each(void) {
+    pthread_t others[2];
+    int n;
+    for (n = 0; n < 2; n++)
+        assert(pthread_create(&others[n], NULL, often, &all_lent[n + 1]) == 0);
+    often(&all_lent[0]);
+    for (n = 0; n < 2; n++)
+        assert(pthread_join(others[n], NULL) == 0);
+}
+
+int main(void) {
+    assert(gate_scratch() == GATE_SCRATCH_WORDS);
+    null_with_length_0(&all_lent[0]);
+    refusals_leave_all(&all_lent[0]);
+    threads_with_scratch_each();
+    return 0;
+}
