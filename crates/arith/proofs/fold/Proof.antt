@@ -35,7 +35,8 @@ add-t10 c = let p = c .before .before .before .before .pre in omega (arith, p .1
 returns-2 : tie.Need-returns-2
 returns-2 c = λ ty z row h.
     rw (row .low, row .high)
-    (fold-out ty _ h (c .before .before .low-bits .result) (c .before .before .low-bits .ensures ty row) (omega (arith, c .before .before .before .limit .ensures ty row)))
+    (fold-out ty _ h (c .before .before .low-bits .result) (c .before .before .low-bits .ensures ty row)
+    (omega (arith, c .before .before .before .limit .ensures ty row)))
 
 pub fold-spec : {M : Type 1} → statement M
 fold-spec =

@@ -24,7 +24,8 @@ is-of-type-requires c κs = search needs
 returns-3 : tie.Need-returns-3
 returns-3 c =
     let g = c .before .before in
-    rw (lt-ltb _ _ (g .before .before .if1 .left), eq-eqb _ _ (g .before .if2 .left), ← c .before .immediate .ensures) (c .is-of-type .ensures _ (g .range-of .ensures))
+    rw (lt-ltb _ _ (g .before .before .if1 .left), eq-eqb _ _ (g .before .if2 .left), ← c .before .immediate .ensures)
+    (c .is-of-type .ensures _ (g .range-of .ensures))
 
 pub constant-right-spec : {M : Type 1} → statement M
 constant-right-spec =

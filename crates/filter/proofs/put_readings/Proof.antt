@@ -83,8 +83,8 @@ returns c =
     let a = start (c .before .before) .args in
     let lp = c .before .loop in
     let e : lp .k ≡ a .n = omega arith in
-    subst (λ m. Filled (λ j. readingAt (a .ty) (a .part .now) (j * width (a .ty))) (a .from) m (signedAt (a .mags .now) (a .negs .now)) (signedAt (lp .mags) (lp .negs)))
-    e (lp .inv .3)
+    let kept = signedAt (a .mags .now) (a .negs .now) in
+    subst (λ m. Filled (λ j. readingAt (a .ty) (a .part .now) (j * width (a .ty))) (a .from) m kept (signedAt (lp .mags) (lp .negs))) e (lp .inv .3)
 
 pub put-readings-spec : {M : Type 1} → statement M
 put-readings-spec =
