@@ -1,9 +1,10 @@
 // derive RECIPE CONDITION: writes the condition of a recipe and prints `conjuncts N`, or prints
-// `refused K` and writes nothing. A file that cannot be read or written is said so on standard error.
+// `refused K` and writes nothing. A file that cannot be read or written is named on standard error.
 //
 // The recipe is read into a buffer one byte longer than the longest recipe, 8,384 bytes. Of a longer
 // file the library is given the first 8,385 bytes, which it refuses, by 2, as it would the whole.
 use analysis::Derived;
+use files::FileAnswer;
 use libc::STDERR_FILENO;
 use libc::STDOUT_FILENO;
 
@@ -11,10 +12,6 @@ fn say(word: &[u8], n: u64) {
     io::write_all(STDOUT_FILENO, word);
     io::print_decimal(STDOUT_FILENO, n);
     io::write_all(STDOUT_FILENO, b"\n");
-}
-
-fn save(condition: &[u8]) -> bool {
-    files::write(2, condition, b"cannot write CONDITION")
 }
 
 // The first n bytes to the file that the second argument names; they begin with the number of
@@ -25,8 +22,10 @@ fn put(condition: &[u8], n: usize) {
     }
     let count = bytes_le::u32_at(condition, 0);
     let k = files::at_most(n, condition);
-    if save(&condition[..k]) {
-        say(b"conjuncts ", count);
+    let written = files::write(2, &condition[..k]);
+    match written {
+        FileAnswer::Bytes(_) => say(b"conjuncts ", count),
+        FileAnswer::Failed => {}
     }
 }
 
@@ -45,14 +44,11 @@ fn main() {
         io::write_all(STDERR_FILENO, b"usage: derive RECIPE CONDITION\n");
         return;
     }
-    let fd = files::open(1, b"cannot open RECIPE");
-    if fd < 0 {
-        return;
-    }
     let mut recipe = [0u8; 8385];
-    let n = io::read_full(fd, &mut recipe);
-    if !files::failed(fd, n == 8385, b"cannot read RECIPE") {
-        derive(&recipe[..n]);
-    }
-    libc::close(fd);
+    let read = files::read(1, &mut recipe);
+    let FileAnswer::Bytes(n) = read else {
+        return;
+    };
+    let n = files::at_most(n, &recipe);
+    derive(&recipe[..n]);
 }

@@ -37,11 +37,21 @@ fn is_stored(i: usize, condition: &[u8]) -> bool {
     check::same(&stored[..n], condition)
 }
 
+fn refused(n: u8) {
+    let mut out = [0u8; listing::TEXT];
+    let k = listing::refusal(n, &mut out);
+    io::write_all(STDOUT_FILENO, &out[..k]);
+}
+
 // A condition of n bytes, which always stand in the output: its listing.
-fn listed(i: usize, condition: &[u8], n: usize) {
-    listing::print(condition, n);
-    let k = files::at_most(n, condition);
-    if !is_stored(i, &condition[..k]) {
+fn written(i: usize, condition: &[u8], n: usize) {
+    if n > condition.len() {
+        return;
+    }
+    let mut out = [0u8; listing::TEXT];
+    let k = listing::text(&condition[..n], &mut out);
+    io::write_all(STDOUT_FILENO, &out[..k]);
+    if !is_stored(i, &condition[..n]) {
         io::write_all(STDOUT_FILENO, b"not as stored\n");
     }
 }
@@ -51,8 +61,8 @@ fn derived(i: usize, recipe: &[u8]) {
     let mut scratch = [0u64; analysis::SCRATCH];
     let r = analysis::derive(recipe, &mut condition, &mut scratch);
     match r {
-        Derived::Refused(n) => listing::refused(n),
-        Derived::Written(n) => listed(i, &condition, n),
+        Derived::Refused(n) => refused(n),
+        Derived::Written(n) => written(i, &condition, n),
     }
 }
 

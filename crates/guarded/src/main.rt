@@ -1,12 +1,13 @@
 // guarded RECIPE SHEET CHOICES LOG: runs a recipe on a sheet if the sheet passes under the recipe's
 // condition. It writes the records to LOG and prints `end E steps S records R`; or it prints `held` or
-// `refused K` and writes nothing. A file that cannot be opened, read or written, and choices that are
-// too long, are said so on standard error.
+// `refused K` and writes nothing. A file that cannot be opened, read or written is named on standard
+// error, and choices that are too long are said there.
 //
 // A recipe has at most 8,384 bytes and a sheet at most 8 * 32 + 32 * 128 * 8 = 33,024. Each is read
 // into a buffer one byte longer, so that of a longer file the library is given the first 8,385 or
 // 33,025 bytes, which it refuses, by 2 or 13, as it would the whole. Choices of up to 524,288 bytes,
 // the limit's among them, are taken. The log has room for 43,690 records.
+use files::FileAnswer;
 use guard::Guarded;
 use libc::STDERR_FILENO;
 use libc::STDOUT_FILENO;
@@ -21,22 +22,25 @@ fn counted(text: &[u8], n: u64) {
     io::print_decimal(STDOUT_FILENO, n);
 }
 
-// The records to the file that the last argument names; whether they are written.
-fn save(records: &[u8]) -> bool {
-    files::write(4, records, b"cannot write LOG")
+// How the run ended.
+fn ended(end: u8, steps: u64, records: u64) {
+    counted(b"end ", end as u64);
+    counted(b" steps ", steps);
+    counted(b" records ", records);
+    say(b"\n");
 }
 
-// The records of a run, 12 bytes each. They always stand in the log, which has room for 43,690.
-fn ended(log: &[u8], end: u8, steps: u64, records: u64) {
+// The records of a run, 12 bytes each, to the file that the last argument names. They always stand in
+// the log, which has room for 43,690.
+fn save(log: &[u8], end: u8, steps: u64, records: u64) {
     if records > 43690 {
         return;
     }
     let k = files::at_most(12 * (records as usize), log);
-    if save(&log[..k]) {
-        counted(b"end ", end as u64);
-        counted(b" steps ", steps);
-        counted(b" records ", records);
-        say(b"\n");
+    let written = files::write(4, &log[..k]);
+    match written {
+        FileAnswer::Bytes(_) => ended(end, steps, records),
+        FileAnswer::Failed => {}
     }
 }
 
@@ -66,39 +70,22 @@ fn guarded(recipe: &[u8], sheet: &[u8], file: &[u8]) {
             end,
             steps,
             records,
-        } => ended(&log, end, steps, records),
+        } => save(&log, end, steps, records),
     }
 }
 
-fn with_choices(recipe: &[u8], sheet: &[u8], fd: i32) {
+fn with_choices(recipe: &[u8], sheet: &[u8]) {
     let mut file = [0u8; 524289];
-    let n = io::read_full(fd, &mut file);
+    let read = files::read(3, &mut file);
+    let FileAnswer::Bytes(n) = read else {
+        return;
+    };
     if n == 524289 {
         io::write_all(STDERR_FILENO, b"CHOICES has more than 524288 bytes\n");
         return;
     }
-    if files::failed(fd, false, b"cannot read CHOICES") {
-        return;
-    }
+    let n = files::at_most(n, &file);
     guarded(recipe, sheet, &file[..n]);
-}
-
-fn with_sheet(recipe: &[u8], sheet_fd: i32, choices_fd: i32) {
-    let mut sheet = [0u8; 33025];
-    let n = io::read_full(sheet_fd, &mut sheet);
-    if files::failed(sheet_fd, n == 33025, b"cannot read SHEET") {
-        return;
-    }
-    with_choices(recipe, &sheet[..n], choices_fd);
-}
-
-fn with_recipe(recipe_fd: i32, sheet_fd: i32, choices_fd: i32) {
-    let mut recipe = [0u8; 8385];
-    let n = io::read_full(recipe_fd, &mut recipe);
-    if files::failed(recipe_fd, n == 8385, b"cannot read RECIPE") {
-        return;
-    }
-    with_sheet(&recipe[..n], sheet_fd, choices_fd);
 }
 
 fn main() {
@@ -106,20 +93,17 @@ fn main() {
         io::write_all(STDERR_FILENO, b"usage: guarded RECIPE SHEET CHOICES LOG\n");
         return;
     }
-    let recipe_fd = files::open(1, b"cannot open RECIPE");
-    if recipe_fd < 0 {
+    let mut recipe = [0u8; 8385];
+    let read = files::read(1, &mut recipe);
+    let FileAnswer::Bytes(n) = read else {
         return;
-    }
-    let sheet_fd = files::open(2, b"cannot open SHEET");
-    if sheet_fd < 0 {
+    };
+    let mut sheet = [0u8; 33025];
+    let read = files::read(2, &mut sheet);
+    let FileAnswer::Bytes(k) = read else {
         return;
-    }
-    let choices_fd = files::open(3, b"cannot open CHOICES");
-    if choices_fd < 0 {
-        return;
-    }
-    with_recipe(recipe_fd, sheet_fd, choices_fd);
-    libc::close(recipe_fd);
-    libc::close(sheet_fd);
-    libc::close(choices_fd);
+    };
+    let n = files::at_most(n, &recipe);
+    let k = files::at_most(k, &sheet);
+    with_choices(&recipe[..n], &sheet[..k]);
 }

@@ -3,14 +3,31 @@
 // buffer, which has one byte more, and so is what the analysis refuses as too long.
 use analysis::Derived;
 use libc::STDIN_FILENO;
+use libc::STDOUT_FILENO;
+
+fn refused(n: u8) {
+    let mut out = [0u8; listing::TEXT];
+    let k = listing::refusal(n, &mut out);
+    io::write_all(STDOUT_FILENO, &out[..k]);
+}
+
+// A condition of n bytes, which always stand in the output.
+fn written(condition: &[u8], n: usize) {
+    if n > condition.len() {
+        return;
+    }
+    let mut out = [0u8; listing::TEXT];
+    let k = listing::text(&condition[..n], &mut out);
+    io::write_all(STDOUT_FILENO, &out[..k]);
+}
 
 fn listed(recipe: &[u8]) {
     let mut condition = [0u8; 61992];
     let mut scratch = [0u64; analysis::SCRATCH];
     let r = analysis::derive(recipe, &mut condition, &mut scratch);
     match r {
-        Derived::Refused(n) => listing::refused(n),
-        Derived::Written(n) => listing::print(&condition, n),
+        Derived::Refused(n) => refused(n),
+        Derived::Written(n) => written(&condition, n),
     }
 }
 

@@ -21,8 +21,10 @@ use Rattle.model.specs.Bytes
 use Rattle.model.specs.Code
 use Rattle.model.specs.Condition
 use Rattle.model.specs.Conjunct
+use Rattle.model.specs.Decimal
 use Rattle.model.specs.Filter
 use Rattle.model.specs.Input
+use Rattle.model.specs.Listing
 use Rattle.model.specs.Lists
 use Rattle.model.specs.Program
 use Rattle.model.specs.Values
@@ -32,7 +34,7 @@ use Rattle.model.specs.Walk
 
 -- to unfold this is to unfold all that they are made of
 definitions : Type 0
-unfolding Bytes.bytes2 Bytes.bytes4 Bytes.bytes8 Bytes.entries Bytes.chained Code.taking Code.opened Code.treeOf Condition.conjunctBytes Condition.pairBytes Condition.encode Condition.analysis Condition.nodeAt Condition.nodeRight Condition.typeNode Condition.typeNodes Condition.whole Condition.numbered Condition.rising Condition.readCondition Conjunct.sourceBytes Conjunct.bytes Conjunct.orderNumbers Conjunct.orderNodes Conjunct.order Conjunct.withConjunct Conjunct.unionOf Conjunct.same Conjunct.long Conjunct.limits Conjunct.sameSource Conjunct.sameAtom Conjunct.without Conjunct.atoms Conjunct.rank Conjunct.renamed Conjunct.renumber Filter.evaluate Filter.combinations Filter.valueIn Filter.combinationsOf Filter.holds Filter.productOf Filter.fewCombinations Filter.filterInput Input.width Input.bitsAt Input.readingAt Input.readingsOf Input.lengthsRight Input.readInput Lists.every Program.layoutOf Program.tablesAt Program.sectionsRight Program.countsRight Program.typesRight Program.formRight Program.typesAgree Program.immediateRight Program.stmtOf Program.readProgram Values.operated Values.converted Walk.nodes Walk.replace Walk.onArray Walk.loads Walk.swap Walk.swapAll Walk.subsets Walk.before Walk.gather Walk.back Walk.rounds Walk.walk Walk.here Walk.sites Walk.zeroed Walk.start Walk.join Walk.derived Types.bits Types.signed Types.depth Types.height Words.wideOf Words.wordOf Words.valueAt Words.immediate mathlib.Core.List.flatMap
+unfolding Bytes.bytes2 Bytes.bytes4 Bytes.bytes8 Bytes.entries Bytes.chained Code.taking Code.opened Code.treeOf Condition.conjunctBytes Condition.pairBytes Condition.encode Condition.analysis Condition.nodeAt Condition.nodeRight Condition.typeNode Condition.typeNodes Condition.whole Condition.numbered Condition.rising Condition.readCondition Conjunct.sourceBytes Conjunct.bytes Conjunct.orderNumbers Conjunct.orderNodes Conjunct.order Conjunct.withConjunct Conjunct.unionOf Conjunct.same Conjunct.long Conjunct.limits Conjunct.sameSource Conjunct.sameAtom Conjunct.without Conjunct.atoms Conjunct.rank Conjunct.renamed Conjunct.renumber Decimal.digits Decimal.places Decimal.decimal Decimal.number Filter.evaluate Filter.combinations Filter.valueIn Filter.combinationsOf Filter.holds Filter.productOf Filter.fewCombinations Filter.filterInput Input.width Input.bitsAt Input.readingAt Input.readingsOf Input.lengthsRight Input.readInput Listing.typeText Listing.operationText Listing.atomText Listing.nodeName Listing.nodeType Listing.nodeText Listing.lineText Listing.linesFrom Listing.listingText Listing.refusalText Listing.listing Lists.every Program.layoutOf Program.tablesAt Program.sectionsRight Program.countsRight Program.typesRight Program.formRight Program.typesAgree Program.immediateRight Program.stmtOf Program.readProgram Values.operated Values.converted Walk.nodes Walk.replace Walk.onArray Walk.loads Walk.swap Walk.swapAll Walk.subsets Walk.before Walk.gather Walk.back Walk.rounds Walk.walk Walk.here Walk.sites Walk.zeroed Walk.start Walk.join Walk.derived Types.bits Types.signed Types.depth Types.height Words.wideOf Words.wordOf Words.valueAt Words.immediate mathlib.Core.List.flatMap
 definitions = Unit {0}
 
 -- the analysis
@@ -44,6 +46,11 @@ derive program = analysis program
 file : List ℕ → Conjuncts → List ℕ
 unfolding definitions
 file types S = encode types S
+
+-- the listing of a condition file
+text : List ℕ → List ℕ
+unfolding definitions
+text condition = Listing.listing condition
 
 -- the filter
 check : List ℕ → List ℕ → Out ℕ
@@ -157,6 +164,26 @@ listing : derive (program (1 ∷ []) (1 ∷ 1 ∷ 2 ∷ 2 ∷ 2 ∷ []) []
     ≡ ok (file (1 ∷ []) ((reading 0 1 ∷ conv 2 ∷ atom (record { src = field 0 1; n = 2 }) ∷ conv 2 ∷ op mul 2 ∷ []) ∷ []))
 unfolding derive program file
 listing = refl
+
+-- what is printed of it: "conjuncts 1" and "0: f0<1>:u16 to:u32 f0<2>:u16 to:u32 mul:u32"
+printed : text (file (1 ∷ []) ((reading 0 1 ∷ conv 2 ∷ atom (record { src = field 0 1; n = 2 }) ∷ conv 2 ∷ op mul 2 ∷ []) ∷ [])) ≡
+    99 ∷ 111 ∷ 110 ∷ 106 ∷ 117 ∷ 110 ∷ 99 ∷ 116 ∷ 115 ∷ 32 ∷ 49 ∷ 10 ∷ 48 ∷ 58 ∷ 32 ∷ 102 ∷ 48 ∷ 60 ∷ 49 ∷ 62 ∷ 58 ∷ 117 ∷ 49 ∷ 54 ∷ 32 ∷ 116 ∷
+    111 ∷ 58 ∷ 117 ∷ 51 ∷ 50 ∷ 32 ∷ 102 ∷ 48 ∷ 60 ∷ 50 ∷ 62 ∷ 58 ∷ 117 ∷ 49 ∷ 54 ∷ 32 ∷ 116 ∷ 111 ∷ 58 ∷ 117 ∷ 51 ∷ 50 ∷ 32 ∷ 109 ∷ 117 ∷ 108 ∷
+    58 ∷ 117 ∷ 51 ∷ 50 ∷ 10 ∷ []
+unfolding text file
+printed = refl
+
+-- constants and another operation: "conjuncts 1" and "0: -5:i8 12:i8 sub:i8"
+constants-printed : text (file [] ((const 4 4294967291 ∷ const 4 12 ∷ op sub 4 ∷ []) ∷ [])) ≡
+    99 ∷ 111 ∷ 110 ∷ 106 ∷ 117 ∷ 110 ∷ 99 ∷ 116 ∷ 115 ∷ 32 ∷ 49 ∷ 10 ∷ 48 ∷ 58 ∷ 32 ∷ 45 ∷ 53 ∷ 58 ∷ 105 ∷ 56 ∷ 32 ∷ 49 ∷ 50 ∷ 58 ∷ 105 ∷ 56 ∷
+    32 ∷ 115 ∷ 117 ∷ 98 ∷ 58 ∷ 105 ∷ 56 ∷ 10 ∷ []
+unfolding text file
+constants-printed = refl
+
+-- of a file that is no condition: "refused 12"
+refusal-printed : text [] ≡ 114 ∷ 101 ∷ 102 ∷ 117 ∷ 115 ∷ 101 ∷ 100 ∷ 32 ∷ 49 ∷ 50 ∷ 10 ∷ []
+unfolding text
+refusal-printed = refl
 
 -- v1 = 1; while v2: v0 = v0 + v1; end; site v0
 counting : derive (program [] (0 ∷ 0 ∷ 0 ∷ []) []

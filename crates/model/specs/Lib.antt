@@ -7,6 +7,8 @@ pub mod Program
 pub mod Conjunct
 pub mod Walk
 pub mod Condition
+pub mod Decimal
+pub mod Listing
 pub mod Input
 pub mod Filter
 pub mod Run
