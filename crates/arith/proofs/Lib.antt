@@ -1,3 +1,4 @@
+pub mod Table
 pub mod Signs
 pub mod Spans
 pub mod Residues

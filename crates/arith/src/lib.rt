@@ -95,9 +95,18 @@ const RANGES: [Range; 8] = [
     },
 ];
 
-// The row of a type. A row that is named by a constant is loaded from constant memory; for an index
-// that is known at run time only, the compiler would build the table anew at each use.
+// The row of a type, by its code.
 pub fn range_of(ty: u8) -> Range
+    requires { ⌜ ty < 8 ⌝ }
+    ensures { λ r. ⌜ Row ty r ⌝ }
+{
+    let i = ty as usize;
+    RANGES[i]
+}
+
+// The same for a step that is worked over and over: for an index that is known at run time only the
+// compiler builds the table anew at each use, and a row that is named it loads from constant memory.
+pub fn step_range(ty: u8) -> Range
     requires { ⌜ ty < 8 ⌝ }
     ensures { λ r. ⌜ Row ty r ⌝ }
 {
