@@ -118,11 +118,11 @@ pub extern "C" fn gate_guarded(
         Guarded::Held => 5,
         Guarded::Ended {
             end: e,
-            steps: s,
-            records: k,
+            steps: taken,
+            records: written,
         } => {
-            *steps = s;
-            *records = k;
+            *steps = taken;
+            *records = written;
             e as u64
         }
     }

@@ -22,7 +22,7 @@ fn written(condition: &[u8], n: usize) {
 }
 
 fn listed(recipe: &[u8]) {
-    let mut condition = [0u8; 61992];
+    let mut condition = [0u8; analysis::CONDITION];
     let mut scratch = [0u64; analysis::SCRATCH];
     let r = analysis::derive(recipe, &mut condition, &mut scratch);
     match r {

@@ -31,8 +31,8 @@ left : (c : tie.After-derive) (w : ℕ) → w ≡ derivedWord (c .derive .result
     (a .scratch .now) (c .derive .last .1 .1 .0)
 left c w e =
     let a = start c .args in
-    derived-left (derivation (length (a .condition .now)) (length (a .scratch .now)) (a .recipe .now)) (c .derive .result) (a .condition .now) (c .derive .last .1 .0)
-    (a .scratch .now) (c .derive .last .1 .1 .0) w (c .derive .ensures) e
+    derived-left (derivation (length (a .condition .now)) (length (a .scratch .now)) (a .recipe .now)) (c .derive .result)
+    (a .condition .now) (c .derive .last .1 .0) (a .scratch .now) (c .derive .last .1 .1 .0) w (c .derive .ensures) e
 
 -- ---- the answers
 

@@ -42,8 +42,8 @@ derives : (c : tie.After-derived2)
 derives c =
     let a = start (written c) .args in
     let k = written c .derive in
-    subst (λ r. Derives (derivation (length (a .file .now)) (length (a .scratch .now)) (a .program .now)) r (a .file .now) (k .last .1 .0) (a .scratch .now) (k .last .1 .1 .0))
-    (c .derived2 .given .1) (k .ensures)
+    let o = derivation (length (a .file .now)) (length (a .scratch .now)) (a .program .now) in
+    subst (λ r. Derives o r (a .file .now) (k .last .1 .0) (a .scratch .now) (k .last .1 .1 .0)) (c .derived2 .given .1) (k .ensures)
 
 is-derived : (c : tie.After-derived2)
     → analysis (start (written c) .args .program .now) ≡ ok (take (c .derived2 .given .0 .0) (written c .derive .last .1 .0))
