@@ -45,9 +45,7 @@ fn refused(n: u8) {
 
 // A condition of n bytes, which always stand in the output: its listing.
 fn written(i: usize, condition: &[u8], n: usize) {
-    if n > condition.len() {
-        return;
-    }
+    let n = files::at_most(n, condition);
     let mut out = [0u8; listing::TEXT];
     let k = listing::text(&condition[..n], &mut out);
     io::write_all(STDOUT_FILENO, &out[..k]);
