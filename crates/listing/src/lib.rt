@@ -8,7 +8,6 @@ ghost use Prim.Native.Nat.{_+_, _≤_, _<_};
 ghost use lib.ListN.{length, drop};
 ghost use Rattle.arith.specs.Types.{signed};
 ghost use Rattle.arith.specs.Whole.{valueOf};
-ghost use Rattle.arith.specs.Words.{immediate};
 ghost use Rattle.model.specs.Decimal.{digits, places, decimal, number};
 ghost use Rattle.model.specs.Listing.{typeText, nodeName, nodeText, lineText, linesFrom, listingText, refusalText};
 ghost use Rattle.bytes_le.specs.Overlay.{overlay};
@@ -106,16 +105,6 @@ fn put_type(out: &mut [u8], at: usize, ty: u8) -> usize
     put_decimal(out, next + 1, range.bits as u64)
 }
 
-// The four bytes of a constant are an i32 for a signed type, a u32 for the others.
-fn constant(ty: u8, imm: u64) -> arith::Num
-    ensures { λ z. ⌜ valueOf z ≡ immediate ty imm ⌝ }
-{
-    if ty < 4 {
-        return arith::immediate(0, imm);
-    }
-    arith::immediate(4, imm)
-}
-
 // The number n of a reading in its brackets, "<n>".
 fn put_count(out: &mut [u8], at: usize, n: u64) -> usize
     requires { ⌜ Room (60 ∷ (decimal n ++ (62 ∷ []))) at (now out) ⌝ }
@@ -143,7 +132,7 @@ fn put_name(out: &mut [u8], at: usize, v: Node) -> usize
 {
     let kind = v.kind;
     match kind {
-        0 => put_number(out, at, constant(v.ty, v.imm)),
+        0 => put_number(out, at, arith::immediate(v.ty, v.imm)),
         1 => put_reading(out, at, v.field, v.imm),
         2 => put(out, at, b"add"),
         3 => put(out, at, b"sub"),

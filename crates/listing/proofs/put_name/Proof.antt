@@ -37,14 +37,14 @@ last c =
     let k = c .before .before .args .v .kind in
     name-last (c .before .before .args .v) (at-least-six k (r .0 .0 .0 .0 .0 .1) (r .0 .0 .0 .0 .1) (r .0 .0 .0 .1) (r .0 .0 .1) (r .0 .1) (r .1))
 
-constant-requires : tie.Need-constant-requires
-constant-requires c κs = search needs
+immediate-requires : tie.Need-immediate-requires
+immediate-requires c κs = search needs
 
 returns : tie.Need-returns
 unfolding nodeName nodeBy
 returns c =
     let m = at-number c in
-    puts-as (ap number (c .before .before .before .constant .ensures) ∙ name-by (m .before .before .args .v) 0 (m .match .keys1))
+    puts-as (ap number (c .before .before .before .immediate .ensures) ∙ name-by (m .before .before .args .v) 0 (m .match .keys1))
     (c .before .before .put-number .ensures)
 
 returns-2 : tie.Need-returns-2
@@ -74,7 +74,7 @@ put-number-requires : tie.Need-put-number-requires
 unfolding nodeName nodeBy
 put-number-requires c κs =
     let s = c .before .before .before .before in
-    room-as (ap number (sym (c .constant .ensures))) (room-as (sym (name-by (s .args .v) 0 (c .before .before .match .keys1))) (s .pre))
+    room-as (ap number (sym (c .immediate .ensures))) (room-as (sym (name-by (s .args .v) 0 (c .before .before .match .keys1))) (s .pre))
 
 put-reading-requires : tie.Need-put-reading-requires
 unfolding nodeName nodeBy atomText
@@ -139,7 +139,7 @@ pub put-name-spec : {M : Type 1} → statement M
 put-name-spec =
     tie.close
     (tie.spec
-    constant-requires put-number-requires put-reading-requires slice-aggregate-put put-requires
+    immediate-requires put-number-requires put-reading-requires slice-aggregate-put put-requires
     slice-aggregate-put-2 put-requires-2 slice-aggregate-put-3 put-requires-3 slice-aggregate-put-4 put-requires-4
     slice-aggregate-put-5 put-requires-5 same-length returns same-length-2 returns-2 same-length-3 returns-3
     same-length-4 returns-4 same-length-5 returns-5 same-length-6 returns-6 same-length-7 returns-7)
