@@ -17,7 +17,7 @@ pub mod Calls
 pub mod Runs
 pub mod Columns
 pub mod Rows
-pub mod Lending
-pub mod Loans
-pub mod Abreast
-pub mod Coming
+pub mod OperandLanes
+pub mod OperandColumns
+pub mod SideBySide
+pub mod LanesReached
