@@ -1,6 +1,7 @@
 /* The survey gate: from a recipe to its condition, from a condition and a sheet to a verdict, and a
- * recipe's run. Each function is proved to equal document 01's definition for every input.
- * docs/FORMATS.md has the files byte by byte, docs/REFUSALS.md the refusals, examples/gate.c a program.
+ * recipe's run. Each function is proved to equal its definition in document 01, with document 02's
+ * Card 1, for every input. docs/FORMATS.md has the files byte by byte, docs/REFUSALS.md the refusals,
+ * examples/gate.c a program.
  *
  * Slices. A slice is a pointer and a number of elements. With a length of 0 the pointer may be NULL,
  * since nothing is read or written through it. Bytes may stand at any address; scratch, `steps` and
@@ -8,7 +9,7 @@
  * overlap each other; what is written to (`condition`, `log`, `scratch`, `steps`, `records`) overlaps
  * nothing else.
  *
- * Answers. An answer's upper 32 bits are the number of the refusal, 1 to 14, or 0; its lower 32 bits
+ * Answers. An answer's upper 32 bits are the number of the refusal, 1 to 15, or 0; its lower 32 bits
  * are then what each function says. After a refusal everything that is lent, but scratch, is as it was.
  *
  * Scratch. What is in it before a call does not matter; a call leaves some of its first gate_scratch()
@@ -76,7 +77,8 @@ enum gate_refusal {
     GATE_REFUSAL_LOOP = 11, /* a loop makes a value from its own earlier value */
     GATE_REFUSAL_CONDITION = 12, /* the condition is damaged, or is no condition */
     GATE_REFUSAL_SHEET = 13, /* the sheet is damaged, or belongs to another recipe */
-    GATE_REFUSAL_COMBINATIONS = 14 /* a conjunct has over 1,048,576 combinations of readings */
+    GATE_REFUSAL_COMBINATIONS = 14, /* a conjunct has over 1,048,576 combinations of readings */
+    GATE_REFUSAL_BLANK = 15 /* a field that a conjunct reads has no readings */
 };
 
 /* Of an answer: the number of the refusal, or 0; and what the function says where it is 0. */
@@ -102,8 +104,9 @@ uint64_t gate_derive(const uint8_t *recipe, size_t recipe_length,
                      uint64_t *scratch, size_t scratch_length);
 
 /* Gives GATE_PASS if the sheet passes under the condition and GATE_HELD if it is held, or refuses with
- * 12 to 14. Writes nothing. The condition must be the recipe's own: the gate cannot know from which
- * recipe it came. */
+ * 12 to 15, tested in the order 12, 13, 15, 14: 15 in every conjunct before 14 in any. A field that no
+ * conjunct reads may have no readings. Writes nothing. The condition must be the recipe's own: the gate
+ * cannot know from which recipe it came. */
 uint64_t gate_check(const uint8_t *condition, size_t condition_length,
                     const uint8_t *sheet, size_t sheet_length);
 
@@ -123,7 +126,7 @@ uint64_t gate_run(const uint8_t *recipe, size_t recipe_length,
 /* Derives the recipe's condition and runs the recipe only if the sheet passes under it. Gives the end
  * as gate_run, with `log`, `steps` and `records` as there and the condition as gate_derive writes it;
  * or GATE_END_HELD where the sheet is held, and then everything lent but scratch is as it was. Wants
- * GATE_CONDITION_BYTES and gate_scratch() words, else refuses with 1; then 2 to 11, 13 and 14. No
+ * GATE_CONDITION_BYTES and gate_scratch() words, else refuses with 1; then 2 to 11 and 13 to 15. No
  * record that it writes is marked, and each is the whole number of the exact run. */
 uint64_t gate_guarded(const uint8_t *recipe, size_t recipe_length,
                       const uint8_t *sheet, size_t sheet_length, uint32_t limit,

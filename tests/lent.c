@@ -20,9 +20,10 @@ static const uint8_t doubled[58] = {32, 0, 0, 0, 1, 0, 0, 0, 33, 0, 0, 0, 1, 0, 
                                     34, 0, 0, 0, 0, 0, 0, 0, 34, 0, 0, 0, 24, 0, 0, 0,
                                     0, 0, 7, 0, 0, 0, 0, 0, 0, 0, 2, 0, 0, 0, 0, 0, 0, 0,
                                     10, 0, 0, 0, 0, 0, 0, 0};
-/* Readings 100 and 127, whose doubles fit, and 128, whose double does not. */
+/* Readings 100 and 127, whose doubles fit, and 128, whose double does not; and no reading. */
 static const uint8_t passing[10] = {8, 0, 0, 0, 2, 0, 0, 0, 100, 127};
 static const uint8_t holding[9] = {8, 0, 0, 0, 1, 0, 0, 0, 128};
+static const uint8_t blank[8] = {8, 0, 0, 0, 0, 0, 0, 0};
 
 struct lent {
     uint8_t condition[GATE_CONDITION_BYTES];
@@ -81,12 +82,28 @@ static void refusals_leave_all(struct lent *d) {
     assert(marked(d, sizeof *d));
 }
 
+/* Whether everything lent is as it was, but the words of scratch that a call may change. */
+static int outputs_marked(const struct lent *d) {
+    return marked(d->condition, sizeof d->condition) && marked(d->log, sizeof d->log) &&
+           marked(&d->steps, sizeof d->steps) && marked(&d->records, sizeof d->records) &&
+           marked(d->scratch + GATE_SCRATCH_WORDS, SPARE * sizeof *d->scratch);
+}
+
 static void hold_leaves_outputs(struct lent *d) {
     memset(d, MARK, sizeof *d);
     assert(guarded(d, doubled, sizeof doubled, holding, sizeof holding, passing, 2) == GATE_END_HELD);
-    assert(marked(d->condition, sizeof d->condition) && marked(d->log, sizeof d->log));
-    assert(marked(&d->steps, sizeof d->steps) && marked(&d->records, sizeof d->records));
-    assert(marked(d->scratch + GATE_SCRATCH_WORDS, SPARE * sizeof *d->scratch));
+    assert(outputs_marked(d));
+}
+
+/* A blank field refuses the check and the guarded run, and only ends a run. */
+static void blank_leaves_outputs(struct lent *d) {
+    uint64_t length = derive(d, doubled, sizeof doubled);
+    assert(GATE_REFUSED(gate_check(d->condition, length, blank, sizeof blank)) == GATE_REFUSAL_BLANK);
+    memset(d, MARK, sizeof *d);
+    assert(GATE_REFUSED(guarded(d, doubled, sizeof doubled, blank, sizeof blank, passing, 2)) == GATE_REFUSAL_BLANK);
+    assert(outputs_marked(d));
+    assert(run(d, doubled, sizeof doubled, blank, sizeof blank) == GATE_END_NO_READINGS);
+    assert(d->steps == 0 && d->records == 0);
 }
 
 /* Bytes at every address modulo 8; the sheet's bytes are the choices too. */
@@ -128,6 +145,7 @@ int main(void) {
     assert(gate_scratch() == GATE_SCRATCH_WORDS);
     null_with_length_0(&all_lent[0]);
     refusals_leave_all(&all_lent[0]);
+    blank_leaves_outputs(&all_lent[0]);
     threads_with_scratch_each();
     return 0;
 }

@@ -1,43 +1,54 @@
 #!/usr/bin/env python3
-"""read_cases.py VECTORS CRATE: writes CRATE/data and CRATE/stdout of the program read_cases from the outside vectors.
+"""read_cases.py CRATE: writes CRATE/data and CRATE/stdout of the program read_cases from the outside vectors.
 
-A refusal comes from VECTORS/ANSWERS.tsv; the counts of a file that is not refused are read from its section table or head."""
-import os
-import shutil
+A refusal comes from the vectors' answers; the counts of a file that is not refused are read from its section table or head. A
+gate's answer that is left empty was a verdict before Card 1, so that neither 12 nor 13 was met."""
 import sys
 
-vectors, crate = sys.argv[1:3]
-data = os.path.join(crate, "data")
-os.makedirs(data, exist_ok=True)
+from stored import Stored
+from vectors import Case, cases
 
 
-def number(s, a):
+def number(s: bytes, a: int) -> int:
+    """The number in the 4 bytes from a on."""
     return int.from_bytes(s[a:a + 4], "little")
 
 
-def taken(case, kind):
-    path = os.path.join(vectors, case + "." + kind)
-    shutil.copyfile(path, os.path.join(data, case + "." + kind))
-    with open(path, "rb") as f:
-        return f.read()
+def read_or_refused(answer: str) -> str:
+    """Whether a sheet is read, by an answer that comes after its reading."""
+    return "refused 13" if answer == "refused 13" else "read"
 
 
-lines = []
-with open(os.path.join(vectors, "ANSWERS.tsv")) as answers:
-    rows = [line.rstrip("\n").split("\t") for line in answers][1:]
-for case, _, derive, gate, _, run in rows:
-    recipe, condition = taken(case, "recipe"), taken(case, "condition")
-    taken(case, "sheet")
-    if derive in ["refused %d" % n for n in range(2, 9)]:
-        lines.append(case + " recipe " + derive)
-    else:
-        counts = number(recipe, 4), number(recipe, 12), number(recipe, 20) // 4, number(recipe, 28) // 8
-        lines.append(case + " recipe fields %d variables %d trays %d statements %d" % counts)
-        lines.append(case + " sheet for the recipe " + ("refused 13" if run == "refused 13" else "read"))
-    if gate == "refused 12":
-        lines.append(case + " condition refused 12")
-    else:
-        lines.append(case + " condition conjuncts %d fields %d" % (number(condition, 0), number(condition, 4)))
-        lines.append(case + " sheet for the condition " + ("refused 13" if gate == "refused 13" else "read"))
-with open(os.path.join(crate, "stdout"), "w") as out:
-    out.write("\n".join(lines) + "\n")
+def recipe_lines(stored: Stored, case: Case) -> None:
+    """The recipe, and the sheet by the recipe's fields."""
+    recipe = case.content("recipe")
+    if case.derive in [f"refused {n}" for n in range(2, 9)]:
+        stored.say(f"{case.number} recipe {case.derive}")
+        return
+    counts = number(recipe, 4), number(recipe, 12), number(recipe, 20) // 4, number(recipe, 28) // 8
+    stored.say(f"{case.number} recipe fields %d variables %d trays %d statements %d" % counts)
+    stored.say(f"{case.number} sheet for the recipe {read_or_refused(case.run)}")
+
+
+def condition_lines(stored: Stored, case: Case) -> None:
+    """The condition, and the sheet by the condition's fields."""
+    condition = case.content("condition")
+    if case.made_up == "refused 12":
+        stored.say(f"{case.number} condition refused 12")
+        return
+    stored.say(f"{case.number} condition conjuncts {number(condition, 0)} fields {number(condition, 4)}")
+    stored.say(f"{case.number} sheet for the condition {read_or_refused(case.made_up)}")
+
+
+def write(crate: str) -> None:
+    """All the cases."""
+    stored = Stored(crate)
+    for case in cases():
+        stored.copy(case, "recipe", "condition", "sheet")
+        recipe_lines(stored, case)
+        condition_lines(stored, case)
+    stored.write_stdout()
+
+
+if __name__ == "__main__":
+    write(sys.argv[1])

@@ -135,7 +135,6 @@ def run(arguments: Arguments, output: Output) -> int:
         condition = _derived(recipe, arguments) if arguments.guarded else None
         blamed = arguments.sheet
         sheet = _gated_sheet(blamed, recipe)
-        output.warn(blamed, sheet.warnings)
         with Progress(1, arguments.quiet) as progress:
             progress.sheet(shown(blamed), condition.work(sheet.columns) if condition else 0)
             ran = gate.run_choices(recipe, sheet, choices, limit, condition, progress.tick)
@@ -143,6 +142,7 @@ def run(arguments: Arguments, output: Output) -> int:
         return output.refused(blamed, refused, files.move_aside(arguments.log))
     except Disagreement as disagreement:
         raise Trouble(f"{shown(blamed)}: {disagreement}") from None
+    output.warn(arguments.sheet, sheet.warnings)
     if ran.verdict and not ran.verdict.passed:
         return output.held(arguments.sheet, ran.verdict.reason, files.move_aside(arguments.log))
     files.write(arguments.log, ran.log)

@@ -173,8 +173,26 @@ class Condition:
         """How many nodes the gate works at most on these readings."""
         return sum(len(part.nodes) * part.combinations(columns) for part in self.conjuncts)
 
-    def too_many(self, columns: Sequence[Sequence[int]], names: Sequence[str]) -> Optional[str]:
-        """The place of refusal 14: the first conjunct with too many combinations."""
+    def refusal(self, columns: Sequence[Sequence[int]], names: Sequence[str], word: str = "field") -> Optional[Refused]:
+        """What the gate refuses these readings with, and the place: 15, else 14. `word` is column for a table, else field."""
+        readers = self.first_readers()
+        blank = [field for field in sorted(readers) if not columns[field]]
+        if blank:
+            told = (f"the {word} {names[field]} is blank, and conjunct {readers[field]} reads {names[field]}" for field in blank)
+            return Refused(15, "; ".join(told))
+        place = self.too_many(columns, names)
+        return Refused(14, place) if place else None
+
+    def first_readers(self) -> Dict[int, int]:
+        """For each field that some conjunct reads, the first one that does."""
+        readers: Dict[int, int] = {}
+        for number, conjunct in enumerate(self.conjuncts):
+            for atom in conjunct.atoms:
+                readers.setdefault(atom.field, number)
+        return readers
+
+    def too_many(self, columns: Sequence[Sequence[int]], names: Sequence[str]) -> str:
+        """The place of refusal 14: the first conjunct with too many combinations; nothing where there is none."""
         for number, conjunct in enumerate(self.conjuncts):
             product = conjunct.combinations(columns)
             if product > MOST_COMBINATIONS:
@@ -183,7 +201,7 @@ class Condition:
                     f"{names[field]} {_times(reads)} (of {len(columns[field])})" for field, reads in times.items()
                 )
                 return f"conjunct {number} reads {told}: {_product(product)} combinations"
-        return None
+        return ""
 
 
 def _times(reads: int) -> str:

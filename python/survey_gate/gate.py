@@ -25,7 +25,7 @@ from .recipe import Recipe
 from .records import Record, choice_bytes, records_of
 from .sheet import Sheet
 from .sizes import MOST_RECORDS, USUAL_LIMIT
-from .trouble import Refused
+from .trouble import Disagreement, Refused
 from .why_held import Hold, Tick, why_held
 from .why_refused import Cause, why_refused
 
@@ -79,8 +79,8 @@ def told(causes: Sequence[Cause], recipe: Recipe) -> str:
 def check(recipe: Recipe, sheet: Sheet, condition: Optional[Condition] = None, tick: Tick = lambda work: None) -> Verdict:
     """Whether the sheet passes, with the reason where it is held.
 
-    The condition is derived unless it is given; for many sheets, derive it once. Raises Refused with 9, 10, 11
-    or 14. `tick` hears of the nodes that the search for a reason works.
+    The condition is derived unless it is given; for many sheets, derive it once. Raises Refused with 9, 10, 11,
+    14 or 15. `tick` hears of the nodes that the search for a reason works.
     """
     condition = condition or derive(recipe)
     try:
@@ -91,9 +91,15 @@ def check(recipe: Recipe, sheet: Sheet, condition: Optional[Condition] = None, t
 
 
 def placed(refused: Refused, recipe: Recipe, condition: Condition, sheet: Sheet) -> Refused:
-    """Refusal 14 with the conjunct that it speaks of."""
-    names = [part.name for part in recipe.fields]
-    return Refused(refused.number, condition.too_many(sheet.columns, names) or "")
+    """Refusal 14 or 15 with the conjunct or the fields that it speaks of; Disagreement where the readings give another."""
+    if refused.number not in (14, 15):
+        return refused
+    word = "column" if sheet.lines and recipe.named else "field"
+    found = condition.refusal(sheet.columns, [part.name for part in recipe.fields], word)
+    if found is None or found.number != refused.number:
+        beside = found or "no refusal"
+        raise Disagreement(f"the gate answers {refused.number}, and by the readings it is {beside}: one of the two is wrong")
+    return found
 
 
 def run(

@@ -22,6 +22,7 @@ MEANINGS = {
     12: "the condition is damaged, or is no condition",
     13: "the sheet is damaged, or belongs to another recipe",
     14: "a conjunct has over 1,048,576 combinations of readings",
+    15: "a field that a conjunct reads has no readings",
 }
 HIGHEST_REFUSAL = max(MEANINGS)
 PAGES = os.path.join(os.path.dirname(os.path.realpath(__file__)), "REFUSALS.md")

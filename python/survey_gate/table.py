@@ -57,11 +57,16 @@ class Table:
                     break
         if self.mistakes:
             raise Mistakes(self.name, sorted(self.mistakes))
+        self.warn_of_blanks(rows[0].line if rows else 1)
+        return self
+
+    def warn_of_blanks(self, line: int) -> None:
+        """Warns of the fields without readings; whether a conjunct reads them is not known here."""
+        word = "column" if self.recipe.named else "field"
         for part, readings in zip(self.recipe.fields, self.columns):
             if not readings:
-                wrong = f"the column {part.name} is blank, so nothing that reads {part.name} is tested"
-                self.warnings.append(Mistake(rows[0].line, wrong, "a run that reads it ends there"))
-        return self
+                right = f"the gate refuses the sheet with 15 if a conjunct reads {part.name}, and a run that reads it ends there"
+                self.warnings.append(Mistake(line, f"the {word} {part.name} is blank", right))
 
     def note(self, line: int, wrong: str, right: str) -> None:
         """Notes a mistake."""

@@ -166,8 +166,6 @@ class Search:
 
     def first(self) -> Optional[List[int]]:
         """For each atom the number of its reading, from 0; nothing where no step overflows."""
-        if not all(self.readings):
-            return None
         if not self.worked(-1):
             return [0] * len(self.atoms)
         if not self.atoms or self.surely_passes(-1):

@@ -9,35 +9,25 @@ import tempfile
 
 HERE = os.path.dirname(os.path.abspath(__file__))
 ROOT = os.path.dirname(os.path.dirname(HERE))
-sys.path.insert(0, os.path.join(ROOT, "python"))
+sys.path[:0] = [os.path.join(ROOT, "python"), os.path.join(ROOT, "cases", "generators")]
 
 from survey_gate.cli import main  # noqa: E402
+from vectors import VECTORS, cases  # noqa: E402, F401
 
-VECTORS = os.path.join(ROOT, "rust", "vectors", "base")
 SAMPLES = os.path.join(ROOT, "samples")
 LAUNCHER = os.path.join(ROOT, "survey-gate")
 
 
 def stored(kind):
     """The stored files of a kind: of the outside vectors and of the crates."""
-    outside = glob.glob(os.path.join(VECTORS, f"*.{kind}"))
+    outside = glob.glob(os.path.join(VECTORS, "*", f"*.{kind}"))
     crates = glob.glob(os.path.join(ROOT, "crates", "*", "data", f"*.{kind}"))
     return sorted(outside + crates + glob.glob(os.path.join(ROOT, "crates", "*", "data", kind)))
-
-
-def answers():
-    """The rows of the outside vectors: case, log length, derive, gate on .condition, gate on .derived, run."""
-    with open(os.path.join(VECTORS, "ANSWERS.tsv"), encoding="utf-8") as table:
-        return [line.rstrip("\n").split("\t") for line in table][1:]
 
 
 def load(*parts):
     with open(os.path.join(*parts), "rb") as source:
         return source.read()
-
-
-def vector(case, kind):
-    return load(VECTORS, f"{case}.{kind}")
 
 
 def refusal(answer):

@@ -5,15 +5,18 @@ import os
 import subprocess
 import unittest
 
-from support import LAUNCHER, SAMPLES, Folder, answers, gate, refusal, vector
+from support import LAUNCHER, SAMPLES, Folder, cases, gate
 
-from survey_gate import Condition, Recipe, Sheet, check, run
+from filter_cases import beside
+from survey_gate import Condition, Recipe, Refused, Sheet, check, run
 from survey_gate.library import load
 
 BLOCK = os.path.join(SAMPLES, "block.txt")
 LOOP = os.path.join(SAMPLES, "loop.txt")
 PASSES = os.path.join(SAMPLES, "passes.csv")
 HELD = os.path.join(SAMPLES, "held.csv")
+BLANK = os.path.join(SAMPLES, "blank.csv")
+NO_READINGS = "refused 15: a field that a conjunct reads has no readings"
 REASON = "channels=3 × (rate=192000 × seconds=3600 × 2) + rate=192000 × seconds=3600 × 2 = 5529600000 is above u32's 4294967295"
 
 
@@ -59,7 +62,7 @@ class Statuses(unittest.TestCase):
     def test_3_usage(self):
         for words in ((), ("check",), ("check", BLOCK), ("frob",), ("check", "--frob", BLOCK, PASSES), ("recipe",),
                       ("choices", "f", "-1"), ("choices", "f", "٣"), ("run", BLOCK, PASSES, "l", "--take", "70000"),
-                      ("--explain", "15"), ("--explain", "x"), ("run", BLOCK, PASSES, "l", "--take", "1", "--choices", "c")):
+                      ("--explain", "16"), ("--explain", "x"), ("run", BLOCK, PASSES, "l", "--take", "1", "--choices", "c")):
             status, out, err = gate(*words)
             self.assertEqual((status, out, err.count("\n")), (3, "", 1), words)
 
@@ -105,13 +108,6 @@ class Forms(unittest.TestCase):
         self.assertIn("f1=3600", out)
         self.assertIn("the columns are taken in their order", err)
 
-    def test_a_blank_column_is_warned_of(self):
-        folder = Folder(self)
-        blank = folder.put("blank.csv", "rate,seconds,channels\n,60,3\n")
-        status, out, err = gate("check", BLOCK, blank)
-        self.assertEqual((status, out), (0, f"{blank}: pass\n"))
-        self.assertIn(f"{blank}:1: warning: the column rate is blank", err)
-
     def test_odd_file_names(self):
         folder = Folder(self)
         odd = folder.put("a\nb\udcff.csv", "rate,seconds,channels\n1,1,1\n")
@@ -120,20 +116,85 @@ class Forms(unittest.TestCase):
         self.assertIn("a\\nb", out)
 
 
+class Blank(unittest.TestCase):
+    """Columns without readings: those that a conjunct reads are refused with 15, others are warned of."""
+
+    def setUp(self):
+        self.folder = Folder(self)
+
+    def test_a_blank_column_is_refused_and_the_others_are_still_checked(self):
+        told = f"{BLANK}: {NO_READINGS}: the column rate is blank, and conjunct 0 reads rate\n"
+        self.assertEqual(gate("check", BLOCK, BLANK, PASSES), (2, f"{told}{PASSES}: pass\n", ""))
+
+    def test_every_blank_column_is_named_with_the_first_conjunct_that_reads_it(self):
+        blank = self.folder.put("blank.csv", "channels,rate,seconds\n,,60\n")
+        rate = "the column rate is blank, and conjunct 0 reads rate"
+        channels = "the column channels is blank, and conjunct 2 reads channels"
+        self.assertEqual(gate("check", BLOCK, blank), (2, f"{blank}: {NO_READINGS}: {rate}; {channels}\n", ""))
+
+    def test_a_sheets_file_has_fields(self):
+        sheet, recipe = self.folder.at("s.sheet"), self.folder.at("r.recipe")
+        gate("sheet", "make", BLOCK, BLANK, sheet)
+        told = f"{sheet}: {NO_READINGS}: the field rate is blank, and conjunct 0 reads rate\n"
+        self.assertEqual(gate("check", BLOCK, sheet), (2, told, ""))
+        gate("recipe", "make", BLOCK, recipe)
+        told = f"{BLANK}: {NO_READINGS}: the field f0 is blank, and conjunct 0 reads f0\n"
+        self.assertEqual(gate("check", recipe, BLANK), (2, told, ""))
+
+    def test_json(self):
+        status, out, err = gate("check", "--json", BLOCK, BLANK)
+        place = "the column rate is blank, and conjunct 0 reads rate"
+        parts = {"file": BLANK, "verdict": "refused", "refusal": 15, "meaning": NO_READINGS[12:], "place": place}
+        self.assertEqual((status, json.loads(out), err), (2, parts, ""))
+
+    def test_a_column_that_no_conjunct_reads_may_be_blank(self):
+        windows, blank = os.path.join(SAMPLES, "windows.txt"), os.path.join(SAMPLES, "windows-blank.csv")
+        status, out, err = gate("check", windows, blank)
+        self.assertEqual((status, out, err.count("\n")), (0, f"{blank}: pass\n", 1))
+        self.assertIn(f"{blank}:1: warning: the column windows is blank; the gate refuses the sheet with 15 if a conjunct reads", err)
+
+    def test_15_comes_before_14_and_before_a_hold(self):
+        head = "field f u8\nfield g u8\nvar a u8\nvar b u8\nvar s u8\na = read g\nsite a\n"
+        recipe = self.folder.put("r.txt", head + "b = read f\ns = s + b\n" * 3 + "site s\n")
+        place = "the column g is blank, and conjunct 0 reads g"
+        for rows, filled in ((128, "refused 14"), (1, "held")):
+            blank = self.folder.put("blank.csv", "f,g\n" + "200,\n" * rows)
+            self.assertEqual(gate("check", recipe, blank), (2, f"{blank}: {NO_READINGS}: {place}\n", ""))
+            sheet = self.folder.put("filled.csv", "f,g\n200,1\n" + "200,\n" * (rows - 1))
+            self.assertIn(filled, gate("check", recipe, sheet)[1])
+
+
+def answer(condition, sheet):
+    """The gate's answer as the vectors have it."""
+    number = load().answer(lambda library: library.check(condition, sheet))
+    return f"refused {number}" if number else "pass" if load().check(condition, sheet) else "held"
+
+
 class Library(unittest.TestCase):
     def test_stored_verdicts(self):
-        for case, _, derived, _, verdict, _ in answers():
-            if refusal(derived) or verdict == "refused 13":
+        seen = set()
+        for case in cases():
+            if case.derived in ("", "refused 13"):
                 continue
-            recipe = Recipe.from_bytes(vector(case, "recipe"))
-            sheet = Sheet.from_bytes(vector(case, "sheet"), recipe)
-            if verdict in ("pass", "held"):
-                self.assertEqual(check(recipe, sheet).passed, verdict == "pass", case)
+            recipe = Recipe.from_bytes(case.content("recipe"))
+            sheet = Sheet.from_bytes(case.content("sheet"), recipe)
+            try:
+                told = "pass" if check(recipe, sheet).passed else "held"
+            except Refused as refused:
+                told = f"refused {refused.number}"
+                self.assertTrue(refused.place, case)
+            self.assertEqual(told, case.derived, case)
+            seen.add(told)
+        self.assertEqual(seen, {"pass", "held", "refused 14", "refused 15"})
 
     def test_stored_verdicts_on_other_conditions(self):
-        for case, _, _, answer, _, _ in answers():
-            if answer in ("pass", "held"):
-                self.assertEqual(load().check(vector(case, "condition"), vector(case, "sheet")), answer == "pass", case)
+        for case in cases():
+            if case.made_up:
+                self.assertEqual(answer(case.content("condition"), case.content("sheet")), case.made_up, case)
+
+    def test_the_cases_beside_the_vectors(self):
+        for one in beside():
+            self.assertEqual(answer(one.condition, one.sheet), one.answer, one.what)
 
     def test_use(self):
         recipe = Recipe.read(BLOCK)

@@ -1,39 +1,54 @@
-"""Conditions: derived as stored, listed as stored, refused with 12 at a place; in infix by the author's names."""
+"""Conditions: derived as stored, listed as stored, refused with 12, 14 and 15 at a place; in infix by the author's names."""
 
 import json
 import os
 import unittest
 
-from support import SAMPLES, answers, gate, refusal, vector
+from support import SAMPLES, cases, gate, refusal
 
 from survey_gate import Condition, Recipe, Refused
 from survey_gate.library import load
+from survey_gate.sheet import readings_of
 
 
 class Conditions(unittest.TestCase):
     def test_derived_and_listed_as_stored(self):
-        for case, _, derived, _, _, _ in answers():
-            number = refusal(derived)
-            data = vector(case, "recipe")
+        for case in cases():
+            number = refusal(case.derive)
+            data = case.content("recipe")
             self.assertEqual(load().refusal(data), number, case)
             if not number:
                 condition = Condition.of(Recipe.from_bytes(data))
-                self.assertEqual(condition.data, vector(case, "derived"), case)
-                self.assertEqual(condition.raw().encode(), vector(case, "listing"), case)
+                self.assertEqual(condition.data, case.content("derived"), case)
+                self.assertEqual(condition.raw().encode(), case.content("listing"), case)
 
     def test_refusal_12_is_the_stored_one_and_has_a_place(self):
-        for case, _, _, answer, _, _ in answers():
+        for case in cases():
             try:
-                Condition.from_bytes(vector(case, "condition"))
-                self.assertNotEqual(answer, "refused 12", case)
+                Condition.from_bytes(case.content("condition"))
+                self.assertNotEqual(case.made_up, "refused 12", case)
             except Refused as refused:
-                self.assertEqual((answer, refused.number), ("refused 12", 12), case)
+                self.assertEqual((case.made_up, refused.number), ("refused 12", 12), case)
                 self.assertTrue(refused.place)
 
+    def test_refusals_14_and_15_are_the_stored_ones_and_have_a_place(self):
+        seen = set()
+        for case in cases():
+            for kind, answer in (("condition", case.made_up), ("derived", case.derived)):
+                if answer in ("", "refused 12", "refused 13"):
+                    continue
+                condition = Condition.from_bytes(case.content(kind))
+                names = [f"f{n}" for n in range(len(condition.types))]
+                refused = condition.refusal(readings_of(case.content("sheet"), condition.types, names), names)
+                self.assertEqual(refused.number if refused else 0, refusal(answer), case)
+                self.assertTrue(refused is None or refused.place, case)
+                seen.add(refusal(answer))
+        self.assertEqual(seen, {0, 14, 15})
+
     def test_a_conjunct_alone_is_a_condition(self):
-        for case, _, derived, _, _, _ in answers():
-            if not refusal(derived):
-                condition = Condition.from_bytes(vector(case, "derived"))
+        for case in cases():
+            if not refusal(case.derive):
+                condition = Condition.from_bytes(case.content("derived"))
                 for number, conjunct in enumerate(condition.conjuncts):
                     alone = Condition.from_bytes(condition.only(number))
                     self.assertEqual(alone.conjuncts[0].nodes, conjunct.nodes)

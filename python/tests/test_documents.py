@@ -1,12 +1,12 @@
 """The documents are true: the commands of RECIPES.md give what it prints, and the mends of REFUSALS.md serve."""
 
-import importlib.util
+import importlib
 import os
 import re
 import subprocess
 import unittest
 
-from support import ROOT, load, vector
+from support import ROOT, Folder, cases, load
 
 from survey_gate import Condition, Recipe
 from survey_gate.library import load as library
@@ -96,20 +96,28 @@ class Cases(unittest.TestCase):
     """cases/CASES.md is what its generator writes, and says rightly which files the programs have."""
 
     def test_the_table_is_of_these_cases(self):
-        where = os.path.join(ROOT, "cases", "generators", "table.py")
-        spec = importlib.util.spec_from_file_location("table", where)
-        generator = importlib.util.module_from_spec(spec)
-        spec.loader.exec_module(generator)
-        self.assertEqual(load(ROOT, "cases", "CASES.md").decode(), generator.table())
+        self.assertEqual(load(ROOT, "cases", "CASES.md").decode(), importlib.import_module("table").table())
+
+    def files(self, crate):
+        """The stored files of a crate: its output, and its data by name."""
+        names = sorted(os.listdir(os.path.join(crate, "data")))
+        return load(crate, "stdout"), {name: load(crate, "data", name) for name in names}
+
+    def test_the_stored_files_are_what_the_generators_write(self):
+        for program in ("read_cases", "derive_cases", "filter_cases", "run_cases"):
+            folder = Folder(self)
+            importlib.import_module(program).write(folder.path)
+            self.assertEqual(self.files(folder.path), self.files(os.path.join(ROOT, "crates", program)), program)
 
     def test_the_files_of_the_programs(self):
+        outside = {case.number: case for case in cases()}
         for program, case, kinds in (
             ("gate", "000", ("condition", "sheet")),
             ("run", "013", ("recipe", "sheet", "choices")),
             ("guarded", "013", ("recipe", "sheet", "choices")),
         ):
             for kind in kinds:
-                self.assertEqual(load(ROOT, "crates", program, "data", kind), vector(case, kind), program)
+                self.assertEqual(load(ROOT, "crates", program, "data", kind), outside[case].content(kind), program)
 
 
 if __name__ == "__main__":

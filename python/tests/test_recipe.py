@@ -3,7 +3,7 @@
 import os
 import unittest
 
-from support import SAMPLES, Folder, answers, gate, load, refusal, stored, vector
+from support import SAMPLES, Folder, cases, gate, load, refusal, stored
 
 from survey_gate import Mistakes, Recipe, Refused, Trouble
 from survey_gate.recipe_file import packed
@@ -31,16 +31,16 @@ class Files(unittest.TestCase):
 
     def test_refusals_2_to_8_are_the_stored_ones_and_have_a_place(self):
         seen = set()
-        for case, _, derived, _, _, _ in answers():
-            number = refusal(derived)
+        for case in cases():
+            number = refusal(case.derive)
             if 2 <= number <= 8:
                 with self.assertRaises(Refused, msg=case) as raised:
-                    Recipe.from_bytes(vector(case, "recipe"))
+                    Recipe.from_bytes(case.content("recipe"))
                 self.assertEqual(raised.exception.number, number, case)
                 self.assertTrue(raised.exception.place, case)
                 seen.add(number)
             else:
-                Recipe.from_bytes(vector(case, "recipe"))
+                Recipe.from_bytes(case.content("recipe"))
         self.assertEqual(seen, set(range(2, 9)))
 
     def test_the_entry_is_named(self):

@@ -5,7 +5,7 @@ import os
 import subprocess
 import unittest
 
-from support import LAUNCHER, SAMPLES, Folder, answers, gate, load, refusal, vector
+from support import LAUNCHER, SAMPLES, Folder, cases, gate, load, refusal
 
 from survey_gate import Recipe
 from survey_gate.records import choice_file, from_choice_file, records_of
@@ -15,20 +15,21 @@ BLOCK = os.path.join(SAMPLES, "block.txt")
 LOOP = os.path.join(SAMPLES, "loop.txt")
 PASSES = os.path.join(SAMPLES, "passes.csv")
 HELD = os.path.join(SAMPLES, "held.csv")
+BLANK = os.path.join(SAMPLES, "blank.csv")
 TAKE = ("--take", "1,1,0,1,1,1")
 
 
 class Stored(unittest.TestCase):
     def test_stored_runs(self):
-        for case, length, _, _, _, answer in answers():
-            if refusal(answer):
+        for case in cases():
+            if refusal(case.run):
                 continue
-            limit, choices = from_choice_file(vector(case, "choices"))
-            room = int(length) // 12
-            ran = library().run(vector(case, "recipe"), vector(case, "sheet"), limit, choices, room)
-            if room or answer.split()[1] != "4":
+            limit, choices = from_choice_file(case.content("choices"))
+            room = int(case.room) // 12
+            ran = library().run(case.content("recipe"), case.content("sheet"), limit, choices, room)
+            if room or case.run.split()[1] != "4":
                 told = f"end {ran.end} steps {ran.steps} records {len(ran.log) // 12}"
-                self.assertEqual((told, ran.log), (answer, vector(case, "log")), case)
+                self.assertEqual((told, ran.log), (case.run, case.content("log")), case)
 
 
 class Runs(unittest.TestCase):
@@ -55,8 +56,25 @@ class Runs(unittest.TestCase):
         folder = Folder(self)
         log = folder.at("a.log")
         self.assertIn("end 3 (choices used up) after 0 steps, 0 records", gate("run", BLOCK, PASSES, log)[1])
-        blank = folder.put("blank.csv", "rate,seconds,channels\n,60,3\n")
-        self.assertIn("end 2 (field without readings)", gate("run", BLOCK, blank, log, *TAKE)[1])
+        self.assertIn("end 2 (field without readings)", gate("run", "--unguarded", BLOCK, BLANK, log, *TAKE)[1])
+
+    def test_a_blank_column_that_a_conjunct_reads_leaves_no_log(self):
+        folder = Folder(self)
+        log = folder.put("a.log", b"older")
+        status, out, err = gate("run", BLOCK, BLANK, log, *TAKE)
+        told = "refused 15: a field that a conjunct reads has no readings: the column rate is blank, and conjunct 0 reads rate"
+        self.assertEqual((status, out, err), (2, f"{BLANK}: {told}; the older {log} is now {log}.old\n", ""))
+        self.assertEqual(folder.names(), ["a.log.old"])
+        parts = json.loads(gate("run", "--json", BLOCK, BLANK, log, *TAKE)[1])
+        self.assertEqual((parts["verdict"], parts["refusal"], parts["file"]), ("refused", 15, BLANK))
+
+    def test_a_blank_column_that_no_conjunct_reads_passes_and_ends_the_run(self):
+        folder = Folder(self)
+        windows = os.path.join(SAMPLES, "windows.txt")
+        blank, log = os.path.join(SAMPLES, "windows-blank.csv"), folder.at("a.log")
+        status, out, err = gate("run", windows, blank, log, "--take", "0,0,0,0")
+        self.assertEqual((status, out), (0, f"{blank}: pass; end 2 (field without readings) after 7 steps, 0 records in {log}\n"))
+        self.assertIn(f"{blank}:1: warning: the column windows is blank; ", err)
 
     def test_a_held_sheet_leaves_no_log(self):
         folder = Folder(self)

@@ -3,7 +3,7 @@
 import os
 import unittest
 
-from support import SAMPLES, Folder, answers, gate, load, stored, vector
+from support import SAMPLES, Folder, cases, gate, load, stored
 
 from survey_gate import Mistakes, Recipe, Refused, Sheet
 
@@ -32,14 +32,14 @@ class Files(unittest.TestCase):
         self.assertGreater(shown, 100)
 
     def test_refusal_13_is_the_stored_one_and_has_a_place(self):
-        for case, _, derived, _, _, run in answers():
-            if not run.startswith("refused") or run == "refused 13":
-                recipe = Recipe.from_bytes(vector(case, "recipe"))
+        for case in cases():
+            if not case.run.startswith("refused") or case.run == "refused 13":
+                recipe = Recipe.from_bytes(case.content("recipe"))
                 try:
-                    Sheet.from_bytes(vector(case, "sheet"), recipe)
-                    self.assertNotEqual(run, "refused 13", case)
+                    Sheet.from_bytes(case.content("sheet"), recipe)
+                    self.assertNotEqual(case.run, "refused 13", case)
                 except Refused as refused:
-                    self.assertEqual((run, refused.number), ("refused 13", 13), case)
+                    self.assertEqual((case.run, refused.number), ("refused 13", 13), case)
                     self.assertTrue(refused.place)
 
     def test_make_and_show(self):
@@ -50,6 +50,15 @@ class Files(unittest.TestCase):
         self.assertEqual(gate("sheet", "show", recipe, made), (0, load(table).decode(), ""))
         self.assertEqual(gate("sheet", "show", recipe, made, folder.at("back.csv")), (0, "", ""))
         self.assertEqual(load(folder.at("back.csv")), load(table))
+
+    def test_a_blank_column_is_made_and_shown(self):
+        folder = Folder(self)
+        recipe, table = os.path.join(SAMPLES, "block.txt"), os.path.join(SAMPLES, "blank.csv")
+        made = folder.at("blank.sheet")
+        status, out, err = gate("sheet", "make", recipe, table, made)
+        self.assertEqual((status, out, err.count("\n")), (0, "", 1))
+        self.assertIn(f"{table}:1: warning: the column rate is blank; ", err)
+        self.assertEqual(gate("sheet", "show", recipe, made), (0, load(table).decode(), ""))
 
 
 class Tables(unittest.TestCase):
@@ -113,8 +122,9 @@ class Tables(unittest.TestCase):
         self.wrong("f,g\n" + "1,\n" * 129, "T:130: this is reading 129 of f")
 
     def test_warnings(self):
-        told = sheet("f,g\n1,\n").warnings[0].told("T", "warning: ")
-        self.assertIn("T:1: warning: the column g is blank, so nothing that reads g is tested", told)
+        (told,) = sheet("\nf,g\n1,\n").warnings
+        right = "the gate refuses the sheet with 15 if a conjunct reads g, and a run that reads it ends there"
+        self.assertEqual(told.told("T", "warning: "), f"T:2: warning: the column g is blank; {right}")
 
     def test_a_recipes_file_has_no_names(self):
         bare = Recipe.from_bytes(RECIPE.to_bytes())
@@ -122,6 +132,7 @@ class Tables(unittest.TestCase):
         self.assertEqual(read.columns, [[1], [-2]])
         self.assertIn("taken in their order", read.warnings[0].wrong)
         self.assertEqual(Sheet.from_csv("f1,f0\n-2,1\n", bare).columns, [[1], [-2]])
+        self.assertEqual(Sheet.from_csv("rate,depth\n,-2\n", bare).warnings[1].wrong, "the field f0 is blank")
         with self.assertRaises(Mistakes):
             Sheet.from_csv("rate\n1\n", bare)
 

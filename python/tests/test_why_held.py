@@ -6,7 +6,7 @@ import time
 import unittest
 from unittest import mock
 
-from support import Folder, answers, gate, vector
+from support import Folder, cases, gate
 
 from survey_gate import Condition, Recipe, Sheet, Trouble, check
 from survey_gate.condition import READING, Atom, Conjunct, Node
@@ -46,17 +46,17 @@ class First(unittest.TestCase):
 
     def test_stored_conditions(self):
         held = 0
-        for case, _, derived, _, verdict, _ in answers():
-            if verdict not in ("pass", "held"):
+        for case in cases():
+            if case.derived not in ("pass", "held"):
                 continue
-            recipe = Recipe.from_bytes(vector(case, "recipe"))
-            condition = Condition.from_bytes(vector(case, "derived"))
-            sheet = Sheet.from_bytes(vector(case, "sheet"), recipe)
+            recipe = Recipe.from_bytes(case.content("recipe"))
+            condition = Condition.from_bytes(case.content("derived"))
+            sheet = Sheet.from_bytes(case.content("sheet"), recipe)
             if condition.work(sheet.columns) > 200_000:
                 continue
             found = [self.same(conjunct, sheet.columns, case) for conjunct in condition.conjuncts]
-            self.assertEqual(any(picks is not None for picks in found), verdict == "held", case)
-            if verdict == "held":
+            self.assertEqual(any(picks is not None for picks in found), case.derived == "held", case)
+            if case.derived == "held":
                 held += 1
                 hold = why_held(recipe, condition, sheet, load())
                 self.assertEqual(hold.conjunct, next(k for k, picks in enumerate(found) if picks is not None))
@@ -79,7 +79,7 @@ class First(unittest.TestCase):
                     nodes.append(Node(rng.choice([2, 3, 4, 5]), code, 0, 0))
                     depth -= 1
             edges = [0, 1, 2, 3, lowest(code), highest(code), highest(code) // 2, highest(code) // 3]
-            columns = [[rng.choice(edges) for _ in range(rng.randint(0, 4))] for _ in range(2)]
+            columns = [[rng.choice(edges) for _ in range(rng.randint(1, 4))] for _ in range(2)]
             failing += self.same(Conjunct(nodes), columns) is not None
         self.assertGreater(failing, 100)
 

@@ -1,13 +1,14 @@
-"""Why refused: the site and a smallest set of statements, tried at the gate; places of 12, 13 and 14."""
+"""Why refused: the site and a smallest set of statements, tried at the gate; places of 12 to 15."""
 
 import itertools
 import os
 import unittest
 
-from support import SAMPLES, Folder, answers, gate, refusal, vector
+from support import SAMPLES, Folder, cases, gate, refusal
 
-from survey_gate import Condition, Recipe, Refused, Sheet, Trouble, check, derive
+from survey_gate import Condition, Recipe, Refused, Sheet, Trouble, check, derive, run
 from survey_gate.commands import _agreed
+from survey_gate.gate import placed
 from survey_gate.library import load
 from survey_gate.statements import Kind
 from survey_gate.why_refused import reaching, why_refused
@@ -20,11 +21,11 @@ def sites_of(recipe):
 class Causes(unittest.TestCase):
     def test_stored_recipes_are_accepted_without_what_is_named(self):
         seen = set()
-        for case, _, derived, _, _, _ in answers():
-            number = refusal(derived)
+        for case in cases():
+            number = refusal(case.derive)
             if number not in (9, 10, 11):
                 continue
-            recipe = Recipe.from_bytes(vector(case, "recipe"))
+            recipe = Recipe.from_bytes(case.content("recipe"))
             causes = why_refused(recipe, load())
             self.assertTrue(causes, case)
             for cause in causes:
@@ -130,6 +131,17 @@ class Places(unittest.TestCase):
         place = "conjunct 0 reads f 20 times (of 128), g once (of 1): over 10^42 combinations"
         self.assertEqual((raised.exception.number, raised.exception.place), (14, place))
 
+    def test_15_names_the_fields(self):
+        recipe = Recipe.from_text("field f u8\nfield g u8\nvar a u8\nvar b u8\na = read f\nb = read g\na = a * b\nsite a\n")
+        for columns, place in (
+            ([[], [1]], "the field f is blank, and conjunct 0 reads f"),
+            ([[], []], "the field f is blank, and conjunct 0 reads f; the field g is blank, and conjunct 0 reads g"),
+        ):
+            for call in (check, run):
+                with self.assertRaises(Refused) as raised:
+                    call(recipe, Sheet(recipe.types, columns))
+                self.assertEqual((raised.exception.number, raised.exception.place), (15, place))
+
     def test_13_names_the_entry(self):
         folder = Folder(self)
         recipe = folder.put("r.txt", self.RECIPE)
@@ -162,10 +174,10 @@ class Places(unittest.TestCase):
     def test_2_to_8_name_the_entry(self):
         folder = Folder(self)
         sheet = folder.put("s.csv", "f\n1\n")
-        for case, _, derived, _, _, _ in answers():
-            number = refusal(derived)
-            if 2 <= number <= 8 and vector(case, "recipe")[:4] == b"\x20\0\0\0":
-                recipe = folder.put("r.recipe", vector(case, "recipe"))
+        for case in cases():
+            number = refusal(case.derive)
+            if 2 <= number <= 8 and case.content("recipe")[:4] == b"\x20\0\0\0":
+                recipe = folder.put("r.recipe", case.content("recipe"))
                 status, out, err = gate("check", recipe, sheet)
                 self.assertEqual((status, err), (2, ""))
                 first, second = out.splitlines()
@@ -181,10 +193,25 @@ class Disagreement(unittest.TestCase):
         self.assertIsInstance(trouble, Trouble)
         self.assertIn("r: refused 5: a statement's kind, operand or unused byte is wrong: label 0, and the gate answers 6", str(trouble))
 
+    def test_a_place_of_another_refusal_is_trouble(self):
+        recipe = Recipe.from_text(Places.RECIPE)
+        condition = derive(recipe)
+        blank, many, few = (Sheet(recipe.types, [[1] * readings]) for readings in (0, 128, 1))
+        self.assertEqual(placed(Refused(15), recipe, condition, blank).number, 15)
+        self.assertEqual(placed(Refused(14), recipe, condition, many).number, 14)
+        for number, sheet, part in (
+            (14, blank, "the gate answers 14, and by the readings it is refused 15: the field f is blank"),
+            (15, many, "the gate answers 15, and by the readings it is refused 14: conjunct 0 reads f 3 times"),
+            (15, few, "the gate answers 15, and by the readings it is no refusal: one of the two is wrong"),
+        ):
+            with self.assertRaises(Trouble) as raised:
+                placed(Refused(number), recipe, condition, sheet)
+            self.assertIn(part, str(raised.exception))
+
     def test_stored_conditions_are_refused_alike(self):
-        for case, _, _, answer, _, _ in answers():
-            if answer == "refused 12":
-                self.assertEqual(load().answer(lambda library: library.check(vector(case, "condition"), b"")), 12, case)
+        for case in cases():
+            if case.made_up == "refused 12":
+                self.assertEqual(load().answer(lambda library: library.check(case.content("condition"), b"")), 12, case)
 
 
 if __name__ == "__main__":

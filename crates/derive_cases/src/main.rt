@@ -5,6 +5,9 @@ ghost use Prim.Native.Nat.{_<_};
 use analysis::Derived;
 use libc::STDOUT_FILENO;
 
+// How many cases are stored.
+const CASES: usize = 184;
+
 // The digit of a number at a place: 100, 10 or 1.
 fn digit(i: usize, place: usize) -> u8
     requires { ⌜ 0 < place ⌝ }
@@ -92,7 +95,7 @@ fn case(i: usize) {
 
 fn main() {
     let mut i: usize = 0;
-    while i < 105 {
+    while i < CASES {
         case(i);
         i += 1;
     }

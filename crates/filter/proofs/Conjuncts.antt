@@ -10,11 +10,12 @@ use lib.Dec.{leb}
 use lib.ListN.{length, getD, drop, drop-of-length-le}
 use lib.Seq.{drop-cons}
 use borrow.Author.Tests.{leb-true}
-use Rattle.model.specs.Lists.{every}
+use Rattle.model.specs.Lists.{All, every}
 use Rattle.model.specs.Bytes.{part, Pair, pairAt, pairsAt, chained}
 use Rattle.model.specs.Program.{typeRight}
 use Rattle.model.specs.Conjunct.{Conj}
 use Rattle.model.specs.Condition.{conjunctsAt, conjunctAt, lengthRight, nodesRight, whole, numbered, rising}
+use Rattle.model.proofs.Lists.{all-getD}
 use Rattle.model.proofs.Tests.{and-left, and-right}
 use Rattle.model.proofs.Parts.{length-part}
 use Rattle.condition.specs.Answers.{partNodes, pairPart, pairRight, ConditionIsRead, typesOf, conjunctsOf}
@@ -69,6 +70,12 @@ module _ (s : List ℕ) (k : Counts) (read : ConditionIsRead s k) where
       let few = form-narrow s (k .conjuncts) (k .fields) (q .form) in
       let size = length-part s 8 (k .fields) (omega (arith, q .table)) in
       right-is-conjunct (part s 8 (k .fields)) s (pairAt s (8 + k .fields + 8 * i)) (omega arith) (conjunct-inside s k read i h) (form-pair s (k .conjuncts) (k .fields) (q .form) i h)
+
+  -- what is so of all conjuncts is so of the one that a part is
+  pub conjunct-asked : (i : ℕ) (P : Conj → Type 0) → All P (conjunctsOf s) → i < k .conjuncts → (p : List ℕ) → partNodes p ≡ getD (conjunctsOf s) i []
+      → P (conjunctOf p)
+  unfolding conjunctOf
+  conjunct-asked i P all h p is = subst P (sym is) (all-getD P (conjunctsOf s) i [] all (omega (arith, conjuncts-many)))
 
   -- ---- a pass over the conjuncts
 

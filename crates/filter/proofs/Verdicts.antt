@@ -2,35 +2,53 @@
 -- Assumes nothing.
 use mathlib.Core.Path.{_≡_, refl, sym, ap, ap₂, _∙_}
 use mathlib.Core.Bool.{Bool, true, false, _&&_, cond}
-use mathlib.Core.List.{List, []}
+use mathlib.Core.List.{List, [], _∷_}
 use Prim.Native.Nat.{ℕ, _*_}
 use lib.Dec.{ltb}
 use lib.ListN.{length, getD}
-use Rattle.model.specs.Lists.{every}
+use Rattle.model.specs.Lists.{All, every}
 use Rattle.model.specs.Refusals.{Out, ok, refused, _>>=_, mapped, wrongInput}
 use Rattle.model.specs.Bytes.{pairAt, pairsAt, chained}
 use Rattle.model.specs.Conjunct.{Conjuncts}
 use Rattle.model.specs.Condition.{Condition, readCondition}
 use Rattle.model.specs.Input.{Input, readingsOf, lengthsRight, readInput}
-use Rattle.model.specs.Filter.{holds, fewCombinations, passNumber, heldNumber, filterInput}
+use Rattle.model.specs.Filter.{holds, fewCombinations, hasReadings, passNumber, heldNumber, filterInput}
 use Rattle.model.proofs.Results.{ok-eq, refused-ok, check-ok, mapped-ok}
+use Rattle.model.proofs.Tests.{and-left, and-right}
 use Rattle.input.specs.Answers.{InputIsRead}
 use Rattle.condition.specs.Answers.{sizes, sizesOf, ConditionIsRead, typesOf, conjunctsOf}
 use Rattle.condition.specs.declared.Counts.{Counts}
 use Rattle.condition.proofs.Table.{condition-read}
-use Rattle.filter.specs.Verdict.{judged}
+use Rattle.evaluator.specs.Readings.{Counted}
+use Rattle.evaluator.proofs.Calls.{readings-none-blank}
+use Rattle.filter.specs.Verdict.{Asks, judged}
+use Rattle.filter.specs.declared.Test.the-variants.{Evaluate}
 use Rattle.filter.specs.Decoding.{inputIn}
 
 -- ---- the verdict on conjuncts
 
 module _ (I : Input) (S : Conjuncts) where
-  pub judged-many : every (fewCombinations I) S ≡ false → judged I S ≡ refused 14
+  pub judged-blank : every (hasReadings I) S ≡ false → judged I S ≡ refused 15
   unfolding judged
-  judged-many h = rw h
+  judged-blank h = rw h
 
-  pub judged-few : every (fewCombinations I) S ≡ true → (b : Bool) → every (holds I) S ≡ b → judged I S ≡ ok (cond b passNumber heldNumber)
-  unfolding judged
-  judged-few h b k = rw (h, k)
+  module _ (full : every (hasReadings I) S ≡ true) where
+    pub judged-many : every (fewCombinations I) S ≡ false → judged I S ≡ refused 14
+    unfolding judged
+    judged-many h = rw (full, h)
+
+    pub judged-few : every (fewCombinations I) S ≡ true → (b : Bool) → every (holds I) S ≡ b → judged I S ≡ ok (cond b passNumber heldNumber)
+    unfolding judged
+    judged-few h b k = rw (full, h, k)
+
+-- where no field that is read is blank, every conjunct can be evaluated
+pub none-blank : (counts : List ℕ) (S : Conjuncts) → ((I : Input) → Counted I counts → every (hasReadings I) S ≡ true) → All (Asks Evaluate counts) S
+unfolding every
+none-blank counts [] h = tt
+none-blank counts (e ∷ S) h = (
+  readings-none-blank counts e (λ I c. and-left (hasReadings I e) (every (hasReadings I) S) (h I c)),
+  none-blank counts S (λ I c. and-right (hasReadings I e) (every (hasReadings I) S) (h I c)),
+)
 
 -- ---- the condition and the input
 

@@ -1,22 +1,23 @@
 // The filter (document 01: gate): whether the readings of an input pass a condition. The condition is
-// read, then the input; the readings are decoded once; the combinations of all conjuncts are counted
-// before any conjunct is evaluated. Assumes nothing.
+// read, then the input; the readings are decoded once. Three tests go over all conjuncts one after the
+// other: that no field that is read is blank, that the combinations are few enough, and that none
+// overflows. Assumes nothing.
 ghost use mathlib.Core.Path.{_≡_};
 ghost use mathlib.Core.Bool.{true};
 ghost use Prim.Native.Nat.{ℕ, _+_, _*_, _/_, _≤_, _<_};
 ghost use lib.IntN.{pos};
 ghost use lib.ListN.{length, getD};
 ghost use Rattle.arith.specs.Types.{Row, IsRow};
-ghost use Rattle.model.specs.Lists.{every};
+ghost use Rattle.model.specs.Lists.{All, every};
 ghost use Rattle.model.specs.Program.{typeRight};
 ghost use Rattle.model.specs.Input.{Input, width, readingAt};
-ghost use Rattle.model.specs.Filter.{holds, fewCombinations, filterInput};
+ghost use Rattle.model.specs.Filter.{fewCombinations, hasReadings, filterInput};
 ghost use Rattle.input.specs.Answers.{InputIsRead};
 ghost use Rattle.condition.specs.Answers.{ConditionIsRead, typesOf, conjunctsOf};
 ghost use Rattle.evaluator.specs.Part.{conjunctOf, IsConjunct};
 ghost use Rattle.evaluator.specs.Readings.{signedAt, Few, Lent, Counted, Decoded};
 ghost use Rattle.evaluator.specs.Plan.{Taken};
-ghost use Rattle.filter.specs.Verdict.{verdictOf, testOf, judged};
+ghost use Rattle.filter.specs.Verdict.{verdictOf, testOf, Asks, Sees, judged};
 ghost use Rattle.filter.specs.Decoding.{inputIn, Filled};
 use arith::Range;
 use condition::ConditionRead;
@@ -30,8 +31,10 @@ pub enum Verdict {
     Refused(u8),
 }
 
-// What is asked of a conjunct: that it has few enough combinations; that none of them overflows.
+// What is asked of a conjunct: that every field that it reads has a reading; that it has few enough
+// combinations; that none of them overflows.
 enum Test {
+    Readings,
     Count,
     Evaluate,
 }
@@ -92,6 +95,14 @@ fn decode(types: &[u8], input: &[u8], counts: &mut [usize], mags: &mut [u64], ne
 
 // ---- the conjuncts
 
+// Whether every field that a conjunct reads has a reading.
+fn has_readings(part: &[u8], counts: &[usize]) -> bool
+    requires { ⌜ IsConjunct (now part) × Few (now counts) ⌝ }
+    ensures { λ r. ⌜ ((I : Input) → Counted I (now (counts .entry)) → r ≡ hasReadings I (conjunctOf (now (part .entry)))) ⌝ }
+{
+    0 < evaluator::product(part, counts)
+}
+
 // Whether a conjunct has few enough combinations.
 fn has_few(part: &[u8], counts: &[usize]) -> bool
     requires { ⌜ IsConjunct (now part) × Few (now counts) ⌝ }
@@ -100,26 +111,16 @@ fn has_few(part: &[u8], counts: &[usize]) -> bool
     evaluator::product(part, counts) <= 1048576
 }
 
-// Whether no combination overflows at a step of a conjunct; where an atom has no reading there is no
-// combination.
-fn nothing_overflows(part: &[u8], counts: &[usize], mags: &[u64], negs: &[bool]) -> bool
-    requires { ⌜ IsConjunct (now part) × Lent (now counts) (now mags) (now negs) ⌝ }
-    ensures { λ r. ⌜ ((I : Input) → Decoded I (now (counts .entry)) (now (mags .entry)) (now (negs .entry)) → r ≡ holds I (conjunctOf (now (part .entry)))) ⌝ }
-{
-    if evaluator::product(part, counts) == 0 {
-        return true;
-    }
-    evaluator::holds(part, counts, mags, negs)
-}
-
 // Whether a conjunct passes a test.
 fn passes(test: Test, part: &[u8], counts: &[usize], mags: &[u64], negs: &[bool]) -> bool
-    requires { ⌜ IsConjunct (now part) × Lent (now counts) (now mags) (now negs) ⌝ }
-    ensures { λ r. ⌜ ((I : Input) → Decoded I (now (counts .entry)) (now (mags .entry)) (now (negs .entry)) → r ≡ testOf test I (conjunctOf (now (part .entry)))) ⌝ }
+    requires { ⌜ IsConjunct (now part) × Lent (now counts) (now mags) (now negs) × Asks test (now counts) (conjunctOf (now part)) ⌝ }
+    ensures { λ r. ⌜ ((I : Input) → Sees test I (now (counts .entry)) (now (mags .entry)) (now (negs .entry))
+        → r ≡ testOf test I (conjunctOf (now (part .entry)))) ⌝ }
 {
     match test {
+        Test::Readings => has_readings(part, counts),
         Test::Count => has_few(part, counts),
-        Test::Evaluate => nothing_overflows(part, counts, mags, negs),
+        Test::Evaluate => evaluator::holds(part, counts, mags, negs),
     }
 }
 
@@ -132,8 +133,10 @@ fn all_pass(
     mags: &[u64],
     negs: &[bool],
 ) -> bool
-    requires { ⌜ ConditionIsRead (now condition) sizes × Lent (now counts) (now mags) (now negs) ⌝ }
-    ensures { λ r. ⌜ ((I : Input) → Decoded I (now (counts .entry)) (now (mags .entry)) (now (negs .entry)) → r ≡ every (testOf test I) (conjunctsOf (now (condition .entry)))) ⌝ }
+    requires { ⌜ ConditionIsRead (now condition) sizes × Lent (now counts) (now mags) (now negs)
+        × All (Asks test (now counts)) (conjunctsOf (now condition)) ⌝ }
+    ensures { λ r. ⌜ ((I : Input) → Sees test I (now (counts .entry)) (now (mags .entry)) (now (negs .entry))
+        → r ≡ every (testOf test I) (conjunctsOf (now (condition .entry)))) ⌝ }
 {
     let n = sizes.conjuncts;
     let mut i: usize = 0;
@@ -149,12 +152,15 @@ fn all_pass(
 
 // ---- the verdict
 
-// Of a condition that is read, with the readings of an input: all products are tested before any
-// evaluation.
+// Of a condition that is read, with the readings of an input: each test goes over all conjuncts before
+// the next.
 fn judge(condition: &[u8], sizes: Counts, counts: &[usize], mags: &[u64], negs: &[bool]) -> Verdict
     requires { ⌜ ConditionIsRead (now condition) sizes × Lent (now counts) (now mags) (now negs) ⌝ }
     ensures { λ r. ⌜ ((I : Input) → Decoded I (now (counts .entry)) (now (mags .entry)) (now (negs .entry)) → verdictOf r ≡ judged I (conjunctsOf (now (condition .entry)))) ⌝ }
 {
+    if !all_pass(Test::Readings, condition, sizes, counts, mags, negs) {
+        return Verdict::Refused(15);
+    }
     if !all_pass(Test::Count, condition, sizes, counts, mags, negs) {
         return Verdict::Refused(14);
     }

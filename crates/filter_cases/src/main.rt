@@ -1,8 +1,11 @@
-// Runs the filter over stored files, NNN.condition with NNN.sheet, and NNN.derived with NNN.sheet where
-// there is one, in the folder that it is run in: a line for each with the verdict.
+// Runs the filter over stored files, NNN.condition with NNN.sheet, and NNN.derived with NNN.sheet, each
+// where there is one, in the folder that it is run in: a line for each with the verdict.
 ghost use Prim.Native.Nat.{_<_};
 use filter::Verdict;
 use libc::STDOUT_FILENO;
+
+// How many cases are stored.
+const CASES: usize = 196;
 
 // The digit of a number at a place: 100, 10 or 1.
 fn digit(i: usize, place: usize) -> u8
@@ -56,8 +59,12 @@ fn with_sheet(i: usize, name: &[u8], condition: &[u8]) {
     line(i, name, v);
 }
 
-// The same for the condition behind a descriptor.
-fn with_condition(i: usize, name: &[u8], fd: i32) {
+// The same for the condition at a path, if there is one.
+fn with_condition(i: usize, name: &[u8], path: &[u8]) {
+    let fd = os::open_read(path);
+    if fd < 0 {
+        return;
+    }
     let mut condition = [0u8; 61993];
     let n = io::read_full(fd, &mut condition);
     libc::close(fd);
@@ -80,15 +87,9 @@ fn condition_line(i: usize) {
         b'o',
         b'n',
     ];
-    let fd = os::open_read(&path);
-    if fd < 0 {
-        os::fail(&path);
-        return;
-    }
-    with_condition(i, b" condition", fd);
+    with_condition(i, b" condition", &path);
 }
 
-// A recipe that is refused has no derived condition.
 fn derived_line(i: usize) {
     let path = [
         digit(i, 100),
@@ -103,16 +104,12 @@ fn derived_line(i: usize) {
         b'e',
         b'd',
     ];
-    let fd = os::open_read(&path);
-    if fd < 0 {
-        return;
-    }
-    with_condition(i, b" derived", fd);
+    with_condition(i, b" derived", &path);
 }
 
 fn main() {
     let mut i: usize = 0;
-    while i < 107 {
+    while i < CASES {
         condition_line(i);
         derived_line(i);
         i += 1;

@@ -8,10 +8,10 @@ use Prim.Native.Nat.{ℕ}
 use native.Mathlib.Omega.{arith}
 use lib.Dec.{eqb}
 use Rattle.model.specs.Lists.{every}
-use Rattle.model.specs.Refusals.{Out, ok, refused, _>>=_, check, lentTooShort, tooManyCombinations}
+use Rattle.model.specs.Refusals.{Out, ok, refused, _>>=_, check, lentTooShort, tooManyCombinations, blankField}
 use Rattle.model.specs.Condition.{Condition, readCondition, analysis}
 use Rattle.model.specs.Input.{Input, readInput}
-use Rattle.model.specs.Filter.{holds, fewCombinations, passNumber, heldNumber, filterInput}
+use Rattle.model.specs.Filter.{holds, fewCombinations, hasReadings, passNumber, heldNumber, filterInput}
 use Rattle.model.specs.Run.{Ran, run}
 use Rattle.model.specs.Guarded.{held, passed, admitted, guarded}
 use Rattle.model.specs.Demands.{FromTo, ResultOrRefusal, OrLent, AnalysisRefusal, FilterRefusal, RunRefusal, GuardedRefusal, Demand1}
@@ -35,14 +35,16 @@ filter-gives : (c i : List ℕ) → Gives IsVerdict (filterInput c i)
 unfolding filterInput
 filter-gives c i =
     let answer : Condition → Input → ℕ = λ C I. cond (every (holds I) (C .conjuncts)) passNumber heldNumber in
-    let judged : Condition → Input → Out ℕ = λ C I. check (every (fewCombinations I) (C .conjuncts)) tooManyCombinations (ok (answer C I)) in
+    let counted : Condition → Input → Out ℕ = λ C I. check (every (fewCombinations I) (C .conjuncts)) tooManyCombinations (ok (answer C I)) in
+    let judged : Condition → Input → Out ℕ = λ C I. check (every (hasReadings I) (C .conjuncts)) blankField (counted C I) in
     gives-bind (λ C. Unit {0}) IsVerdict (readCondition c) (λ C. readInput (C .types) i >>= judged C) (gives-any (readCondition c))
     (
     λ C u.
     gives-bind (λ I. Unit {0}) IsVerdict (readInput (C .types) i) (judged C) (gives-any (readInput (C .types) i))
     (
     λ I u.
-    gives-check IsVerdict (every (fewCombinations I) (C .conjuncts)) tooManyCombinations (ok (answer C I)) (one-of-two (every (holds I) (C .conjuncts)))
+    gives-check IsVerdict (every (hasReadings I) (C .conjuncts)) blankField (counted C I)
+    (gives-check IsVerdict (every (fewCombinations I) (C .conjuncts)) tooManyCombinations (ok (answer C I)) (one-of-two (every (holds I) (C .conjuncts))))
     )
     )
 
@@ -52,25 +54,25 @@ module _ (program input : List ℕ) (limit : ℕ) (choices log : List ℕ) where
   abbrev ran : Out Ran
   ran = run program input limit choices log
 
-  -- with the condition derived: the input is not in its form, or there are too many combinations
-  pub accepted-refusals : (C : List ℕ) → analysis program ≡ ok C → (n : ℕ) → guarded program input limit choices log ≡ refused n → FromTo 13 14 n
+  -- with the condition derived: the input is not in its form, a field that is read is blank, or there are too many combinations
+  pub accepted-refusals : (C : List ℕ) → analysis program ≡ ok C → (n : ℕ) → guarded program input limit choices log ≡ refused n → FromTo 13 15 n
   unfolding guarded
   accepted-refusals C a n e =
       let k = analysis-accepts program C a in
       let whole = filterInput C input >>= admitted C ran in
-      let filtered = refusals (FromTo 13 14) (filterInput C input) (read-refusals-filter C input _ (derived-reads-back program C k)) in
-      let ran-refuses = refusals (FromTo 13 14) ran (λ m r. let q = read-refusals-run program input limit choices log (k .P) (k .reads) m r in omega arith) in
-      refuses-by (FromTo 13 14) whole n (rw a at e)
-      (refuses-bind (FromTo 13 14) (filterInput C input) (admitted C ran) filtered (admitted-refuses ran-refuses))
+      let filtered = refusals (FromTo 13 15) (filterInput C input) (read-refusals-filter C input _ (derived-reads-back program C k)) in
+      let ran-refuses = refusals (FromTo 13 15) ran (λ m r. let q = read-refusals-run program input limit choices log (k .P) (k .reads) m r in omega arith) in
+      refuses-by (FromTo 13 15) whole n (rw a at e)
+      (refuses-bind (FromTo 13 15) (filterInput C input) (admitted C ran) filtered (admitted-refuses ran-refuses))
     where
       refusals : {A : Type 0} (P : ℕ → Type 0) (o : Out A) → ((n : ℕ) → o ≡ refused n → P n) → Refuses P o
       refusals P (ok a) h = tt
       refusals P (refused n) h = h n refl
 
-      admitted-refuses : Refuses (FromTo 13 14) ran → (v : ℕ) → Refuses (FromTo 13 14) (admitted C ran v)
+      admitted-refuses : Refuses (FromTo 13 15) ran → (v : ℕ) → Refuses (FromTo 13 15) (admitted C ran v)
       admitted-refuses h v =
-          case (eqb v passNumber) (λ b. Refuses (FromTo 13 14) (cond b (ran >>= λ R. ok (passed C R)) (ok held)))
-          (λ q. refuses-bind (FromTo 13 14) ran (λ R. ok (passed C R)) h (λ R. tt)) (λ q. tt)
+          case (eqb v passNumber) (λ b. Refuses (FromTo 13 15) (cond b (ran >>= λ R. ok (passed C R)) (ok held)))
+          (λ q. refuses-bind (FromTo 13 15) ran (λ R. ok (passed C R)) h (λ R. tt)) (λ q. tt)
 
   pub refusals-guarded : (n : ℕ) → guarded program input limit choices log ≡ refused n → GuardedRefusal n
   unfolding guarded

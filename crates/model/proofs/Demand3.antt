@@ -8,13 +8,13 @@ use lib.Dec.{leb}
 use lib.ListN.{length}
 use borrow.Author.Tests.{leb-true, ltb-true}
 use Rattle.model.specs.Lists.{All, every}
-use Rattle.model.specs.Refusals.{Out, ok, _>>=_, check, tooManyCombinations}
+use Rattle.model.specs.Refusals.{Out, ok, _>>=_, check, tooManyCombinations, blankField}
 use Rattle.model.specs.Conjunct.{Conjuncts}
 use Rattle.model.specs.Walk.{derived}
 use Rattle.model.specs.Program.{Program, Tables, countsRight, readProgram}
 use Rattle.model.specs.Condition.{Condition, encode, readCondition, analysis}
 use Rattle.model.specs.Input.{Input, readInput}
-use Rattle.model.specs.Filter.{fewCombinations, holds, passNumber, heldNumber, filterInput}
+use Rattle.model.specs.Filter.{fewCombinations, hasReadings, holds, passNumber, heldNumber, filterInput}
 use Rattle.model.specs.Run.{zeros, Line, markByte, choicesOf, Ran}
 use Rattle.model.specs.Exact.{Note}
 use Rattle.model.specs.Demands.{Record, Matches, Marks, Demand3}
@@ -77,7 +77,9 @@ module _ (program condition : List ℕ) (a : Accepted program condition) where
       let C : Condition = record { types = a .P .tables .fields; conjuncts = a .S } in
       let all = every (holds I) (a .S) in
       let answer = cond all passNumber heldNumber in
-      let within = check-ok (every (fewCombinations I) (a .S)) tooManyCombinations (ok answer) passNumber (rw (derived-reads-back, i) at e) in
+      let counted = check (every (fewCombinations I) (a .S)) tooManyCombinations (ok answer) in
+      let full = check-ok (every (hasReadings I) (a .S)) blankField counted passNumber (rw (derived-reads-back, i) at e) in
+      let within = check-ok (every (fewCombinations I) (a .S)) tooManyCombinations (ok answer) passNumber (full .1) in
       let all-hold = every-all (holds I) (a .S) (is-pass all (ok-eq answer passNumber (within .1))) in
       all-imp₂ (λ c f h. safe-meets I c f (holds-safe I c h)) (a .S) (read-of-fields condition C derived-reads-back) all-hold
 

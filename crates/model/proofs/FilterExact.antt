@@ -10,7 +10,7 @@ use Rattle.model.specs.Lists.{every}
 use Rattle.model.specs.Refusals.{ok}
 use Rattle.model.specs.Condition.{Condition, readCondition}
 use Rattle.model.specs.Input.{Input, readInput}
-use Rattle.model.specs.Filter.{holds, fewCombinations, passNumber, heldNumber, filterInput}
+use Rattle.model.specs.Filter.{holds, fewCombinations, hasReadings, passNumber, heldNumber, filterInput}
 use Rattle.model.specs.Demands.{Demand2}
 use Rattle.model.proofs.Choosing.{read-of-fields, holds-safe, safe-holds, held-overflows, overflows-held}
 use Rattle.model.proofs.Every.{every-all, all-every, every-some, some-every}
@@ -29,19 +29,19 @@ is-held false e = refl
 
 -- ---- the theorem
 
--- within the limit the answer is the test of every conjunct
+-- with a reading in every field that is read, and within the limit, the answer is the test of every conjunct
 pub filter-answer : (condition input : List ℕ) (C : Condition) (I : Input) → readCondition condition ≡ ok C → readInput (C .types) input ≡ ok I
-    → every (fewCombinations I) (C .conjuncts) ≡ true
+    → every (hasReadings I) (C .conjuncts) ≡ true → every (fewCombinations I) (C .conjuncts) ≡ true
     → filterInput condition input ≡ ok (cond (every (holds I) (C .conjuncts)) passNumber heldNumber)
 unfolding filterInput
-filter-answer condition input C I c i few = rw (c, i, few)
+filter-answer condition input C I c i full few = rw (c, i, full, few)
 
 pub filter-exact : Demand2
-filter-exact condition input C I c i few =
+filter-exact condition input C I c i full few =
     let S = C .conjuncts in
     let all = every (holds I) S in
     let answer = cond all passNumber heldNumber in
-    let is = filter-answer condition input C I c i few in
+    let is = filter-answer condition input C I c i full few in
     let fields = read-of-fields condition C c in (
       (
         λ p. all-imp (holds-safe I) S (every-all (holds I) S (is-pass all (ok-eq answer passNumber (sym is ∙ p)))),

@@ -51,6 +51,7 @@ pub mod Combining
 pub mod Worked
 pub mod Choosing
 pub mod FilterExact
+pub mod BlankFields
 pub mod SafeMeets
 -- the operations on byte strings
 pub mod RefusalNumbers

@@ -96,8 +96,8 @@ refusals-analysis p n e =
 pub refusals-filter : (c i : List ℕ) (n : ℕ) → filterInput c i ≡ refused n → FilterRefusal n
 unfolding filterInput readCondition readInput
 refusals-filter c i n e =
-    let causes : All FilterRefusal (12 ∷ 13 ∷ 14 ∷ []) = omega arith in
-    refuses-by FilterRefusal (filterInput c i) n e (search (refuses-check, refuses-bind))
+    let causes : All FilterRefusal (12 ∷ 13 ∷ 14 ∷ 15 ∷ []) = omega arith in
+    refuses-by FilterRefusal (filterInput c i) n e (search (refuses-check, refuses-bind) depth 8)
 
 pub refusals-run : (p i : List ℕ) (limit : ℕ) (ch log : List ℕ) (n : ℕ) → run p i limit ch log ≡ refused n → RunRefusal n
 unfolding run readInput
@@ -119,8 +119,8 @@ unfolding run readInput
 read-refusals-run p i limit ch log P r n e = refuses-by (λ m. m ≡ 13) (run p i limit ch log) n e (rw r (search (refuses-check, refuses-bind)))
 
 -- of a condition that is read
-pub read-refusals-filter : (c i : List ℕ) (C : Condition) → readCondition c ≡ ok C → (n : ℕ) → filterInput c i ≡ refused n → FromTo 13 14 n
+pub read-refusals-filter : (c i : List ℕ) (C : Condition) → readCondition c ≡ ok C → (n : ℕ) → filterInput c i ≡ refused n → FromTo 13 15 n
 unfolding filterInput readInput
 read-refusals-filter c i C r n e =
-    let causes : All (FromTo 13 14) (13 ∷ 14 ∷ []) = omega arith in
-    refuses-by (FromTo 13 14) (filterInput c i) n e (rw r (search (refuses-check, refuses-bind)))
+    let causes : All (FromTo 13 15) (13 ∷ 14 ∷ 15 ∷ []) = omega arith in
+    refuses-by (FromTo 13 15) (filterInput c i) n e (rw r (search (refuses-check, refuses-bind)))

@@ -9,9 +9,9 @@ use lib.ListN.{length}
 use Rattle.arith.specs.Step.{Outcome, value, overflow}
 use Rattle.arith.specs.Types
 use Rattle.arith.specs.Words
-use Rattle.model.specs.Refusals.{Out, ok, refused, _>>=_, wrongBlocks, tooManyConjuncts, neverSettles}
+use Rattle.model.specs.Refusals.{Out, ok, refused, _>>=_, wrongBlocks, tooManyConjuncts, neverSettles, tooManyCombinations, blankField}
 use Rattle.model.specs.Bytes.{bytes4}
-use Rattle.model.specs.Values.{Operation, sub, mul, div}
+use Rattle.model.specs.Values.{Operation, add, sub, mul, div}
 use Rattle.model.specs.Code.{plain, site, done, step, branch, loop, if, else, end, while, treeOf}
 use Rattle.model.specs.Conjunct.{field, Node, const, atom, op, conv, Conjuncts, atoms}
 use Rattle.model.specs.Condition.{Condition, encode, readCondition, analysis}
@@ -34,7 +34,7 @@ use Rattle.model.specs.Walk
 
 -- to unfold this is to unfold all that they are made of
 definitions : Type 0
-unfolding Bytes.bytes2 Bytes.bytes4 Bytes.bytes8 Bytes.entries Bytes.chained Code.taking Code.opened Code.treeOf Condition.conjunctBytes Condition.pairBytes Condition.encode Condition.analysis Condition.nodeAt Condition.nodeRight Condition.typeNode Condition.typeNodes Condition.whole Condition.numbered Condition.rising Condition.readCondition Conjunct.sourceBytes Conjunct.bytes Conjunct.orderNumbers Conjunct.orderNodes Conjunct.order Conjunct.withConjunct Conjunct.unionOf Conjunct.same Conjunct.long Conjunct.limits Conjunct.sameSource Conjunct.sameAtom Conjunct.without Conjunct.atoms Conjunct.rank Conjunct.renamed Conjunct.renumber Decimal.digits Decimal.places Decimal.decimal Decimal.number Filter.evaluate Filter.combinations Filter.valueIn Filter.combinationsOf Filter.holds Filter.productOf Filter.fewCombinations Filter.filterInput Input.width Input.bitsAt Input.readingAt Input.readingsOf Input.lengthsRight Input.readInput Listing.typeText Listing.operationText Listing.atomText Listing.nodeName Listing.nodeType Listing.nodeText Listing.lineText Listing.linesFrom Listing.listingText Listing.refusalText Listing.listing Lists.every Program.layoutOf Program.tablesAt Program.sectionsRight Program.countsRight Program.typesRight Program.formRight Program.typesAgree Program.immediateRight Program.stmtOf Program.readProgram Values.operated Values.converted Walk.nodes Walk.replace Walk.onArray Walk.loads Walk.swap Walk.swapAll Walk.subsets Walk.before Walk.gather Walk.back Walk.rounds Walk.walk Walk.here Walk.sites Walk.zeroed Walk.start Walk.join Walk.derived Types.bits Types.signed Types.depth Types.height Words.wideOf Words.wordOf Words.valueAt Words.immediate mathlib.Core.List.flatMap
+unfolding Bytes.bytes2 Bytes.bytes4 Bytes.bytes8 Bytes.entries Bytes.chained Code.taking Code.opened Code.treeOf Condition.conjunctBytes Condition.pairBytes Condition.encode Condition.analysis Condition.nodeAt Condition.nodeRight Condition.typeNode Condition.typeNodes Condition.whole Condition.numbered Condition.rising Condition.readCondition Conjunct.sourceBytes Conjunct.bytes Conjunct.orderNumbers Conjunct.orderNodes Conjunct.order Conjunct.withConjunct Conjunct.unionOf Conjunct.same Conjunct.long Conjunct.limits Conjunct.sameSource Conjunct.sameAtom Conjunct.without Conjunct.atoms Conjunct.rank Conjunct.renamed Conjunct.renumber Decimal.digits Decimal.places Decimal.decimal Decimal.number Filter.evaluate Filter.combinations Filter.valueIn Filter.combinationsOf Filter.holds Filter.productOf Filter.fewCombinations Filter.hasReadings Filter.filterInput Input.width Input.bitsAt Input.readingAt Input.readingsOf Input.lengthsRight Input.readInput Listing.typeText Listing.operationText Listing.atomText Listing.nodeName Listing.nodeType Listing.nodeText Listing.lineText Listing.linesFrom Listing.listingText Listing.refusalText Listing.listing Lists.every Program.layoutOf Program.tablesAt Program.sectionsRight Program.countsRight Program.typesRight Program.formRight Program.typesAgree Program.immediateRight Program.stmtOf Program.readProgram Values.operated Values.converted Walk.nodes Walk.replace Walk.onArray Walk.loads Walk.swap Walk.swapAll Walk.subsets Walk.before Walk.gather Walk.back Walk.rounds Walk.walk Walk.here Walk.sites Walk.zeroed Walk.start Walk.join Walk.derived Types.bits Types.signed Types.depth Types.height Words.wideOf Words.wordOf Words.valueAt Words.immediate mathlib.Core.List.flatMap
 definitions = Unit {0}
 
 -- the analysis
@@ -232,6 +232,41 @@ nothing = refl
 nothing-passes : check (file [] []) [] ≡ ok passNumber
 unfolding check file
 nothing-passes = refl
+
+-- ---- a field left blank
+
+-- an input of two u8 fields: so many zeros, and these readings
+zerosAnd : ℕ → List ℕ → List ℕ
+unfolding Bytes.bytes4
+zerosAnd n rest = bytes4 16 ++ bytes4 n ++ bytes4 (16 + n) ++ bytes4 (length rest) ++ zeros n ++ rest
+
+-- f0<k>, a u8
+abbrev again : ℕ → Node
+again k = atom (record { src = field 0 0; n = k })
+
+-- f0<1> + f0<2> + f0<3>, of which 128 readings have 2,097,152 combinations; and f1<1> + 0 + 0, which stands behind it
+three-atoms : List ℕ
+three-atoms =
+    file (0 ∷ 0 ∷ []) (
+    (again 1 ∷ again 2 ∷ op add 0 ∷ again 3 ∷ op add 0 ∷ []) ∷ (reading 1 0 ∷ const 0 0 ∷ op add 0 ∷ const 0 0 ∷ op add 0 ∷ []) ∷ []
+    )
+
+-- 255 + 1, which overflows; and f0<1> + 0, which stands behind it
+overflowing : List ℕ
+overflowing = file (0 ∷ 0 ∷ []) ((const 0 255 ∷ const 0 1 ∷ op add 0 ∷ []) ∷ (again 1 ∷ const 0 0 ∷ op add 0 ∷ []) ∷ [])
+
+-- 15 for a blank field that is read, and not for one that is not; in whatever conjunct, it comes before 14 and before a hold
+blank-examples :
+    check (file (0 ∷ 0 ∷ []) ((again 1 ∷ reading 1 0 ∷ op mul 0 ∷ []) ∷ [])) (zerosAnd 1 [])
+    ∷ check (file (0 ∷ 0 ∷ []) ((again 1 ∷ again 2 ∷ op mul 0 ∷ []) ∷ [])) (zerosAnd 1 [])
+    ∷ check three-atoms (zerosAnd 128 [])
+    ∷ check three-atoms (zerosAnd 128 (7 ∷ []))
+    ∷ check overflowing (zerosAnd 0 [])
+    ∷ check overflowing (zerosAnd 1 [])
+    ∷ []
+    ≡ refused blankField ∷ ok passNumber ∷ refused blankField ∷ refused tooManyCombinations ∷ refused blankField ∷ ok heldNumber ∷ []
+unfolding check file zerosAnd zeros three-atoms overflowing
+blank-examples = refl
 
 -- ---- block trees
 

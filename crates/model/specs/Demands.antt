@@ -2,7 +2,7 @@
 -- Assumes nothing.
 use mathlib.Core.Path.{_≡_}
 use mathlib.Core.Logic.{_⊎_, _↔_}
-use mathlib.Core.Bool.{Bool, true, false}
+use mathlib.Core.Bool.{Bool, true, false, cond}
 use mathlib.Core.List.{List, [], _∷_, List·Memᴰ, Forall₂}
 use Prim.Native.Nat.{ℕ, zero, suc, _≤_}
 use lib.IntN.{ℤ}
@@ -10,13 +10,13 @@ use lib.ListN.{length, drop}
 use Rattle.arith.specs.Step.{passes}
 use Rattle.arith.specs.Words.{valueAt}
 use Rattle.model.specs.Lists.{All, every}
-use Rattle.model.specs.Refusals.{Out, ok, refused, lentTooShort, wrongSections, wrongBlocks}
-use Rattle.model.specs.Refusals.{neverSettles, wrongCondition, wrongInput, tooManyCombinations}
+use Rattle.model.specs.Refusals.{Out, ok, refused, _>>=_, check, lentTooShort, wrongSections, wrongBlocks}
+use Rattle.model.specs.Refusals.{neverSettles, wrongCondition, wrongInput, tooManyCombinations, blankField}
 use Rattle.model.specs.Bytes.{byteAt, u16At, u64At}
 use Rattle.model.specs.Conjunct.{Source, field, cell, Atom, Conj, Conjuncts, atoms}
 use Rattle.model.specs.Condition.{Condition, readCondition, analysis}
 use Rattle.model.specs.Input.{Input, readInput}
-use Rattle.model.specs.Filter.{evaluate, fewCombinations, passNumber, heldNumber, filterInput}
+use Rattle.model.specs.Filter.{evaluate, holds, fewCombinations, hasReadings, passNumber, heldNumber, filterInput}
 use Rattle.model.specs.Run.{Ran, run}
 use Rattle.model.specs.Guarded.{guarded}
 use Rattle.model.specs.Exact.{Note, exactRun}
@@ -40,14 +40,14 @@ abbrev pub AnalysisRefusal : ℕ → Type 0
 AnalysisRefusal n = FromTo wrongSections neverSettles n
 
 abbrev pub FilterRefusal : ℕ → Type 0
-FilterRefusal n = FromTo wrongCondition tooManyCombinations n
+FilterRefusal n = FromTo wrongCondition blankField n
 
 abbrev pub RunRefusal : ℕ → Type 0
 RunRefusal n = FromTo wrongSections wrongBlocks n ⊎ (n ≡ wrongInput)
 
 -- a condition that the analysis wrote is in its form
 abbrev pub GuardedRefusal : ℕ → Type 0
-GuardedRefusal n = AnalysisRefusal n ⊎ FromTo wrongInput tooManyCombinations n
+GuardedRefusal n = AnalysisRefusal n ⊎ FromTo wrongInput blankField n
 
 -- whatever bytes are handed in, there is an answer; the filter's is one of two numbers, and a run's end one of five
 pub record Demand1 : Type 0 where
@@ -82,14 +82,37 @@ abbrev pub Some : {A : Type 0} → (A → Type 0) → List A → Type 0
 Some P [] = ⊥
 Some P (x ∷ xs) = P x ⊎ Some P xs
 
--- a condition and an input that are read, with products within the limit: the input passes if and only if no choice of
--- readings overflows at any step of any conjunct, and is held if and only if one does
+-- a condition and an input that are read, with a reading in every field that a conjunct reads and products within the limit: the
+-- input passes if and only if no choice of readings overflows at any step of any conjunct, and is held if and only if one does
 abbrev pub Demand2 : Type 0
 Demand2 =
     (condition input : List ℕ) (C : Condition) (I : Input)
-    → readCondition condition ≡ ok C → readInput (C .types) input ≡ ok I → every (fewCombinations I) (C .conjuncts) ≡ true
+    → readCondition condition ≡ ok C → readInput (C .types) input ≡ ok I
+    → every (hasReadings I) (C .conjuncts) ≡ true → every (fewCombinations I) (C .conjuncts) ≡ true
     → ((filterInput condition input ≡ ok passNumber) ↔ All (Safe I) (C .conjuncts))
     × ((filterInput condition input ≡ ok heldNumber) ↔ Some (Overflows I) (C .conjuncts))
+
+-- ---- a field left blank: document 02, card 1
+
+-- the atom's field has no readings; a condition that is read has no loads
+abbrev pub IsBlank : Input → Source → Type 0
+IsBlank I (field f ty) = I f ≡ []
+IsBlank I (cell l r k ty) = ⊥
+
+-- document 01's own filter, in which a conjunct that reads a blank field holds
+unfoldable pub filterAllowingBlanks : List ℕ → List ℕ → Out ℕ
+filterAllowingBlanks condition input =
+    readCondition condition >>= λ C. readInput (C .types) input >>= λ I.
+    check (every (fewCombinations I) (C .conjuncts)) tooManyCombinations
+    (ok (cond (every (holds I) (C .conjuncts)) passNumber heldNumber))
+
+-- of a condition and an input that are read, 15 is given if and only if a field that some conjunct reads has no readings; and where
+-- it is not given, any bytes are answered as before
+pub record BlankFields : Type 0 where
+  pub blank : (condition input : List ℕ) (C : Condition) (I : Input) → readCondition condition ≡ ok C → readInput (C .types) input ≡ ok I
+      → (filterInput condition input ≡ refused blankField) ↔ Some (λ e. Some (λ a. IsBlank I (a .src)) (atoms e)) (C .conjuncts)
+  pub others : (condition input : List ℕ)
+      → (filterInput condition input ≡ refused blankField) ⊎ (filterInput condition input ≡ filterAllowingBlanks condition input)
 
 -- ---- demand 3
 

@@ -79,3 +79,7 @@ wrongInput = 13
 -- more than 1,048,576 combinations
 abbrev pub tooManyCombinations : ℕ
 tooManyCombinations = 14
+
+-- a field that some conjunct reads has no readings
+abbrev pub blankField : ℕ
+blankField = 15

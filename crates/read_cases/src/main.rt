@@ -7,6 +7,9 @@ use input::InputRead;
 use libc::STDOUT_FILENO;
 use program::ProgramRead;
 
+// How many cases are stored.
+const CASES: usize = 184;
+
 // The digit of a number at a place: 100, 10 or 1.
 fn digit(i: usize, place: usize) -> u8
     requires { ⌜ 0 < place ⌝ }
@@ -150,7 +153,7 @@ fn condition_line(i: usize) {
 
 fn main() {
     let mut i: usize = 0;
-    while i < 105 {
+    while i < CASES {
         recipe_line(i);
         condition_line(i);
         i += 1;

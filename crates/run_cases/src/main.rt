@@ -9,6 +9,9 @@ use interpreter::Ran;
 use libc::STDOUT_FILENO;
 use program::ProgramRead;
 
+// How many cases are stored.
+const CASES: usize = 190;
+
 // The digit of a number at a place: 100, 10 or 1.
 fn digit(i: usize, place: usize) -> u8
     requires { ⌜ 0 < place ⌝ }
@@ -316,7 +319,7 @@ fn with_recipe(i: usize) {
 
 fn main() {
     let mut i: usize = 0;
-    while i < 110 {
+    while i < CASES {
         with_recipe(i);
         i += 1;
     }

@@ -52,7 +52,7 @@ const HELD: u64 = 5;
 fn answer(word: u64) -> Result<u64, Refusal> {
     match word >> 32 {
         0 => Ok(word),
-        number => Err(Refusal::numbered(number).expect("the library refuses with 1 to 14")),
+        number => Err(Refusal::numbered(number).expect("the library refuses with 1 to 15")),
     }
 }
 
@@ -108,7 +108,7 @@ pub fn derive(recipe: &[u8], condition: &mut [u8], scratch: &mut [u64]) -> Resul
 /// Whether the sheet passes under the condition, which must be the recipe's own.
 ///
 /// # Errors
-/// The refusals 12 to 14.
+/// The refusals 12 to 15, tested in the order 12, 13, 15, 14.
 pub fn check(condition: &[u8], sheet: &[u8]) -> Result<Verdict, Refusal> {
     // SAFETY: as above.
     let word = unsafe { library::gate_check(condition.as_ptr(), condition.len(), sheet.as_ptr(), sheet.len()) };
@@ -154,7 +154,7 @@ pub fn run(
 /// A run writes `log` as [`run`] does and `condition` as [`derive()`] does.
 ///
 /// # Errors
-/// [`Refusal::Room`] as [`derive()`]; then the refusals 2 to 11, 13 and 14.
+/// [`Refusal::Room`] as [`derive()`]; then the refusals 2 to 11 and 13 to 15.
 pub fn guarded(
     recipe: &[u8],
     sheet: &[u8],

@@ -1,9 +1,9 @@
 //! The proved gate against integer overflow, for Rust.
 //!
-//! Each call goes to the function of `include/gate.h` with the same name, which is proved to equal document
-//! 01's definition for every input. [`Gate`] has memory of its own; [`derive()`], [`check`], [`run`] and
-//! [`guarded`] work on slices that the caller lends, and a refusal leaves each of them but `scratch` as it was.
-//! What is in `scratch` before and after a call does not matter.
+//! Each call goes to the function of `include/gate.h` with the same name, which is proved to equal its
+//! definition in document 01, with document 02's Card 1, for every input. [`Gate`] has memory of its own;
+//! [`derive()`], [`check`], [`run`] and [`guarded`] work on slices that the caller lends, and a refusal leaves
+//! each of them but `scratch` as it was. What is in `scratch` before and after a call does not matter.
 //!
 //! ```
 //! use gate::{check, Choices, Gate, Refusal, Verdict};
@@ -16,11 +16,13 @@
 //! ];
 //! let passes = [8, 0, 0, 0, 2, 0, 0, 0, 100, 127];
 //! let held = [8, 0, 0, 0, 1, 0, 0, 0, 128];
+//! let blank = [8, 0, 0, 0, 0, 0, 0, 0];
 //!
 //! let mut gate = Gate::new();
 //! let condition = gate.derive(&recipe)?;
 //! assert_eq!(check(&condition, &passes)?, Verdict::Pass);
 //! assert_eq!(check(&condition, &held)?, Verdict::Held);
+//! assert_eq!(check(&condition, &blank), Err(Refusal::Blank));
 //!
 //! let run = gate.guarded(&recipe, &passes, 100, &Choices::from([1]), 10)?.expect("it passes");
 //! assert_eq!((run.steps, run.records[0].label, run.records[0].value), (3, 2, 254));

@@ -60,7 +60,7 @@ impl Gate {
     /// Runs the recipe as [`Gate::run`] does if the sheet passes under its condition; nothing if it is held.
     ///
     /// # Errors
-    /// The refusals 2 to 11, 13 and 14.
+    /// The refusals 2 to 11 and 13 to 15.
     pub fn guarded(
         &mut self,
         recipe: &[u8],

@@ -35,11 +35,13 @@ pub enum Refusal {
     Sheet,
     /// 14: a conjunct has over 1,048,576 combinations of readings.
     Combinations,
+    /// 15: a field that a conjunct reads has no readings.
+    Blank,
 }
 
 impl Refusal {
     /// Every refusal, by number.
-    pub const ALL: [Refusal; 14] = [
+    pub const ALL: [Refusal; 15] = [
         Refusal::Room,
         Refusal::RecipeTable,
         Refusal::Entries,
@@ -54,9 +56,10 @@ impl Refusal {
         Refusal::Condition,
         Refusal::Sheet,
         Refusal::Combinations,
+        Refusal::Blank,
     ];
 
-    /// Its number, 1 to 14.
+    /// Its number, 1 to 15.
     #[must_use]
     pub fn number(self) -> u8 {
         self as u8
@@ -86,6 +89,7 @@ impl Refusal {
             Refusal::Condition => "the condition is damaged, or is no condition",
             Refusal::Sheet => "the sheet is damaged, or belongs to another recipe",
             Refusal::Combinations => "a conjunct has over 1,048,576 combinations of readings",
+            Refusal::Blank => "a field that a conjunct reads has no readings",
         }
     }
 }

@@ -206,7 +206,8 @@ impl Bench {
         assert!(untouched(&self.condition));
     }
 
-    fn case(&mut self, seed: u64) {
+    /// Compares a case, and tells whether its guarded run is refused with 15.
+    fn case(&mut self, seed: u64) -> bool {
         let rng = &mut Rng::new(seed);
         let inputs = Inputs::of(rng);
         let length = generate::log_length(rng);
@@ -230,6 +231,7 @@ impl Bench {
         }
         let sheet = generate::sheet(rng, &listed_types(&condition));
         let _ = Self::check(&condition, &sheet);
+        verdict == Some(Err(15))
     }
 }
 
@@ -237,7 +239,7 @@ impl Bench {
 fn generated_cases() {
     let (first, cases) = (setting("SEED", 1), setting("CASES", 100_000));
     println!("SEED={first} CASES={cases}");
-    let next = AtomicU64::new(first);
+    let (next, blank) = (AtomicU64::new(first), AtomicU64::new(0));
     let threads = std::thread::available_parallelism().map_or(1, std::num::NonZero::get);
     std::thread::scope(|scope| {
         for _ in 0..threads {
@@ -249,9 +251,13 @@ fn generated_cases() {
                         break;
                     }
                     let told = std::panic::catch_unwind(std::panic::AssertUnwindSafe(|| bench.case(seed)));
-                    assert!(told.is_ok(), "the case SEED={seed} CASES=1 differs");
+                    let refused = told.unwrap_or_else(|_| panic!("the case SEED={seed} CASES=1 differs"));
+                    blank.fetch_add(u64::from(refused), Ordering::Relaxed);
                 }
             });
         }
     });
+    let blank = blank.into_inner();
+    println!("{blank} guarded runs are refused with 15");
+    assert!(blank > 0 || cases < 1_000, "15 never occurs");
 }

@@ -1,18 +1,31 @@
-//! Recipes by their parts, for tests and benchmarks.
+//! Recipes and sheets by their parts, for tests and benchmarks.
 
 /// The recipe file of its four sections.
 #[must_use]
 pub fn recipe(fields: &[u8], variables: &[u8], trays: &[[u8; 4]], statements: &[[u8; 8]]) -> Vec<u8> {
-    let (trays, statements) = (trays.concat(), statements.concat());
-    let sections = [fields, variables, &trays, &statements];
+    of_parts(&[fields, variables, &trays.concat(), &statements.concat()])
+}
+
+/// The sheet file of the bytes of each field's readings.
+#[must_use]
+pub fn sheet(fields: &[&[u8]]) -> Vec<u8> {
+    of_parts(fields)
+}
+
+/// A file of parts: the offset and length of each, then the parts without gaps.
+#[must_use]
+pub fn of_parts(parts: &[impl AsRef<[u8]>]) -> Vec<u8> {
     let mut file = Vec::new();
-    let mut offset = 32u32;
-    for section in sections {
-        file.extend(offset.to_le_bytes());
-        file.extend((section.len() as u32).to_le_bytes());
-        offset += section.len() as u32;
+    let mut offset = 8 * parts.len();
+    for part in parts {
+        let length = part.as_ref().len();
+        file.extend((offset as u32).to_le_bytes());
+        file.extend((length as u32).to_le_bytes());
+        offset += length;
     }
-    file.extend(sections.concat());
+    for part in parts {
+        file.extend(part.as_ref());
+    }
     file
 }
 

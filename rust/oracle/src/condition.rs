@@ -125,7 +125,7 @@ fn read(bytes: &[u8]) -> Option<Condition> {
     (start == bytes.len()).then_some(Condition { types, conjuncts })
 }
 
-/// Whether nodes are one whole expression in the form of the document.
+/// Whether nodes are one whole expression in the form of document 01.
 fn well_formed(nodes: &[u64], types: &[u8]) -> bool {
     let mut stack: Vec<u8> = Vec::with_capacity(nodes.len());
     let mut appeared = [0u32; MOST_FIELDS];

@@ -1,5 +1,6 @@
 //! Made-up inputs for differential tests, the same for the same seed.
 
+use crate::build::{self, of_parts, s};
 use crate::condition::{self, file_order, node, MOST_NODES, READING};
 use crate::recipe::{word, MOST_STATEMENTS};
 use crate::types::{
@@ -99,6 +100,9 @@ pub fn recipe(rng: &mut Rng) -> Vec<u8> {
     if rng.chance(6) {
         return recipe_at_a_limit(rng);
     }
+    if rng.chance(5) {
+        return sums_of_readings(rng);
+    }
     let palette: Vec<u8> = (0..rng.between(1, 3)).map(|_| rng.pick(&[0, 1, 1, 2, 2, 2, 3, 4, 5, 6, 6, 7])).collect();
     let any = |rng: &mut Rng| if rng.chance(90) { rng.pick(&palette) } else { rng.below(8) as u8 };
     let field_count = rng.pick(&[0, 1, 1, 1, 2, 2, 2, 2, 3, 3, 3, 4, 6]);
@@ -192,20 +196,27 @@ fn recipe_at_a_limit(rng: &mut Rng) -> Vec<u8> {
     write(&[ty], &variables, &trays, &statements)
 }
 
+/// A recipe that sums readings of each field at a site of its own, so that on one sheet some sums may have
+/// too many combinations and others read a blank field.
+fn sums_of_readings(rng: &mut Rng) -> Vec<u8> {
+    let fields: Vec<u8> = (0..rng.between(2, 4)).map(|_| rng.below(8) as u8).collect();
+    let variables: Vec<u8> = fields.iter().flat_map(|&ty| [ty, ty]).collect();
+    let mut statements: Vec<[u8; 8]> = Vec::new();
+    for field in 0..fields.len() as u8 {
+        let (sum, reading) = (2 * field, 2 * field + 1);
+        for _ in 0..rng.between(1, 6) {
+            statements.push(s(READ, reading, field, 0));
+            statements.push(s(ADD, sum, sum, reading));
+        }
+        statements.push(s(SITE, sum, 0, 0));
+    }
+    write(&fields, &variables, &[], &statements)
+}
+
 /// The file of a recipe.
 fn write(fields: &[u8], variables: &[u8], trays: &[(u8, u16)], statements: &[[u8; 8]]) -> Vec<u8> {
-    let trays: Vec<u8> = trays.iter().flat_map(|&(ty, length)| [ty, 0, length as u8, (length >> 8) as u8]).collect();
-    let statements: Vec<u8> = statements.concat();
-    let sections = [fields, variables, &trays, &statements];
-    let mut file = Vec::new();
-    let mut offset = 32;
-    for section in sections {
-        file.extend((offset as u32).to_le_bytes());
-        file.extend((section.len() as u32).to_le_bytes());
-        offset += section.len();
-    }
-    file.extend(sections.concat());
-    file
+    let trays: Vec<[u8; 4]> = trays.iter().map(|&(ty, length)| [ty, 0, length as u8, (length >> 8) as u8]).collect();
+    build::recipe(fields, variables, &trays, statements)
 }
 
 impl Maker<'_> {
@@ -628,23 +639,16 @@ fn damage_recipe(rng: &mut Rng, bytes: &mut Vec<u8>) {
             parts[3] = around;
         }
     }
-    bytes.clear();
-    let mut offset = 32;
-    for part in &parts {
-        bytes.extend((offset as u32).to_le_bytes());
-        bytes.extend((part.len() as u32).to_le_bytes());
-        offset += part.len();
-    }
-    bytes.extend(parts.concat());
+    *bytes = of_parts(&parts);
 }
 
-/// A sheet in form: few or many readings, small ones and ones near the type's edges, at times blank.
+/// A sheet in form: few or many readings, small ones and ones near the type's edges. At times some fields are
+/// blank, and more often so beside many readings, where a blank field and too many combinations meet.
 pub fn sheet(rng: &mut Rng, types: &[u8]) -> Vec<u8> {
     let tame = rng.chance(60);
-    let blank = rng.chance(15);
-    let many = rng.chance(4);
-    let mut table = Vec::new();
-    let mut readings: Vec<u8> = Vec::new();
+    let many = rng.chance(8);
+    let blank = rng.chance(if many { 50 } else { 20 });
+    let mut fields: Vec<Vec<u8>> = Vec::new();
     for &ty in types {
         let count = match rng.below(40) {
             0..=33 => rng.between(1, 4),
@@ -653,17 +657,15 @@ pub fn sheet(rng: &mut Rng, types: &[u8]) -> Vec<u8> {
             _ => 1,
         };
         let count = if many { rng.pick(&[8, 16, 32, 64, 128]) } else { count };
-        let count = if blank && rng.chance(40) { 0 } else { count };
-        let start = 8 * types.len() + readings.len();
+        let count = if blank && rng.chance(30) { 0 } else { count };
+        let mut readings = Vec::new();
         for _ in 0..count {
             let value = if tame { rng.below(5) as u64 } else { edge_or_small(rng, ty) };
             readings.extend(&value.to_le_bytes()[..width(ty)]);
         }
-        table.extend((start as u32).to_le_bytes());
-        table.extend(((8 * types.len() + readings.len() - start) as u32).to_le_bytes());
+        fields.push(readings);
     }
-    table.extend(readings);
-    table
+    of_parts(&fields)
 }
 
 /// A made-up condition in form over any types; one in five is damaged.

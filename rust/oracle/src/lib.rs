@@ -1,15 +1,16 @@
-//! The survey gate of document 01: recipe, condition, sheet, gate and run.
+//! The survey gate of document 01 and of document 02's Card 1: recipe, condition,
+//! sheet, gate and run.
 //!
-//! An independent implementation, written from the document for differential
-//! tests and benchmarks. A refusal is the number of its cause in the document's
-//! table. Cause 1 speaks of lent lengths and cannot arise here, since the
-//! library owns its outputs and scratch.
+//! An independent implementation, written from the documents for differential
+//! tests and benchmarks. A refusal is the number of its cause in document 01's
+//! table, which takes the card's 15. Cause 1 speaks of lent lengths and cannot
+//! arise here, since the library owns its outputs and scratch.
 
 #![allow(
     clippy::cast_possible_truncation,
     clippy::cast_possible_wrap,
     clippy::cast_sign_loss,
-    reason = "values wrap to their types, and file numbers are narrowed where the document bounds them"
+    reason = "values wrap to their types, and file numbers are narrowed where the documents bound them"
 )]
 #![allow(clippy::missing_errors_doc, reason = "every error is a refusal's number, as said above")]
 
@@ -23,6 +24,7 @@ pub mod recipe;
 pub mod run;
 pub mod sheet;
 pub mod types;
+pub mod vectors;
 pub mod whole;
 
 pub use bigint::BigInt;
@@ -36,7 +38,8 @@ pub fn derive(recipe: &[u8]) -> Result<Vec<u8>, u8> {
     Ok(condition::write(&recipe.fields, &conjuncts))
 }
 
-/// The gate: true for pass, false for held, or the refusal 12 to 14.
+/// The gate: true for pass, false for held, or a refusal: 12, 13, 15 and 14 are
+/// tested in this order.
 pub fn check(condition: &[u8], sheet: &[u8]) -> Result<bool, u8> {
     let condition = condition::Condition::read(condition)?;
     let sheet = sheet::Sheet::read(sheet, &condition.types)?;

@@ -1,6 +1,9 @@
 //! Generated cases: the implementation must be coherent with itself.
 
+use gate_oracle::condition::Condition;
+use gate_oracle::gate::reads_blank;
 use gate_oracle::generate::{self, Rng};
+use gate_oracle::sheet::Sheet;
 use gate_oracle::types::TYPES;
 use gate_oracle::*;
 use std::collections::BTreeMap;
@@ -28,6 +31,38 @@ fn logged(recipe: &[u8], label: u16, bytes: &[u8]) -> BigInt {
     assert!(i128::from(range.lowest) <= number && number <= i128::from(range.highest));
     BigInt::from(number)
 }
+
+/// The gate's answer on the conjuncts that read no blank field, or nothing if no field is blank.
+fn on_the_others(condition: &[u8], sheet: &[u8]) -> Option<Result<bool, u8>> {
+    let Condition { types, mut conjuncts } = Condition::read(condition).ok()?;
+    let read = Sheet::read(sheet, &types).ok()?;
+    (0..types.len()).find(|&field| read.readings(field).is_empty())?;
+    conjuncts.retain(|conjunct| !reads_blank(conjunct, &read));
+    Some(check(&condition::write(&types, &conjuncts), sheet))
+}
+
+/// What to count of the gate's answer: itself, and with a blank field what else it could have been.
+fn told(condition: &[u8], sheet: &[u8]) -> Vec<String> {
+    let answer = check(condition, sheet);
+    let mut told = vec![format!("{answer:?}")];
+    if let Some(other) = on_the_others(condition, sheet) {
+        assert!(answer == other || answer == Err(15), "{answer:?}, {other:?}");
+        told.push(format!("{answer:?} with a blank field, {other:?} on the other conjuncts"));
+    }
+    told
+}
+
+/// The answers that must occur: 15 also where 14 would be met or the sheet held, and a pass with a blank field.
+const ANSWERS: [&str; 8] = [
+    "Ok(true)",
+    "Ok(false)",
+    "Err(13)",
+    "Err(14)",
+    "Err(15)",
+    "Err(15) with a blank field, Err(14) on the other conjuncts",
+    "Err(15) with a blank field, Ok(false) on the other conjuncts",
+    "Ok(true) with a blank field, Ok(true) on the other conjuncts",
+];
 
 #[test]
 fn coherent() {
@@ -61,7 +96,9 @@ fn coherent() {
             assert_eq!(first, format!("conjuncts {conjuncts}"), "case {case}");
             assert_eq!(listing.lines().count(), conjuncts as usize + 1, "case {case}");
             let verdict = check(condition, &sheet);
-            count(format!("gate on derived: {verdict:?}"));
+            for answer in told(condition, &sheet) {
+                count(format!("gate on derived: {answer}"));
+            }
             assert_ne!(verdict, Err(12), "case {case}");
             verdict
         });
@@ -117,7 +154,9 @@ fn coherent() {
     let accepted = times("derive, whole: accepted") + times("derive, damaged: accepted");
     println!("{accepted} of {CASES} accepted");
     assert!(accepted as u64 * 3 >= CASES);
-    assert!(times("gate on derived: Ok(true)") > 0 && times("gate on derived: Ok(false)") > 0);
+    for answer in ANSWERS {
+        assert!(times(&format!("gate on derived: {answer}")) > 0, "{answer} never occurs");
+    }
     for number in 2..=11 {
         let sum = times(&format!("derive, whole: refused {number:2}"))
             + times(&format!("derive, damaged: refused {number:2}"));
@@ -143,12 +182,14 @@ fn conditions() {
         if rng.chance(10) {
             generate::damage(rng, &mut sheet);
         }
-        *tally.entry(format!("{:?}", check(&file, &sheet))).or_default() += 1;
+        for answer in told(&file, &sheet) {
+            *tally.entry(answer).or_default() += 1;
+        }
     }
     for (what, times) in &tally {
         println!("{times:7} gate on made-up: {what}");
     }
-    for what in ["Ok(true)", "Ok(false)", "Err(12)", "Err(13)", "Err(14)"] {
-        assert!(tally.contains_key(what), "{what} never occurs");
+    for answer in ANSWERS.into_iter().chain(["Err(12)"]) {
+        assert!(tally.contains_key(answer), "{answer} never occurs");
     }
 }

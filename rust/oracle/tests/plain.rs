@@ -323,66 +323,75 @@ fn analysis() {
     }
 }
 
-/// The gate's verdict by counting through all combinations, or nothing if these are many.
-fn plain_gate(condition: &Condition, sheet: &[u8]) -> Option<bool> {
+/// The readings of each field.
+fn readings(types: &[u8], sheet: &[u8]) -> Vec<Vec<i128>> {
     let number_at = |at: usize| u32::from_le_bytes(sheet[at..at + 4].try_into().unwrap()) as usize;
-    let readings: Vec<Vec<i128>> = condition
-        .types
-        .iter()
-        .enumerate()
-        .map(|(f, &ty)| {
-            let part = &sheet[number_at(8 * f)..number_at(8 * f) + number_at(8 * f + 4)];
-            let bytes = part.chunks_exact([1, 2, 4, 8][ty as usize % 4]);
-            bytes
-                .map(|bytes| {
-                    let value = bytes.iter().rev().fold(0, |sum, &byte| sum << 8 | i128::from(byte));
-                    let (low, high) = range(ty);
-                    if value > high {
-                        value - (high - low + 1)
-                    } else {
-                        value
-                    }
-                })
-                .collect()
-        })
-        .collect();
+    let reading = |ty: u8, bytes: &[u8]| {
+        let value = bytes.iter().rev().fold(0, |sum, &byte| sum << 8 | i128::from(byte));
+        let (low, high) = range(ty);
+        if value > high {
+            value - (high - low + 1)
+        } else {
+            value
+        }
+    };
+    let of_field = |(f, &ty): (usize, &u8)| {
+        let part = &sheet[number_at(8 * f)..number_at(8 * f) + number_at(8 * f + 4)];
+        part.chunks_exact([1, 2, 4, 8][ty as usize % 4]).map(|bytes| reading(ty, bytes)).collect()
+    };
+    types.iter().enumerate().map(of_field).collect()
+}
+
+/// The different atoms of a conjunct, and the number of readings of each.
+fn atoms(conjunct: &[u64], readings: &[Vec<i128>]) -> Vec<(u64, usize)> {
+    let atoms: BTreeSet<u64> = conjunct.iter().copied().filter(|&n| kind(n) == 1).collect();
+    atoms.into_iter().map(|n| (n, readings[field(n)].len())).collect()
+}
+
+/// Whether a conjunct overflows at no step, its atoms taking the values chosen.
+fn holds(conjunct: &[u64], chosen: &BTreeMap<u64, i128>) -> bool {
+    let mut stack: Vec<i128> = Vec::new();
+    for &n in conjunct {
+        let value = match kind(n) {
+            0 if ty(n) < 4 => i128::from(rest(n)),
+            0 => i128::from(rest(n) as i32),
+            1 => chosen[&n],
+            kind => {
+                let right = stack.pop().unwrap();
+                let left = if kind == CONVERT { right } else { stack.pop().unwrap() };
+                let (result, over) = whole_step(kind, ty(n), left, right);
+                if over {
+                    return false;
+                }
+                result
+            }
+        };
+        stack.push(value);
+    }
+    true
+}
+
+/// The gate's answer by counting through all combinations, or nothing if these are many.
+fn plain_gate(condition: &Condition, sheet: &[u8]) -> Option<Result<bool, u8>> {
+    let readings = readings(&condition.types, sheet);
+    let all_atoms: Vec<Vec<(u64, usize)>> = condition.conjuncts.iter().map(|c| atoms(c, &readings)).collect();
+    if all_atoms.iter().flatten().any(|&(_, count)| count == 0) {
+        return Some(Err(15));
+    }
     let mut pass = true;
-    for conjunct in &condition.conjuncts {
-        let mut atoms: Vec<u64> = conjunct.iter().copied().filter(|&n| kind(n) == 1).collect();
-        atoms.sort_unstable();
-        atoms.dedup();
-        let counts: Vec<usize> = atoms.iter().map(|&n| readings[field(n)].len()).collect();
-        let total = counts.iter().try_fold(1usize, |product, &n| product.checked_mul(n));
-        let total = if counts.contains(&0) { 0 } else { total.filter(|&n| n <= 5_000)? };
-        for combination in 0..total {
+    for (conjunct, atoms) in condition.conjuncts.iter().zip(&all_atoms) {
+        let total = atoms.iter().try_fold(1usize, |product, &(_, count)| product.checked_mul(count));
+        for combination in 0..total.filter(|&n| n <= 5_000)? {
             let mut left = combination;
             let mut chosen: BTreeMap<u64, i128> = BTreeMap::new();
-            for (&atom, &count) in atoms.iter().zip(&counts) {
+            for &(atom, count) in atoms {
                 chosen.insert(atom, readings[field(atom)][left % count]);
                 left /= count;
             }
-            let mut stack: Vec<i128> = Vec::new();
-            for &n in conjunct {
-                let value = match kind(n) {
-                    0 if ty(n) < 4 => i128::from(rest(n)),
-                    0 => i128::from(rest(n) as i32),
-                    1 => chosen[&n],
-                    kind => {
-                        let right = stack.pop().unwrap();
-                        let left = if kind == CONVERT { right } else { stack.pop().unwrap() };
-                        let (result, over) = whole_step(kind, ty(n), left, right);
-                        pass &= !over;
-                        result
-                    }
-                };
-                stack.push(value);
-                if !pass {
-                    break;
-                }
-            }
+            pass &= holds(conjunct, &chosen);
         }
     }
-    Some(pass)
+    Some(Ok(pass))
 }
 
 #[test]
@@ -400,8 +409,8 @@ fn gate() {
         };
         let Ok(condition) = Condition::read(&file) else { continue };
         let sheet = generate::sheet(rng, &condition.types);
-        if let Some(pass) = plain_gate(&condition, &sheet) {
-            assert_eq!(check(&file, &sheet), Ok(pass), "case {case}");
+        if let Some(answer) = plain_gate(&condition, &sheet) {
+            assert_eq!(check(&file, &sheet), answer, "case {case}");
             compared += 1;
         }
     }

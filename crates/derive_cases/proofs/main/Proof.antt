@@ -1,14 +1,18 @@
 -- `derive_cases::main` is safe and ends. Assumes nothing.
-use Prim.Native.Nat.{_≤_, _-_}
+use Prim.Native.Nat.{ℕ, _≤_, _-_}
 use borrow.Author.Needs.{needs}
 use Rattle.derive_cases.proofs.main.Statement.{statement}
 use Rattle.derive_cases.proofs.main.Tie as tie
 
+-- how many cases are stored
+abbrev caseCount : ℕ
+caseCount = 184
+
 abbrev Inv-loop : tie.InvT-loop
-Inv-loop i₀ i = i ≤ 105
+Inv-loop i₀ i = i ≤ caseCount
 
 abbrev μ-loop : tie.MeasureT-loop
-μ-loop i₀ i = 105 - i
+μ-loop i₀ i = caseCount - i
 
 loop-holds : tie.Need-loop-holds Inv-loop μ-loop
 loop-holds c = search needs

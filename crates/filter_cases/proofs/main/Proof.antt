@@ -1,15 +1,19 @@
 -- `filter_cases::main` meets its contract.
 -- Assumes nothing.
-use Prim.Native.Nat.{_≤_, _-_}
+use Prim.Native.Nat.{ℕ, _≤_, _-_}
 use borrow.Author.Needs.{needs}
 use Rattle.filter_cases.proofs.main.Statement.{statement}
 use Rattle.filter_cases.proofs.main.Tie as tie
 
+-- how many cases are stored
+abbrev caseCount : ℕ
+caseCount = 196
+
 abbrev Inv-loop : tie.InvT-loop
-Inv-loop i₀ i = i ≤ 107
+Inv-loop i₀ i = i ≤ caseCount
 
 abbrev μ-loop : tie.MeasureT-loop
-μ-loop i₀ i = 107 - i
+μ-loop i₀ i = caseCount - i
 
 loop-holds : tie.Need-loop-holds Inv-loop μ-loop
 loop-holds c = search needs
