@@ -1,6 +1,3 @@
-pub mod Part
-pub mod Readings
-pub mod Slots
-pub mod Explored
-pub mod Plan
-pub mod Columns
+pub mod Search
+pub mod Engine
+pub mod Lanes

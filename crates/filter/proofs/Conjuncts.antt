@@ -21,8 +21,8 @@ use Rattle.model.proofs.Parts.{length-part}
 use Rattle.condition.specs.Answers.{partNodes, pairPart, pairRight, ConditionIsRead, typesOf, conjunctsOf}
 use Rattle.condition.specs.declared.Counts.{Counts}
 use Rattle.condition.proofs.Table.{formBy, form-types, form-pair, counted-read, conjunct-inside, conjuncts-count}
-use Rattle.evaluator.specs.Part.{conjunctOf, IsConjunct}
-use Rattle.evaluator.proofs.Parts.{part-is-conjunct}
+use Rattle.plan.specs.Part.{conjunctOf, IsConjunct}
+use Rattle.plan.proofs.Parts.{part-is-conjunct}
 
 -- ---- what the reader has tested
 
@@ -56,6 +56,9 @@ right-is-conjunct types s p few inside right =
     part-is-conjunct types s p few inside (and-left long formed two) (and-right long formed two) (and-right (long && formed) one three)
 
 module _ (s : List ℕ) (k : Counts) (read : ConditionIsRead s k) where
+  pub fields-narrow : k .fields ≤ 32
+  fields-narrow = form-narrow s (k .conjuncts) (k .fields) (counted-read s k read .form)
+
   pub types-right : every typeRight (typesOf s) ≡ true
   types-right =
       let q = counted-read s k read in
@@ -67,9 +70,8 @@ module _ (s : List ℕ) (k : Counts) (read : ConditionIsRead s k) where
   pub conjunct-formed : (i : ℕ) → i < k .conjuncts → IsConjunct (pairPart s (8 + k .fields + 8 * i))
   conjunct-formed i h =
       let q = counted-read s k read in
-      let few = form-narrow s (k .conjuncts) (k .fields) (q .form) in
       let size = length-part s 8 (k .fields) (omega (arith, q .table)) in
-      right-is-conjunct (part s 8 (k .fields)) s (pairAt s (8 + k .fields + 8 * i)) (omega arith) (conjunct-inside s k read i h) (form-pair s (k .conjuncts) (k .fields) (q .form) i h)
+      right-is-conjunct (part s 8 (k .fields)) s (pairAt s (8 + k .fields + 8 * i)) (omega (arith, fields-narrow)) (conjunct-inside s k read i h) (form-pair s (k .conjuncts) (k .fields) (q .form) i h)
 
   -- what is so of all conjuncts is so of the one that a part is
   pub conjunct-asked : (i : ℕ) (P : Conj → Type 0) → All P (conjunctsOf s) → i < k .conjuncts → (p : List ℕ) → partNodes p ≡ getD (conjunctsOf s) i []

@@ -6,21 +6,22 @@ use mathlib.Core.List.{List, []}
 use Prim.Native.Nat.{ℕ, _+_, _*_, _/_, _<_, _≤_}
 use native.Mathlib.Nat.{div-mul-le-self, mul-comm, mul-le-mul-right}
 use native.Mathlib.Omega.{arith}
+use lib.Dec.{leb}
 use lib.IntN.{ℤ, pos}
 use lib.ListN.{length, getD, set}
 use lib.Seq.{getD-set-same, getD-set-other}
 use borrow.Author.Count.{below-more}
-use borrow.Author.Tests.{lt-ltb, le-ltb, ltb-true}
+use borrow.Author.Tests.{lt-ltb, le-ltb, ltb-true, leb-true, leb-false}
 use Rattle.model.specs.Lists.{every}
 use Rattle.model.specs.Bytes.{entries}
 use Rattle.model.specs.Program.{typeRight}
 use Rattle.model.specs.Input.{Input, width, readingAt}
+use Rattle.model.proofs.Tests.{case}
 use Rattle.model.proofs.Every.{every-at}
 use Rattle.model.proofs.Parts.{length-entries, entries-getD}
 use Rattle.input.specs.Answers.{InputIsRead, fieldPart, fieldReadings}
 use Rattle.input.proofs.Fields.{part-readings}
-use Rattle.evaluator.specs.Readings.{signedAt, Lent, Decoded}
-use Rattle.evaluator.specs.Plan.{Taken}
+use Rattle.plan.specs.Readings.{signedAt, Lent, Decoded, Taken}
 use Rattle.filter.specs.Decoding.{inputIn, Filled}
 
 -- ---- a run of places
@@ -51,6 +52,13 @@ field-none types s f h = rw (le-ltb f (length types) h)
 pub field-listed : (types s : List ℕ) (f : ℕ) → f < length types → inputIn types s f ≡ fieldReadings types s f
 unfolding inputIn
 field-listed types s f h = rw (lt-ltb f (length types) h)
+
+-- a field with a reading is listed
+field-read : (types s : List ℕ) (f : ℕ) → 1 ≤ length (inputIn types s f) → f < length types
+field-read types s f h =
+    case (leb (length types) f) (λ z. f < length types)
+    (λ q. let none = ap length (field-none types s f (leb-true (length types) f q)) in absurd (omega arith))
+    (λ q. leb-false (length types) f q)
 
 -- by what was read of it: the part p, with n readings
 module _ (types s : List ℕ) (f : ℕ) (read : InputIsRead types s) (listed : f < length types) (n : ℕ) (many : n ≡ length (fieldReadings types s f)) (p : List ℕ) (is : p ≡ fieldPart s f) where
@@ -102,9 +110,14 @@ module _ (I : Input) where
   pub decoded-all : (counts mags : List ℕ) (negs : List Bool) → DecodedTo I 32 counts mags negs → Decoded I counts mags negs
   decoded-all counts mags negs d = record { number = d .number; each = λ f k l m. d .each f l k m }
 
-  pub decoded-lent : (counts mags : List ℕ) (negs : List Bool) → DecodedTo I 32 counts mags negs → length counts ≡ 32 → length mags ≡ 4096 → length negs ≡ 4096 → Lent counts mags negs
-  decoded-lent counts mags negs d c m n = record {
+-- where there is room for the fields that are listed, there is room for all readings
+module _ (types s counts mags : List ℕ) (negs : List Bool) (d : DecodedTo (inputIn types s) 32 counts mags negs) where
+  inside : (m f : ℕ) → 128 * length types ≤ m → f < 32 → 1 ≤ getD counts f 0 → 128 * f + getD counts f 0 ≤ m
+  inside m f h l some = let listed = field-read types s f (omega (arith, d .number f l)) in omega (arith, d .number f l, d .few f l)
+
+  pub decoded-lent : length counts ≡ 32 → 128 * length types ≤ length mags → 128 * length types ≤ length negs → Lent counts mags negs
+  decoded-lent c m n = record {
     few = record { fields = c; each = λ f l. rw (d .number f l) (d .few f l) };
-    magnitudes = m;
-    signs = n;
+    magnitudes = λ f. inside (length mags) f m;
+    signs = λ f. inside (length negs) f n;
   }

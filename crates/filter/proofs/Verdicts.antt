@@ -19,7 +19,7 @@ use Rattle.input.specs.Answers.{InputIsRead}
 use Rattle.condition.specs.Answers.{sizes, sizesOf, ConditionIsRead, typesOf, conjunctsOf}
 use Rattle.condition.specs.declared.Counts.{Counts}
 use Rattle.condition.proofs.Table.{condition-read}
-use Rattle.evaluator.specs.Readings.{Counted}
+use Rattle.plan.specs.Readings.{Counted}
 use Rattle.evaluator.proofs.Calls.{readings-none-blank}
 use Rattle.filter.specs.Verdict.{Asks, judged}
 use Rattle.filter.specs.declared.Test.the-variants.{Evaluate}

@@ -8,7 +8,7 @@ use Rattle.model.specs.Refusals.{Out, ok, refused, check, tooManyCombinations, 
 use Rattle.model.specs.Conjunct.{Conj, Conjuncts}
 use Rattle.model.specs.Input.{Input}
 use Rattle.model.specs.Filter.{holds, fewCombinations, hasReadings, passNumber, heldNumber}
-use Rattle.evaluator.specs.Readings.{Counted, Decoded, NoneBlank}
+use Rattle.plan.specs.Readings.{Counted, Decoded, NoneBlank}
 use Rattle.filter.specs.declared.Verdict.{Verdict}
 use Rattle.filter.specs.declared.Verdict.the-variants.{Pass, Held, Refused}
 use Rattle.filter.specs.declared.Test.{Test}

@@ -14,9 +14,8 @@ ghost use Rattle.model.specs.Input.{Input, width, readingAt};
 ghost use Rattle.model.specs.Filter.{fewCombinations, hasReadings, filterInput};
 ghost use Rattle.input.specs.Answers.{InputIsRead};
 ghost use Rattle.condition.specs.Answers.{ConditionIsRead, typesOf, conjunctsOf};
-ghost use Rattle.evaluator.specs.Part.{conjunctOf, IsConjunct};
-ghost use Rattle.evaluator.specs.Readings.{signedAt, Few, Lent, Counted, Decoded};
-ghost use Rattle.evaluator.specs.Plan.{Taken};
+ghost use Rattle.plan.specs.Part.{conjunctOf, IsConjunct};
+ghost use Rattle.plan.specs.Readings.{signedAt, Few, Lent, Counted, Decoded, Taken};
 ghost use Rattle.filter.specs.Verdict.{verdictOf, testOf, Asks, Sees, judged};
 ghost use Rattle.filter.specs.Decoding.{inputIn, Filled};
 use arith::Range;
@@ -38,6 +37,13 @@ enum Test {
     Count,
     Evaluate,
 }
+
+// The most fields of a condition.
+const FIELDS: usize = 32;
+// The most fields of a small one.
+const FEW: usize = 4;
+// The most readings of a field.
+const READINGS: usize = 128;
 
 // ---- the readings
 
@@ -66,9 +72,9 @@ fn put_readings(ty: u8, part: &[u8], n: usize, from: usize, mags: &mut [u64], ne
 }
 
 // The readings of a field, put to the places from 128 * f on, and how many they are; none of a field
-// that is not listed.
+// that is not listed. There is room for those that are.
 fn put_field(types: &[u8], input: &[u8], f: usize, mags: &mut [u64], negs: &mut [bool]) -> usize
-    requires { ⌜ InputIsRead (now types) (now input) × (every typeRight (now types) ≡ true) × (f < 32) × (length (now mags) ≡ 4096) × (length (now negs) ≡ 4096) ⌝ }
+    requires { ⌜ InputIsRead (now types) (now input) × (every typeRight (now types) ≡ true) × (f < 32) × (128 * length (now types) ≤ length (now mags)) × (128 * length (now types) ≤ length (now negs)) ⌝ }
     ensures { λ r. ⌜ (r ≡ length (inputIn (now (types .entry)) (now (input .entry)) f)) × (r ≤ 128)
         × Filled (λ k. getD (inputIn (now (types .entry)) (now (input .entry)) f) k (pos 0)) (128 * f) r (signedAt (now (mags .entry)) (now (negs .entry))) (signedAt (now (mags .exit)) (now (negs .exit))) ⌝ }
 {
@@ -77,17 +83,17 @@ fn put_field(types: &[u8], input: &[u8], f: usize, mags: &mut [u64], negs: &mut 
     }
     let part = input::readings(types, input, f);
     let n = input::count(types, input, f);
-    put_readings(types[f], part, n, 128 * f, mags, negs);
+    put_readings(types[f], part, n, READINGS * f, mags, negs);
     n
 }
 
-// The readings of all fields.
+// The readings of all fields, where there is room for those that are listed.
 fn decode(types: &[u8], input: &[u8], counts: &mut [usize], mags: &mut [u64], negs: &mut [bool])
-    requires { ⌜ InputIsRead (now types) (now input) × (every typeRight (now types) ≡ true) × (length (now counts) ≡ 32) × (length (now mags) ≡ 4096) × (length (now negs) ≡ 4096) ⌝ }
+    requires { ⌜ InputIsRead (now types) (now input) × (every typeRight (now types) ≡ true) × (length (now counts) ≡ 32) × (128 * length (now types) ≤ length (now mags)) × (128 * length (now types) ≤ length (now negs)) ⌝ }
     ensures { λ _. ⌜ Lent (now (counts .exit)) (now (mags .exit)) (now (negs .exit)) × Decoded (inputIn (now (types .entry)) (now (input .entry))) (now (counts .exit)) (now (mags .exit)) (now (negs .exit)) ⌝ }
 {
     let mut f: usize = 0;
-    while f < 32 {
+    while f < FIELDS {
         counts[f] = put_field(types, input, f, mags, negs);
         f += 1;
     }
@@ -170,17 +176,54 @@ fn judge(condition: &[u8], sizes: Counts, counts: &[usize], mags: &[u64], negs: 
     Verdict::Pass
 }
 
+// Of a condition and an input that are read, with room for the readings.
+fn judge_in(
+    condition: &[u8],
+    sizes: Counts,
+    input: &[u8],
+    counts: &mut [usize],
+    mags: &mut [u64],
+    negs: &mut [bool],
+) -> Verdict
+    requires { ⌜ ConditionIsRead (now condition) sizes × InputIsRead (typesOf (now condition)) (now input) × (length (now counts) ≡ 32) × (128 * sizes .fields ≤ length (now mags)) × (128 * sizes .fields ≤ length (now negs)) ⌝ }
+    ensures { λ r. ⌜ verdictOf r ≡ judged (inputIn (typesOf (now (condition .entry))) (now (input .entry))) (conjunctsOf (now (condition .entry))) ⌝ }
+{
+    let types = condition::types(condition, sizes);
+    decode(types, input, counts, mags, negs);
+    judge(condition, sizes, counts, mags, negs)
+}
+
+// For a condition of few fields: the less room there is, the less is to be cleared.
+fn judge_small(condition: &[u8], sizes: Counts, input: &[u8]) -> Verdict
+    requires { ⌜ ConditionIsRead (now condition) sizes × InputIsRead (typesOf (now condition)) (now input) × (sizes .fields ≤ 4) ⌝ }
+    ensures { λ r. ⌜ verdictOf r ≡ judged (inputIn (typesOf (now (condition .entry))) (now (input .entry))) (conjunctsOf (now (condition .entry))) ⌝ }
+{
+    let mut counts: [usize; FIELDS] = [0; FIELDS];
+    let mut mags: [u64; READINGS * FEW] = [0; READINGS * FEW];
+    let mut negs: [bool; READINGS * FEW] = [false; READINGS * FEW];
+    judge_in(condition, sizes, input, &mut counts, &mut mags, &mut negs)
+}
+
+// For any condition.
+fn judge_large(condition: &[u8], sizes: Counts, input: &[u8]) -> Verdict
+    requires { ⌜ ConditionIsRead (now condition) sizes × InputIsRead (typesOf (now condition)) (now input) ⌝ }
+    ensures { λ r. ⌜ verdictOf r ≡ judged (inputIn (typesOf (now (condition .entry))) (now (input .entry))) (conjunctsOf (now (condition .entry))) ⌝ }
+{
+    let mut counts: [usize; FIELDS] = [0; FIELDS];
+    let mut mags: [u64; READINGS * FIELDS] = [0; READINGS * FIELDS];
+    let mut negs: [bool; READINGS * FIELDS] = [false; READINGS * FIELDS];
+    judge_in(condition, sizes, input, &mut counts, &mut mags, &mut negs)
+}
+
 // Of a condition and an input that are read.
 fn judge_input(condition: &[u8], sizes: Counts, input: &[u8]) -> Verdict
     requires { ⌜ ConditionIsRead (now condition) sizes × InputIsRead (typesOf (now condition)) (now input) ⌝ }
     ensures { λ r. ⌜ verdictOf r ≡ judged (inputIn (typesOf (now (condition .entry))) (now (input .entry))) (conjunctsOf (now (condition .entry))) ⌝ }
 {
-    let mut counts: [usize; 32] = [0; 32];
-    let mut mags: [u64; 4096] = [0; 4096];
-    let mut negs: [bool; 4096] = [false; 4096];
-    let types = condition::types(condition, sizes);
-    decode(types, input, &mut counts, &mut mags, &mut negs);
-    judge(condition, sizes, &counts, &mags, &negs)
+    if sizes.fields <= FEW {
+        return judge_small(condition, sizes, input);
+    }
+    judge_large(condition, sizes, input)
 }
 
 // Of a condition that is read.

@@ -15,8 +15,11 @@
 #![allow(clippy::missing_errors_doc, reason = "every error is a refusal's number, as said above")]
 
 pub mod analysis;
+pub mod batched;
 pub mod bigint;
 pub mod build;
+pub mod columns;
+pub mod combinations;
 pub mod condition;
 pub mod gate;
 pub mod generate;
@@ -41,9 +44,7 @@ pub fn derive(recipe: &[u8]) -> Result<Vec<u8>, u8> {
 /// The gate: true for pass, false for held, or a refusal: 12, 13, 15 and 14 are
 /// tested in this order.
 pub fn check(condition: &[u8], sheet: &[u8]) -> Result<bool, u8> {
-    let condition = condition::Condition::read(condition)?;
-    let sheet = sheet::Sheet::read(sheet, &condition.types)?;
-    gate::check(&condition, &sheet)
+    gate::check(condition, sheet, |conjunct, sheet| gate::Plan::new(conjunct, sheet).holds())
 }
 
 /// What the listing program prints for a recipe.

@@ -23,6 +23,15 @@ impl Sheet {
     pub fn readings(&self, field: usize) -> &[u64] {
         &self.values[self.starts[field]..self.starts[field + 1]]
     }
+
+    /// Appends readings of a type that is N bytes wide.
+    fn append<const N: usize>(&mut self, bytes: &[u8], ty: u8) {
+        self.values.extend(bytes.as_chunks::<N>().0.iter().map(|reading| {
+            let mut value = [0; 8];
+            value[..N].copy_from_slice(reading);
+            wrap(ty, u64::from_le_bytes(value))
+        }));
+    }
 }
 
 fn read(bytes: &[u8], types: &[u8]) -> Option<Sheet> {
@@ -30,17 +39,21 @@ fn read(bytes: &[u8], types: &[u8]) -> Option<Sheet> {
     if start > bytes.len() {
         return None;
     }
-    let mut sheet = Sheet { values: Vec::new(), starts: vec![0] };
+    let mut starts = Vec::with_capacity(types.len() + 1);
+    starts.push(0);
+    let mut sheet = Sheet { values: Vec::new(), starts };
     for (i, &ty) in types.iter().enumerate() {
         let (offset, length) = (word(bytes, 8 * i) as usize, word(bytes, 8 * i + 4) as usize);
         let width = width(ty);
         if offset != start || length % width != 0 || length / width > MOST_READINGS {
             return None;
         }
-        for reading in bytes.get(start..start + length)?.chunks_exact(width) {
-            let mut value = [0; 8];
-            value[..width].copy_from_slice(reading);
-            sheet.values.push(wrap(ty, u64::from_le_bytes(value)));
+        let readings = bytes.get(start..start + length)?;
+        match width {
+            1 => sheet.append::<1>(readings, ty),
+            2 => sheet.append::<2>(readings, ty),
+            4 => sheet.append::<4>(readings, ty),
+            _ => sheet.append::<8>(readings, ty),
         }
         sheet.starts.push(sheet.values.len());
         start += length;

@@ -8,7 +8,7 @@ use borrow.Author.Needs.{needs}
 use Rattle.model.specs.Lists.{every}
 use Rattle.model.specs.Input.{Input}
 use Rattle.condition.specs.Answers.{conjunctsOf}
-use Rattle.evaluator.specs.Part.{IsConjunct}
+use Rattle.plan.specs.Part.{IsConjunct}
 use Rattle.filter.specs.Verdict.{testOf, Sees, Asks}
 use Rattle.filter.proofs.Conjuncts.{conjunct-formed, conjunct-asked, passed, failed, all-passed}
 use Rattle.filter.proofs.all_pass.Statement.{statement}

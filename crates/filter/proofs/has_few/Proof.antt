@@ -1,7 +1,7 @@
 -- `filter::has_few` meets its contract.
 -- Assumes nothing.
 use borrow.Author.Needs.{needs}
-use Rattle.evaluator.specs.Part.{conjunctOf}
+use Rattle.plan.specs.Part.{conjunctOf}
 use Rattle.evaluator.proofs.Calls.{product-few}
 use Rattle.filter.proofs.has_few.Statement.{statement}
 use Rattle.filter.proofs.has_few.Tie as tie

@@ -1,7 +1,7 @@
 -- `filter::has_readings` meets its contract.
 -- Assumes nothing.
 use borrow.Author.Needs.{needs}
-use Rattle.evaluator.specs.Part.{conjunctOf}
+use Rattle.plan.specs.Part.{conjunctOf}
 use Rattle.evaluator.proofs.Calls.{product-readings}
 use Rattle.filter.proofs.has_readings.Statement.{statement}
 use Rattle.filter.proofs.has_readings.Tie as tie

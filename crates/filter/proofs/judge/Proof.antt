@@ -10,7 +10,7 @@ use Rattle.model.specs.Input.{Input}
 use Rattle.model.specs.Filter.{holds, hasReadings, fewCombinations, passNumber, heldNumber}
 use Rattle.model.proofs.Lists.{all-of}
 use Rattle.condition.specs.Answers.{conjunctsOf}
-use Rattle.evaluator.specs.Readings.{Counted}
+use Rattle.plan.specs.Readings.{Counted}
 use Rattle.filter.specs.Verdict.{judged}
 use Rattle.filter.proofs.Verdicts.{judged-blank, judged-many, judged-few, none-blank}
 use Rattle.filter.proofs.judge.Statement.{statement}

@@ -4,7 +4,7 @@ use mathlib.Core.Path.{_≡_, sym, subst}
 use mathlib.Core.Bool.{Bool}
 use borrow.Author.Needs.{needs}
 use Rattle.model.specs.Input.{Input}
-use Rattle.evaluator.specs.Part.{conjunctOf}
+use Rattle.plan.specs.Part.{conjunctOf}
 use Rattle.filter.specs.Verdict.{testOf, Sees, Asks}
 use Rattle.filter.specs.declared.Test.{Test}
 use Rattle.filter.proofs.passes.Statement.{statement}

@@ -6,15 +6,24 @@ use native.Mathlib.Omega.{arith}
 use lib.IntN.{pos}
 use lib.ListN.{length, getD}
 use borrow.Author.Needs.{needs}
-use Rattle.evaluator.specs.Readings.{signedAt}
+use Rattle.plan.specs.Readings.{signedAt}
 use Rattle.filter.specs.Decoding.{inputIn}
 use Rattle.filter.proofs.Readings.{filled-none, type-code, field-none, field-listed, readings-inside, field-filled}
 use Rattle.filter.proofs.put_field.Statement.{statement}
 use Rattle.filter.proofs.put_field.Tie as tie
 
+abbrev start : tie.After-slice-known2 → tie.Start
+start c = c .before .before .before .before
+
+abbrev listed : tie.After-count → tie.Else1
+listed c = c .before .before
+
+abbrev counted : tie.After-put-readings → tie.After-count
+counted c = c .before .before .before .before
+
 returns : tie.Need-returns
 returns c =
-    let a = c .before .before .before .before .before .args in
+    let a = start (c .before) .args in
     let I = inputIn (a .types .now) (a .input .now) (a .f) in
     let e = field-none (a .types .now) (a .input .now) (a .f) (c .if1 .taken) in
     (rw e refl, omega arith, filled-none (λ k. getD I k (pos 0)) (128 * a .f) (signedAt (a .mags .now) (a .negs .now)))
@@ -33,15 +42,16 @@ mul-put-readings c = search needs
 
 put-readings-requires : tie.Need-put-readings-requires
 put-readings-requires c κs =
-    let g = c .before .before .before .before .before .before .before .before .before .before in
+    let m = c .before .before .before in
+    let g = start (listed m .before) in
     let a = g .args in
-    let n = c .before .before .before .count in
-    let p = c .before .before .before .before .readings in
-    let l = c .before .before .before .before .before .if1 .left in (
+    let n = m .count in
+    let p = m .before .readings in
+    let l = listed m .if1 .left in (
       type-code (a .types .now) (a .f) (g .pre .1) l,
       readings-inside (a .types .now) (a .input .now) (a .f) (g .pre .0) l (n .result) (n .ensures .0) (p .result .now) (p .ensures),
-      omega (arith, n .ensures .1, g .pre .2, g .pre .3),
-      omega (arith, n .ensures .1, g .pre .2, g .pre .4),
+      omega (arith, n .ensures .1, g .pre .3),
+      omega (arith, n .ensures .1, g .pre .4),
     )
 
 same-length : tie.Need-same-length
@@ -52,12 +62,14 @@ same-length-2 c = search needs
 
 returns-2 : tie.Need-returns-2
 returns-2 c =
-    let g = c .before .before .before .before .before .before .before .before .before .before .before .before .before .before .before in
+    let w = c .before .before .before .before in
+    let m = counted w in
+    let g = start (listed m .before) in
     let a = g .args in
-    let n = c .before .before .before .before .before .before .before .before .count in
-    let p = c .before .before .before .before .before .before .before .before .before .readings in
-    let l = c .before .before .before .before .before .before .before .before .before .before .if1 .left in
-    let q = c .before .before .before .before .put-readings in (
+    let n = m .count in
+    let p = m .before .readings in
+    let l = listed m .if1 .left in
+    let q = w .put-readings in (
       n .ensures .0 ∙ sym (ap length (field-listed (a .types .now) (a .input .now) (a .f) l)),
       n .ensures .1,
       field-filled (a .types .now) (a .input .now) (a .f) (g .pre .0) l (n .result) (n .ensures .0) (p .result .now) (p .ensures) (128 * a .f) (signedAt (a .mags .now) (a .negs .now)) (signedAt (q .last .1 .1 .1 .1 .0) (q .last .1 .1 .1 .1 .1 .0)) (q .ensures),

@@ -3,7 +3,7 @@
 use mathlib.Core.Path.{_∙_}
 use native.Mathlib.Omega.{arith}
 use borrow.Author.Needs.{needs}
-use Rattle.evaluator.proofs.Inputs.{signed-same, signed-other}
+use Rattle.plan.proofs.Inputs.{signed-same, signed-other}
 use Rattle.filter.proofs.put_reading.Statement.{statement}
 use Rattle.filter.proofs.put_reading.Tie as tie
 

@@ -1,0 +1,73 @@
+-- `filter::judge_in` meets its contract.
+-- Assumes nothing.
+use mathlib.Core.Path.{_≡_, sym, subst}
+use mathlib.Core.Bool.{true}
+use native.Mathlib.Omega.{arith}
+use borrow.Author.Needs.{needs}
+use Rattle.model.specs.Lists.{every}
+use Rattle.model.specs.Program.{typeRight}
+use Rattle.input.specs.Answers.{InputIsRead}
+use Rattle.condition.specs.Answers.{typesOf}
+use Rattle.plan.specs.Readings.{Decoded}
+use Rattle.filter.specs.Decoding.{inputIn}
+use Rattle.filter.proofs.Conjuncts.{types-right}
+use Rattle.filter.proofs.judge_in.Statement.{statement}
+use Rattle.filter.proofs.judge_in.Tie as tie
+
+abbrev start : tie.After-types → tie.Start
+start c = c .before .before .before .before .before .before
+
+abbrev typed : tie.After-decode → tie.After-types
+typed c = c .before .before .before .before
+
+abbrev decoded : tie.After-judge-arg3 → tie.After-decode
+decoded c = c .before .before .before .before .before .before .before .before .before
+
+types-requires : tie.Need-types-requires
+types-requires c κs = search needs
+
+decode-requires : tie.Need-decode-requires
+decode-requires c κs =
+    let t = c .before .before .before in
+    let s = start t in
+    let a = s .args in
+    let e = sym (t .types .ensures .0) in (
+      subst (λ ts. InputIsRead ts (a .input .now)) e (s .pre .1),
+      subst (λ ts. every typeRight ts ≡ true) e (types-right (a .condition .now) (a .sizes) (s .pre .0)),
+      s .pre .2,
+      omega (arith, t .types .ensures .1, s .pre .3),
+      omega (arith, t .types .ensures .1, s .pre .4),
+    )
+
+judge-requires : tie.Need-judge-requires
+judge-requires c κs = let d = decoded c in (start (typed d) .pre .0, d .decode .ensures .0)
+
+same-length : tie.Need-same-length
+same-length c = search needs
+
+same-length-2 : tie.Need-same-length-2
+same-length-2 c = search needs
+
+same-length-3 : tie.Need-same-length-3
+same-length-3 c = search needs
+
+returns : tie.Need-returns
+returns c =
+    let d = decoded (c .before) in
+    let t = typed d in
+    let a = start t .args in
+    let l = d .decode .last in
+    c .judge .ensures (inputIn (typesOf (a .condition .now)) (a .input .now))
+    (subst (λ ts. Decoded (inputIn ts (a .input .now)) (l .1 .1 .0) (l .1 .1 .1 .0) (l .1 .1 .1 .1 .0)) (t .types .ensures .0) (d .decode .ensures .1))
+
+pub judge-in-spec : {M : Type 1} → statement M
+judge-in-spec =
+    tie.close
+    (tie.spec
+    types-requires
+    decode-requires
+    judge-requires
+    same-length
+    same-length-2
+    same-length-3
+    returns)
