@@ -1,7 +1,7 @@
 -- The conjuncts of a condition that is read, one after the other: each is one that an evaluator takes.
 -- Assumes nothing.
 use mathlib.Core.Path.{_≡_, sym, subst, _∙_}
-use mathlib.Core.Bool.{Bool, true, false, _&&_}
+use mathlib.Core.Bool.{true, _&&_}
 use mathlib.Core.List.{List, [], _∷_, map}
 use Prim.Native.Nat.{ℕ, _+_, _*_, _<_, _≤_}
 use native.Mathlib.Numerals.{add-one}
@@ -79,23 +79,13 @@ module _ (s : List ℕ) (k : Counts) (read : ConditionIsRead s k) where
   unfolding conjunctOf
   conjunct-asked i P all h p is = subst P (sym is) (all-getD P (conjunctsOf s) i [] all (omega (arith, conjuncts-many)))
 
-  -- ---- a pass over the conjuncts
+  -- ---- from conjunct to conjunct
 
-  module _ (test : Conj → Bool) (i : ℕ) where
-    -- the one with number i is that of a part p
-    module _ (h : i < k .conjuncts) (p : List ℕ) (is : partNodes p ≡ getD (conjunctsOf s) i []) where
-      next : drop i (conjunctsOf s) ≡ conjunctOf p ∷ drop (i + 1) (conjunctsOf s)
-      unfolding conjunctOf
-      next = rw (is, add-one i) (drop-cons (conjunctsOf s) i [] (omega (arith, conjuncts-many)))
+  -- the one with number i is that of a part p
+  pub next-conjunct : (i : ℕ) → i < k .conjuncts → (p : List ℕ) → partNodes p ≡ getD (conjunctsOf s) i []
+      → drop i (conjunctsOf s) ≡ conjunctOf p ∷ drop (i + 1) (conjunctsOf s)
+  unfolding conjunctOf
+  next-conjunct i h p is = rw (is, add-one i) (drop-cons (conjunctsOf s) i [] (omega (arith, conjuncts-many)))
 
-      pub passed : test (conjunctOf p) ≡ true → every test (drop i (conjunctsOf s)) ≡ every test (drop (i + 1) (conjunctsOf s))
-      unfolding every
-      passed e = rw (next, e)
-
-      pub failed : test (conjunctOf p) ≡ false → every test (drop i (conjunctsOf s)) ≡ false
-      unfolding every
-      failed e = rw (next, e)
-
-    pub all-passed : k .conjuncts ≤ i → every test (drop i (conjunctsOf s)) ≡ true
-    unfolding every
-    all-passed h = let e = drop-of-length-le (conjunctsOf s) {i = i} (omega (arith, conjuncts-many)) in rw e
+  pub none-left : (i : ℕ) → k .conjuncts ≤ i → drop i (conjunctsOf s) ≡ []
+  none-left i h = drop-of-length-le (conjunctsOf s) {i = i} (omega (arith, conjuncts-many))

@@ -1,4 +1,5 @@
 pub mod Readings
 pub mod Conjuncts
+pub mod FirstPass
 pub mod Verdicts
 pub mod Longer

@@ -1,7 +1,7 @@
 -- The filter step by step: where it refuses, and what it answers of a condition and an input that are read.
 -- Assumes nothing.
 use mathlib.Core.Path.{_≡_, refl, sym, ap, ap₂, _∙_}
-use mathlib.Core.Bool.{Bool, true, false, _&&_, cond}
+use mathlib.Core.Bool.{Bool, true, _&&_, cond}
 use mathlib.Core.List.{List, [], _∷_}
 use Prim.Native.Nat.{ℕ, _*_}
 use lib.Dec.{ltb}
@@ -12,37 +12,37 @@ use Rattle.model.specs.Bytes.{pairAt, pairsAt, chained}
 use Rattle.model.specs.Conjunct.{Conjuncts}
 use Rattle.model.specs.Condition.{Condition, readCondition}
 use Rattle.model.specs.Input.{Input, readingsOf, lengthsRight, readInput}
-use Rattle.model.specs.Filter.{holds, fewCombinations, hasReadings, passNumber, heldNumber, filterInput}
+use Rattle.model.specs.Filter.{holds, hasReadings, passNumber, heldNumber, filterInput}
 use Rattle.model.proofs.Results.{ok-eq, refused-ok, check-ok, mapped-ok}
 use Rattle.model.proofs.Tests.{and-left, and-right}
 use Rattle.input.specs.Answers.{InputIsRead}
 use Rattle.condition.specs.Answers.{sizes, sizesOf, ConditionIsRead, typesOf, conjunctsOf}
 use Rattle.condition.specs.declared.Counts.{Counts}
 use Rattle.condition.proofs.Table.{condition-read}
-use Rattle.plan.specs.Readings.{Counted}
+use Rattle.plan.specs.Readings.{Counted, NoneBlank}
 use Rattle.evaluator.proofs.Calls.{readings-none-blank}
-use Rattle.filter.specs.Verdict.{Asks, judged}
-use Rattle.filter.specs.declared.Test.the-variants.{Evaluate}
+use Rattle.filter.specs.Verdict.{Told, judged}
+use Rattle.filter.specs.declared.Combinations.the-variants.{Blank, TooMany, Within}
 use Rattle.filter.specs.Decoding.{inputIn}
 
 -- ---- the verdict on conjuncts
 
 module _ (I : Input) (S : Conjuncts) where
-  pub judged-blank : every (hasReadings I) S ≡ false → judged I S ≡ refused 15
+  pub judged-blank : Told Blank I S → judged I S ≡ refused 15
   unfolding judged
   judged-blank h = rw h
 
-  module _ (full : every (hasReadings I) S ≡ true) where
-    pub judged-many : every (fewCombinations I) S ≡ false → judged I S ≡ refused 14
-    unfolding judged
-    judged-many h = rw (full, h)
+  pub judged-too-many : Told TooMany I S → judged I S ≡ refused 14
+  unfolding judged
+  judged-too-many h = rw (h .0, h .1)
 
-    pub judged-few : every (fewCombinations I) S ≡ true → (b : Bool) → every (holds I) S ≡ b → judged I S ≡ ok (cond b passNumber heldNumber)
-    unfolding judged
-    judged-few h b k = rw (full, h, k)
+  -- where they are within the limit, the evaluations decide
+  pub judged-within : Told Within I S → (b : Bool) → every (holds I) S ≡ b → judged I S ≡ ok (cond b passNumber heldNumber)
+  unfolding judged
+  judged-within h b k = rw (h .0, h .1, k)
 
 -- where no field that is read is blank, every conjunct can be evaluated
-pub none-blank : (counts : List ℕ) (S : Conjuncts) → ((I : Input) → Counted I counts → every (hasReadings I) S ≡ true) → All (Asks Evaluate counts) S
+pub none-blank : (counts : List ℕ) (S : Conjuncts) → ((I : Input) → Counted I counts → every (hasReadings I) S ≡ true) → All (NoneBlank counts) S
 unfolding every
 none-blank counts [] h = tt
 none-blank counts (e ∷ S) h = (

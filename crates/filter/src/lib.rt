@@ -1,7 +1,7 @@
 // The filter (document 01: gate): whether the readings of an input pass a condition. The condition is
-// read, then the input; the readings are decoded once. Three tests go over all conjuncts one after the
-// other: that no field that is read is blank, that the combinations are few enough, and that none
-// overflows. Assumes nothing.
+// read, then the input; the readings are decoded once. Two passes go over all conjuncts: the first works
+// out how many combinations each has, which tells of blank fields (15) and of too many combinations (14);
+// the second evaluates, and only where the first refuses nothing. Assumes nothing.
 ghost use mathlib.Core.Path.{_≡_};
 ghost use mathlib.Core.Bool.{true};
 ghost use Prim.Native.Nat.{ℕ, _+_, _*_, _/_, _≤_, _<_};
@@ -11,12 +11,11 @@ ghost use Rattle.arith.specs.Types.{Row, IsRow};
 ghost use Rattle.model.specs.Lists.{All, every};
 ghost use Rattle.model.specs.Program.{typeRight};
 ghost use Rattle.model.specs.Input.{Input, width, readingAt};
-ghost use Rattle.model.specs.Filter.{fewCombinations, hasReadings, filterInput};
+ghost use Rattle.model.specs.Filter.{holds, filterInput};
 ghost use Rattle.input.specs.Answers.{InputIsRead};
 ghost use Rattle.condition.specs.Answers.{ConditionIsRead, typesOf, conjunctsOf};
-ghost use Rattle.plan.specs.Part.{conjunctOf, IsConjunct};
-ghost use Rattle.plan.specs.Readings.{signedAt, Few, Lent, Counted, Decoded, Taken};
-ghost use Rattle.filter.specs.Verdict.{verdictOf, testOf, Asks, Sees, judged};
+ghost use Rattle.plan.specs.Readings.{signedAt, Few, Lent, Counted, Decoded, NoneBlank, Taken};
+ghost use Rattle.filter.specs.Verdict.{verdictOf, Told, judged};
 ghost use Rattle.filter.specs.Decoding.{inputIn, Filled};
 use arith::Range;
 use condition::ConditionRead;
@@ -30,12 +29,12 @@ pub enum Verdict {
     Refused(u8),
 }
 
-// What is asked of a conjunct: that every field that it reads has a reading; that it has few enough
-// combinations; that none of them overflows.
-enum Test {
-    Readings,
-    Count,
-    Evaluate,
+// What the numbers of combinations tell of all conjuncts: one reads a field without a reading; none
+// does, but one has too many combinations; neither.
+enum Combinations {
+    Blank,
+    TooMany,
+    Within,
 }
 
 // The most fields of a condition.
@@ -44,6 +43,8 @@ const FIELDS: usize = 32;
 const FEW: usize = 4;
 // The most readings of a field.
 const READINGS: usize = 128;
+// The most combinations of a conjunct.
+const LIMIT: usize = 1_048_576;
 
 // ---- the readings
 
@@ -101,54 +102,44 @@ fn decode(types: &[u8], input: &[u8], counts: &mut [usize], mags: &mut [u64], ne
 
 // ---- the conjuncts
 
-// Whether every field that a conjunct reads has a reading.
-fn has_readings(part: &[u8], counts: &[usize]) -> bool
-    requires { ⌜ IsConjunct (now part) × Few (now counts) ⌝ }
-    ensures { λ r. ⌜ ((I : Input) → Counted I (now (counts .entry)) → r ≡ hasReadings I (conjunctOf (now (part .entry)))) ⌝ }
+// What the numbers of combinations tell of all conjuncts. A blank field comes first: it is looked for
+// to the last conjunct, also where one before has too many combinations.
+fn products(condition: &[u8], sizes: Counts, counts: &[usize]) -> Combinations
+    requires { ⌜ ConditionIsRead (now condition) sizes × Few (now counts) ⌝ }
+    ensures { λ r. ⌜ ((I : Input) → Counted I (now (counts .entry)) → Told r I (conjunctsOf (now (condition .entry)))) ⌝ }
 {
-    0 < evaluator::product(part, counts)
-}
-
-// Whether a conjunct has few enough combinations.
-fn has_few(part: &[u8], counts: &[usize]) -> bool
-    requires { ⌜ IsConjunct (now part) × Few (now counts) ⌝ }
-    ensures { λ r. ⌜ ((I : Input) → Counted I (now (counts .entry)) → r ≡ fewCombinations I (conjunctOf (now (part .entry)))) ⌝ }
-{
-    evaluator::product(part, counts) <= 1048576
-}
-
-// Whether a conjunct passes a test.
-fn passes(test: Test, part: &[u8], counts: &[usize], mags: &[u64], negs: &[bool]) -> bool
-    requires { ⌜ IsConjunct (now part) × Lent (now counts) (now mags) (now negs) × Asks test (now counts) (conjunctOf (now part)) ⌝ }
-    ensures { λ r. ⌜ ((I : Input) → Sees test I (now (counts .entry)) (now (mags .entry)) (now (negs .entry))
-        → r ≡ testOf test I (conjunctOf (now (part .entry)))) ⌝ }
-{
-    match test {
-        Test::Readings => has_readings(part, counts),
-        Test::Count => has_few(part, counts),
-        Test::Evaluate => evaluator::holds(part, counts, mags, negs),
+    let n = sizes.conjuncts;
+    let mut many = false;
+    let mut i: usize = 0;
+    while i < n {
+        let part = condition::conjunct(condition, sizes, i);
+        let p = evaluator::product(part, counts);
+        if p == 0 {
+            return Combinations::Blank;
+        }
+        if LIMIT < p {
+            many = true;
+        }
+        i += 1;
     }
+    if many {
+        return Combinations::TooMany;
+    }
+    Combinations::Within
 }
 
-// Whether all conjuncts pass a test.
-fn all_pass(
-    test: Test,
-    condition: &[u8],
-    sizes: Counts,
-    counts: &[usize],
-    mags: &[u64],
-    negs: &[bool],
-) -> bool
+// Whether all conjuncts hold: none of their combinations overflows.
+fn all_hold(condition: &[u8], sizes: Counts, counts: &[usize], mags: &[u64], negs: &[bool]) -> bool
     requires { ⌜ ConditionIsRead (now condition) sizes × Lent (now counts) (now mags) (now negs)
-        × All (Asks test (now counts)) (conjunctsOf (now condition)) ⌝ }
-    ensures { λ r. ⌜ ((I : Input) → Sees test I (now (counts .entry)) (now (mags .entry)) (now (negs .entry))
-        → r ≡ every (testOf test I) (conjunctsOf (now (condition .entry)))) ⌝ }
+        × All (NoneBlank (now counts)) (conjunctsOf (now condition)) ⌝ }
+    ensures { λ r. ⌜ ((I : Input) → Decoded I (now (counts .entry)) (now (mags .entry)) (now (negs .entry))
+        → r ≡ every (holds I) (conjunctsOf (now (condition .entry)))) ⌝ }
 {
     let n = sizes.conjuncts;
     let mut i: usize = 0;
     while i < n {
         let part = condition::conjunct(condition, sizes, i);
-        if !passes(test, part, counts, mags, negs) {
+        if !evaluator::holds(part, counts, mags, negs) {
             return false;
         }
         i += 1;
@@ -158,22 +149,23 @@ fn all_pass(
 
 // ---- the verdict
 
-// Of a condition that is read, with the readings of an input: each test goes over all conjuncts before
-// the next.
+// Of a condition that is read, with the readings of an input: nothing is evaluated before all numbers of
+// combinations are known.
 fn judge(condition: &[u8], sizes: Counts, counts: &[usize], mags: &[u64], negs: &[bool]) -> Verdict
     requires { ⌜ ConditionIsRead (now condition) sizes × Lent (now counts) (now mags) (now negs) ⌝ }
     ensures { λ r. ⌜ ((I : Input) → Decoded I (now (counts .entry)) (now (mags .entry)) (now (negs .entry)) → verdictOf r ≡ judged I (conjunctsOf (now (condition .entry)))) ⌝ }
 {
-    if !all_pass(Test::Readings, condition, sizes, counts, mags, negs) {
-        return Verdict::Refused(15);
+    match products(condition, sizes, counts) {
+        Combinations::Blank => Verdict::Refused(15),
+        Combinations::TooMany => Verdict::Refused(14),
+        Combinations::Within => {
+            if all_hold(condition, sizes, counts, mags, negs) {
+                Verdict::Pass
+            } else {
+                Verdict::Held
+            }
+        }
     }
-    if !all_pass(Test::Count, condition, sizes, counts, mags, negs) {
-        return Verdict::Refused(14);
-    }
-    if !all_pass(Test::Evaluate, condition, sizes, counts, mags, negs) {
-        return Verdict::Held;
-    }
-    Verdict::Pass
 }
 
 // Of a condition and an input that are read, with room for the readings.

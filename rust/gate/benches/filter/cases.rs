@@ -126,7 +126,7 @@ fn tails() -> Vec<Case> {
         usual("u64 additions above 2^63", U64, four(U64, &[(ADD, 1)]), above),
         usual("i64 additions, mixed signs", I64, four(I64, &[(ADD, 5)]), signs),
         usual("u32 quotients", U32, four(U32, &[(DIVIDE, 1)]), |i| 1_000_000_000 + i),
-        usual("i64 quotients, mixed signs", I64, four(I64, &[(DIVIDE, -1)]), |i| (i - 16) * 1_000_000_007),
+        usual("i64 quotients, mixed signs", I64, four(I64, &[(DIVIDE, -3)]), |i| (i - 16) * 1_000_000_007),
     ]
 }
 
