@@ -28,6 +28,17 @@ static size_t load(const char *name, uint8_t *bytes, size_t room) {
     return length;
 }
 
+static const char *cause(uint32_t number) {
+    switch (number) {
+    case GATE_TOO_BIG:
+        return "too big";
+    case GATE_TOO_SMALL:
+        return "too small";
+    default:
+        return "no divisor";
+    }
+}
+
 /* What an answer says; a refusal ends the program. */
 static uint32_t taken(const char *name, uint64_t answer) {
     if (GATE_REFUSED(answer)) {
@@ -40,7 +51,7 @@ static uint32_t taken(const char *name, uint64_t answer) {
 int main(int count, char **words) {
     size_t recipe_length, condition_length, sheet_length, at, reads = count < 3 ? 0 : (size_t)count - 3;
     uint64_t steps, number;
-    uint32_t end;
+    uint32_t verdict, end;
     if (count < 3 || reads > MOST_CHOICES) {
         fprintf(stderr, "usage: %s RECIPE SHEET [CHOICE ...], at most %d choices\n", words[0], MOST_CHOICES);
         return 3;
@@ -60,8 +71,9 @@ int main(int count, char **words) {
 
     condition_length = taken(words[1], gate_derive(recipe, recipe_length, condition, sizeof condition,
                                                    scratch, GATE_SCRATCH_WORDS));
-    if (taken(words[2], gate_check(condition, condition_length, sheet, sheet_length)) == GATE_HELD) {
-        printf("%s: held\n", words[2]);
+    verdict = taken(words[2], gate_check(condition, condition_length, sheet, sheet_length));
+    if (GATE_VERDICT(verdict) != GATE_PASS) {
+        printf("%s: held %s\n", words[2], cause(GATE_CAUSE(verdict)));
         return 1;
     }
     end = taken(words[2], gate_run(recipe, recipe_length, sheet, sheet_length, LIMIT, choices, 2 * reads,

@@ -1,7 +1,7 @@
 /* The survey gate: from a recipe to its condition, from a condition and a sheet to a verdict, and a
  * recipe's run. Each function is proved to equal its definition in document 01, with document 02's
- * Card 1, for every input. docs/FORMATS.md has the files byte by byte, docs/REFUSALS.md the refusals,
- * examples/gate.c a program.
+ * Cards 1 and 2, for every input. docs/FORMATS.md has the files byte by byte, docs/REFUSALS.md the
+ * refusals and the causes of holds, examples/gate.c a program.
  *
  * Slices. A slice is a pointer and a number of elements. With a length of 0 the pointer may be NULL,
  * since nothing is read or written through it. Bytes may stand at any address; scratch, `steps` and
@@ -49,8 +49,17 @@ extern "C" {
 #define GATE_MOST_READINGS 128u /* of a field */
 #define GATE_MOST_COMBINATIONS 1048576u /* of a conjunct */
 
-/* The verdict of gate_check. */
+/* The verdict of gate_check: GATE_VERDICT of its answer. */
 enum gate_verdict { GATE_PASS = 0, GATE_HELD = 1 };
+
+/* Why gate_check holds a sheet: GATE_CAUSE of its answer. It is the cause of the first failure:
+ * conjuncts in the condition's order; combinations of readings with the last atom's running fastest,
+ * atoms by first appearance and readings as listed; within a combination the first step in postfix. */
+enum gate_cause {
+    GATE_TOO_BIG = 1, /* a result above its type's range */
+    GATE_TOO_SMALL = 2, /* a result below its type's range */
+    GATE_NO_DIVISOR = 3 /* a divisor of 0 */
+};
 
 /* The end of gate_run and gate_guarded; the last is of gate_guarded alone. */
 enum gate_end {
@@ -85,6 +94,11 @@ enum gate_refusal {
 #define GATE_REFUSED(answer) ((uint32_t)((uint64_t)(answer) >> 32))
 #define GATE_VALUE(answer) ((uint32_t)(answer))
 
+/* Of an answer of gate_check that is no refusal: the verdict; and the cause where it is GATE_HELD, else
+ * 0. Compare these with the names above, not the whole answer: a hold is 1 plus 256 times the cause. */
+#define GATE_VERDICT(answer) (GATE_VALUE(answer) & 255u)
+#define GATE_CAUSE(answer) (GATE_VALUE(answer) >> 8)
+
 /* Of a record, a pointer to its first byte: the site's label, whether a step of the value's making
  * overflowed (never behind the gate), and the value, sign extended if its type is signed. */
 #define GATE_RECORD_LABEL(record) ((uint32_t)(record)[0] | (uint32_t)(record)[1] << 8)
@@ -103,10 +117,11 @@ uint64_t gate_derive(const uint8_t *recipe, size_t recipe_length,
                      uint8_t *condition, size_t condition_length,
                      uint64_t *scratch, size_t scratch_length);
 
-/* Gives GATE_PASS if the sheet passes under the condition and GATE_HELD if it is held, or refuses with
- * 12 to 15, tested in the order 12, 13, 15, 14: 15 in every conjunct before 14 in any. A field that no
- * conjunct reads may have no readings. Writes nothing. The condition must be the recipe's own: the gate
- * cannot know from which recipe it came. */
+/* Gives 0 if the sheet passes under the condition; if it is held, 1 plus 256 times the cause (1 too
+ * big, 2 too small, 3 no divisor), which GATE_VERDICT and GATE_CAUSE take apart; or refuses with 12 to
+ * 15, tested in the order 12, 13, 15, 14: 15 in every conjunct before 14 in any, and 14 in every one
+ * before any step is worked. A field that no conjunct reads may have no readings. Writes nothing. The
+ * condition must be the recipe's own: the gate cannot know from which recipe it came. */
 uint64_t gate_check(const uint8_t *condition, size_t condition_length,
                     const uint8_t *sheet, size_t sheet_length);
 
@@ -125,9 +140,10 @@ uint64_t gate_run(const uint8_t *recipe, size_t recipe_length,
 
 /* Derives the recipe's condition and runs the recipe only if the sheet passes under it. Gives the end
  * as gate_run, with `log`, `steps` and `records` as there and the condition as gate_derive writes it;
- * or GATE_END_HELD where the sheet is held, and then everything lent but scratch is as it was. Wants
- * GATE_CONDITION_BYTES and gate_scratch() words, else refuses with 1; then 2 to 11 and 13 to 15. No
- * record that it writes is marked, and each is the whole number of the exact run. */
+ * or GATE_END_HELD where the sheet is held (gate_check tells the cause), and then everything lent but
+ * scratch is as it was. Wants GATE_CONDITION_BYTES and gate_scratch() words, else refuses with 1; then
+ * 2 to 11 and 13 to 15. No record that it writes is marked, and each is the whole number of the exact
+ * run. */
 uint64_t gate_guarded(const uint8_t *recipe, size_t recipe_length,
                       const uint8_t *sheet, size_t sheet_length, uint32_t limit,
                       const uint8_t *choices, size_t choices_length,

@@ -1,5 +1,6 @@
-/* What include/gate.h says of lent slices, through the library: NULL with length 0, odd addresses,
- * overlap of what is read, scratch before and after, threads. Prints nothing if all of it is so. */
+/* What include/gate.h says of lent slices and of verdicts, through the library: NULL with length 0, odd
+ * addresses, overlap of what is read, scratch before and after, threads; each cause of a hold. Prints
+ * nothing if all of it is so. */
 #undef NDEBUG
 #include <assert.h>
 #include <gate.h>
@@ -89,6 +90,31 @@ static int outputs_marked(const struct lent *d) {
            marked(d->scratch + GATE_SCRATCH_WORDS, SPARE * sizeof *d->scratch);
 }
 
+/* A constant, an operation (2 add, 3 subtract, 5 divide) and a reading, all u8, with verdict and cause. */
+static const struct {
+    uint8_t constant, operation, reading, verdict, cause;
+} steps[] = {
+    {200, 2, 55, GATE_PASS, 0}, {200, 2, 56, GATE_HELD, GATE_TOO_BIG},
+    {1, 3, 1, GATE_PASS, 0}, {1, 3, 2, GATE_HELD, GATE_TOO_SMALL},
+    {1, 5, 1, GATE_PASS, 0}, {1, 5, 0, GATE_HELD, GATE_NO_DIVISOR},
+};
+
+static void verdicts_and_causes(void) {
+    uint8_t condition[41] = {1, 0, 0, 0, 1, 0, 0, 0, 0, 17, 0, 0, 0, 24};
+    uint8_t sheet[9] = {8, 0, 0, 0, 1};
+    size_t at;
+    condition[25] = condition[29] = 1; /* the first reading of the field */
+    for (at = 0; at < sizeof steps / sizeof *steps; at++) {
+        uint64_t answer;
+        condition[21] = steps[at].constant;
+        condition[33] = steps[at].operation;
+        sheet[8] = steps[at].reading;
+        answer = gate_check(condition, sizeof condition, sheet, sizeof sheet);
+        assert(GATE_REFUSED(answer) == 0 && answer == steps[at].verdict + 256u * steps[at].cause);
+        assert(GATE_VERDICT(answer) == steps[at].verdict && GATE_CAUSE(answer) == steps[at].cause);
+    }
+}
+
 static void hold_leaves_outputs(struct lent *d) {
     memset(d, MARK, sizeof *d);
     assert(guarded(d, doubled, sizeof doubled, holding, sizeof holding, passing, 2) == GATE_END_HELD);
@@ -145,6 +171,7 @@ int main(void) {
     assert(gate_scratch() == GATE_SCRATCH_WORDS);
     null_with_length_0(&all_lent[0]);
     refusals_leave_all(&all_lent[0]);
+    verdicts_and_causes();
     blank_leaves_outputs(&all_lent[0]);
     threads_with_scratch_each();
     return 0;

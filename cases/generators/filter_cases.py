@@ -1,18 +1,20 @@
 #!/usr/bin/env python3
 """filter_cases.py CRATE: writes CRATE/data and CRATE/stdout of the program filter_cases from the outside vectors.
 
-The verdicts come from the vectors' answers; a condition whose answer is empty is left out. The cases beside the vectors follow:
-document 01's example of one field with 128 readings, here a u32 in which nothing overflows, and blank fields, whose refusal 15
-stands between 13 and 14."""
+The verdicts come from the vectors' answers; a condition whose answer is empty is left out. In the first cases, which are of sets
+without causes, a hold is `held` alone. The cases beside the vectors follow: document 01's example of one field with 128
+readings, here a u32 in which nothing overflows; blank fields, whose refusal 15 stands between 13 and 14; and holds, with the
+cause of the first failure, as worked out by hand."""
 import sys
 from typing import List, NamedTuple, Sequence
 
 from stored import Stored, four
 from vectors import cases
 
-U8, U32 = 0, 2
+TYPES = ("u8", "u16", "u32", "u64", "i8", "i16", "i32", "i64")
+U8, U32, U64, I8, I32 = (TYPES.index(name) for name in ("u8", "u32", "u64", "i8", "i32"))
 CONSTANT, READING = 0, 1
-OPERATIONS = {"add": 2, "mul": 4}
+OPERATIONS = {"add": 2, "sub": 3, "mul": 4, "div": 5, "to": 6}
 
 
 class Beside(NamedTuple):
@@ -24,17 +26,19 @@ class Beside(NamedTuple):
     answer: str
 
 
-def conjunct(code: int, text: str) -> bytes:
-    """A conjunct from its postfix, as the listing has it without types: every node has this type."""
+def conjunct(usual: int, text: str) -> bytes:
+    """A conjunct from its postfix, as the listing has it; a node without a type has this one."""
     nodes = b""
-    for word in text.split():
+    for node in text.split():
+        word, _, name = node.partition(":")
+        code = TYPES.index(name) if name else usual
         if word in OPERATIONS:
             nodes += bytes([OPERATIONS[word], code, 0, 0]) + four(0)
         elif word.startswith("f"):
             field, n = word[1:-1].split("<")
             nodes += bytes([READING, code, int(field), 0]) + four(int(n))
         else:
-            nodes += bytes([CONSTANT, code, 0, 0]) + four(int(word))
+            nodes += bytes([CONSTANT, code, 0, 0]) + four(int(word) % 2**32)
     return nodes
 
 
@@ -79,6 +83,62 @@ def blank_fields() -> List[Beside]:
     ]
 
 
+def held(cause: str, what: str, code: int, conjuncts: str, *columns: Sequence[int]) -> Beside:
+    """A hold: its conjuncts, with a semicolon between, and the readings of each field, all of this type."""
+    types, parts = [code] * len(columns), [conjunct(code, text) for text in conjuncts.split(";")]
+    width = 2 ** (code % 4)
+    readings = [b"".join((value % 2 ** (8 * width)).to_bytes(width, "little") for value in column) for column in columns]
+    return Beside(what, condition(types, *parts), sheet(*readings), f"held {cause}")
+
+
+def first_failures() -> List[Beside]:
+    """Holds: what overflows, and where another order would meet another failure first."""
+    lowest, highest, digits = -2**31, 2**64 - 1, range(128)
+    many = condition([U8], conjunct(U8, "255 1 add"), conjunct(U8, "f0<1> f0<2> add f0<3> add"))
+    return [
+        held("too big", "the lowest i32 divided by -1", I32, "f0<1> f1<1> div", [lowest], [-1]),
+        held("no divisor", "the lowest i32 divided by 0", I32, "f0<1> f1<1> div", [lowest], [0]),
+        held("no divisor", "0 divided by 0", U8, "f0<1> f0<1> div", [0]),
+        held("too small", "i32 -1 converted to u32", I32, "f0<1> to:u32", [-1]),
+        held("too big", "the highest u64 converted to i8", U64, "f0<1> to:i8", [highest]),
+        held("too small", "the second of two fields runs fastest: 1 - 2 fails first, and 0 - 1 would if the first did",
+             U8, "f0<1> f1<1> sub", [1, 0], [0, 1, 2]),
+        held("too big", "the same with other readings: 100 - (-100) fails first, and -100 - 100 would if the first did",
+             I8, "f0<1> f1<1> sub", [100, -100], [0, 100, -100]),
+        held("too big", "the atoms go by first appearance, not by field: the readings of the case before, their fields exchanged",
+             I8, "f1<1> f0<1> sub", [0, 100, -100], [100, -100]),
+        held("too big", "two steps fail with the same reading: the product stands before the difference",
+             U8, "f0<1> f0<1> mul 0 f0<1> sub add", [16]),
+        held("too small", "the same with the difference before the product", U8, "0 f0<1> sub f0<1> f0<1> mul add", [16]),
+        held("too big", "20 and 16 fail at the product; 20 and 30 fail at the difference before it, and come later",
+             U8, "f0<1> f1<1> sub f1<1> f1<1> mul add", [20], [16, 30]),
+        held("too small", "two conjuncts fail: the first counts", U8, "1 f0<1> sub; f0<1> f0<2> add", [3, 200]),
+        held("too small", "the first conjunct fails with its last reading, the second with the first",
+             U8, "f0<1> 5 sub; f0<1> f0<1> mul", [16, 7, 4]),
+        held("no divisor", "of 16,384 combinations the last one fails", I32, quotient(16383), digits),
+        held("no divisor", "combination 9,999 fails at the quotient, combination 10,000 at the conversion that stands before it",
+             I32, f"{conversion(10000)} {quotient(9999)} add", digits),
+        held("too big", "combination 9,999 fails at the conversion, combination 10,000 at the quotient that stands before it",
+             I32, f"{quotient(10000)} {conversion(9999)} add", digits),
+        Beside("an overflow in the first conjunct, 2,097,152 combinations in the last", many, sheet(bytes(128)), "refused 14"),
+    ]
+
+
+def quotient(number: int) -> str:
+    """What has no divisor in the combination with this number, from 0, and is small in all others."""
+    return f"1 {less(number)} div"
+
+
+def conversion(number: int) -> str:
+    """What is too big for an i8 in the combination with this number, and fits it in all others."""
+    return f"255 {less(number)} {less(number)} mul 1 add div to:i8 to"
+
+
+def less(number: int) -> str:
+    """The number of a combination less this one; two atoms with the readings 0 to 127 are its digits."""
+    return f"f0<1> 128 mul f0<2> add {number} sub"
+
+
 def beside() -> List[Beside]:
     """The cases beside the vectors, in order."""
     two, three = conjunct(U32, "f0<1> f0<2> add"), conjunct(U32, "f0<1> f0<2> f0<3> add add")
@@ -87,6 +147,7 @@ def beside() -> List[Beside]:
         Beside("one field of 128 readings and two atoms, 16,384 combinations", condition([U32], two), full, "pass"),
         Beside("the same with three atoms, 2,097,152 combinations", condition([U32], three), full, "refused 14"),
         *blank_fields(),
+        *first_failures(),
     ]
 
 

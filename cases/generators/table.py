@@ -30,7 +30,7 @@ What each stored case is there for. `rt check` and `.ci/run` run the programs be
 |---|---|---|
 | `read_cases` | 000 to %(last)s | the three readers: counts of what is read, refusals 2 to 8 of recipes, 12 of conditions, 13 of sheets, each sheet read for the recipe and for the condition |
 | `derive_cases` | 000 to %(last)s | the analysis: the condition byte for byte and its listing, or refusals 2 to 11 |
-| `filter_cases` | 000 to %(filter)s | the gate on the made-up condition and on the derived one: pass, held, refusals 12 to 15 |
+| `filter_cases` | 000 to %(filter)s | the gate on the made-up condition and on the derived one: pass, held with the cause of the first failure, refusals 12 to 15 |
 | `run_cases` | 000 to %(run)s | the run: end, steps and every byte of the records; where the derived condition passes, the numbers of the whole-number run, unmarked |
 | `list` | one, on standard input | document 01's example of a listing: two reads of one field are two atoms |
 | `derive` | one | document 01's loop `x = x + 1` before a site: refused 11, and nothing is written |
@@ -46,7 +46,7 @@ The same vectors go through the library in C's form by `rust/gate/tests/vectors.
 %(beside)s
 ## The vectors
 
-A recipe that is accepted, or refused with 9 to 11, shows its whiles, ifs, loads, stores and sites. `Made up` is the condition that comes with the case, put to the case's sheet; `derived` is the recipe's own. Where Card 1 has moved an answer of the gate and the vectors leave it empty, the table says `not compared`. A run that is refused as the recipe is says `the same`. Labels and entries count from 0.
+A recipe that is accepted, or refused with 9 to 11, shows its whiles, ifs, loads, stores and sites. `Made up` is the condition that comes with the case, put to the case's sheet; `derived` is the recipe's own. Where Card 1 has moved an answer of the gate and the vectors leave it empty, the table says `not compared`. The sets `base` and `card-01` were made before Card 2 and say `held` alone; there the cause is not compared, and `filter_cases` does not print it. A run that is refused as the recipe is says `the same`. Labels and entries count from 0.
 
 %(sets)s
 

@@ -1,20 +1,22 @@
 """The outside vectors, rust/vectors: the sets in force, their cases numbered one after the other.
 
 A set is a folder with the files of its cases, NNN.KIND, and ANSWERS.tsv, whose first line names the columns. An answer of the
-gate that is empty is not compared: the recipe has no condition, or a change request moved the answer after the set was made."""
+gate that is empty is not compared: the recipe has no condition, or a change request moved the answer after the set was made.
+The sets up to card-01 were made before a hold had a cause, and say `held` alone."""
 import os
 from typing import List, NamedTuple
 
 ROOT = os.path.dirname(os.path.dirname(os.path.dirname(os.path.abspath(__file__))))
 VECTORS = os.path.join(ROOT, "rust", "vectors")
-SETS = ("base", "card-01")
+SETS = ("base", "card-01", "card-02")
+CAUSES = {"held above": "held too big", "held below": "held too small", "held divisor": "held no divisor"}
 
 
 class Case(NamedTuple):
     """A case by its number over all sets, with its set, its number there and its answers.
 
-    `made_up` is the gate's answer on the condition that comes with the case, `derived` its answer on the recipe's own; `room`
-    is the log's length in bytes."""
+    `made_up` is the gate's answer on the condition that comes with the case, `derived` its answer on the recipe's own, each in
+    the words of the program gate, or `held` alone; `room` is the log's length in bytes."""
 
     number: str
     set: str
@@ -53,5 +55,12 @@ def cases() -> List[Case]:
         with open(os.path.join(VECTORS, name, "ANSWERS.tsv"), encoding="utf-8") as answers:
             header, *rows = [line.rstrip("\n").split("\t") for line in answers]
         places = [header.index(column) for column in COLUMNS]
-        found += [Case(f"{len(found) + k:03d}", name, *[row[at] for at in places]) for k, row in enumerate(rows)]
+        for row in rows:
+            answers = [CAUSES.get(row[at], row[at]) for at in places]
+            found.append(Case(f"{len(found):03d}", name, *answers))
     return found
+
+
+def is_answer(expected: str, told: str) -> bool:
+    """Whether an answer of the gate is the expected one, which may say nothing of the cause of a hold."""
+    return told == expected or expected == "held" and told.startswith("held ")

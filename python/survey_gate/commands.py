@@ -29,7 +29,7 @@ Arguments = argparse.Namespace
 
 
 def check(arguments: Arguments, output: Output) -> int:
-    """A line for each sheet: pass, held with the reason, or refused with its meaning."""
+    """A line for each sheet: pass, held with the cause and the reason, or refused with its meaning."""
     try:
         recipe, condition = _recipe_and_condition(arguments, output)
     except Refused as refused:
@@ -81,7 +81,7 @@ def _check_sheet(path: str, recipe: Recipe, condition: Condition, output: Output
         progress.finished()
     progress.clear()
     output.warn(path, sheet.warnings)
-    return output.passed(path) if verdict.passed else output.held(path, verdict.reason)
+    return output.passed(path) if verdict.passed else output.held(path, verdict)
 
 
 def _gated_recipe(path: str, output: Output) -> Recipe:
@@ -144,7 +144,7 @@ def run(arguments: Arguments, output: Output) -> int:
         raise Trouble(f"{shown(blamed)}: {disagreement}") from None
     output.warn(arguments.sheet, sheet.warnings)
     if ran.verdict and not ran.verdict.passed:
-        return output.held(arguments.sheet, ran.verdict.reason, files.move_aside(arguments.log))
+        return output.held(arguments.sheet, ran.verdict, files.move_aside(arguments.log))
     files.write(arguments.log, ran.log)
     return _told_run(arguments, output, ran)
 

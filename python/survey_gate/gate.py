@@ -8,10 +8,10 @@
     if verdict.passed:
         print(run(recipe, sheet, choices=[0, 0, 1]).records)
     else:
-        print(verdict.reason)
+        print(verdict.cause, verdict.reason)
 
-A verdict comes from the proved library; the reason of a hold is worked out beside it and put to it again. A
-refusal raises Refused, with document 01's number and the place.
+A verdict and the cause of a hold come from the proved library; the reason of a hold is worked out beside it, must
+have the same cause, and is put to it again. A refusal raises Refused, with document 01's number and the place.
 """
 
 from __future__ import annotations
@@ -34,9 +34,10 @@ MOST_CAUSES_TOLD = 3
 
 @dataclass(frozen=True)
 class Verdict:
-    """Pass, or held with the reason (nothing where it was not asked for)."""
+    """Pass, or held with the cause, `too big`, `too small` or `no divisor`, and the reason."""
 
     passed: bool
+    cause: Optional[str] = None
     reason: Optional[Hold] = None
 
 
@@ -77,17 +78,19 @@ def told(causes: Sequence[Cause], recipe: Recipe) -> str:
 
 
 def check(recipe: Recipe, sheet: Sheet, condition: Optional[Condition] = None, tick: Tick = lambda work: None) -> Verdict:
-    """Whether the sheet passes, with the reason where it is held.
+    """Whether the sheet passes, with the cause and the reason where it is held.
 
     The condition is derived unless it is given; for many sheets, derive it once. Raises Refused with 9, 10, 11,
     14 or 15. `tick` hears of the nodes that the search for a reason works.
     """
     condition = condition or derive(recipe)
     try:
-        passed = load().check(condition.data, sheet.to_bytes())
+        cause = load().check(condition.data, sheet.to_bytes())
     except Refused as refused:
         raise placed(refused, recipe, condition, sheet) from None
-    return Verdict(True) if passed else Verdict(False, why_held(recipe, condition, sheet, load(), tick))
+    if cause is None:
+        return Verdict(True)
+    return Verdict(False, cause, why_held(recipe, condition, sheet, cause, load(), tick))
 
 
 def placed(refused: Refused, recipe: Recipe, condition: Condition, sheet: Sheet) -> Refused:
@@ -136,7 +139,10 @@ def run_choices(
     except Refused as refused:
         raise placed(refused, recipe, condition, sheet) from None
     if not passed:
-        return Run(Verdict(False, why_held(recipe, condition, sheet, library, tick)))
+        verdict = check(recipe, sheet, condition, tick)
+        if verdict.passed:
+            raise Disagreement("the gate holds the sheet before a run, and passes it by itself: one of the two is wrong")
+        return Run(verdict)
     return _ran(Verdict(True), ran, recipe)
 
 

@@ -11,8 +11,9 @@ import ctypes
 import os
 import threading
 from functools import lru_cache
-from typing import Callable, NamedTuple, Tuple
+from typing import Callable, NamedTuple, Optional, Tuple
 
+from .ranges import CAUSES
 from .sizes import CONDITION_ROOM, RECORD_BYTES
 from .trouble import Refused, Trouble, shown
 
@@ -21,7 +22,7 @@ ROOT = os.path.dirname(os.path.dirname(HERE))
 NAME = "libgate.so"
 VARIABLE = "SURVEY_GATE_LIB"
 PLACES = (os.path.join(HERE, NAME), os.path.join(ROOT, "target", "staticlib", NAME))
-HELD = 5
+VERDICT_HELD, END_HELD = 1, 5
 
 
 class Ran(NamedTuple):
@@ -65,9 +66,9 @@ class Library:
             return refused.number
         return 0
 
-    def check(self, condition: bytes, sheet: bytes) -> bool:
-        """Whether the sheet passes under the condition."""
-        return _taken(self._gate.gate_check(condition, len(condition), sheet, len(sheet))) == 0
+    def check(self, condition: bytes, sheet: bytes) -> Optional[str]:
+        """Why the sheet is held under the condition, one of CAUSES; nothing where it passes."""
+        return _cause(_taken(self._gate.gate_check(condition, len(condition), sheet, len(sheet))))
 
     def run(self, recipe: bytes, sheet: bytes, limit: int, choices: bytes, records: int) -> Ran:
         """The run, with room for so many records."""
@@ -88,7 +89,7 @@ class Library:
                 log, len(log), *self._lent(), ctypes.byref(steps), ctypes.byref(written),
             )
         end = _taken(answer)
-        return end != HELD, Ran(end, steps.value, log[: written.value * RECORD_BYTES])
+        return end != END_HELD, Ran(end, steps.value, log[: written.value * RECORD_BYTES])
 
     def _lent(self) -> Tuple[object, int, object, int]:
         """The condition's room and the scratch, as slices."""
@@ -117,6 +118,16 @@ def _taken(answer: int) -> int:
     if answer >> 32:
         raise Refused(answer >> 32)
     return answer
+
+
+def _cause(answer: int) -> Optional[str]:
+    """The cause in an answer of a check, which is 0 for a pass and else 1 plus 256 times the cause's number."""
+    if answer == 0:
+        return None
+    number, verdict = divmod(answer, 256)
+    if verdict != VERDICT_HELD or not 1 <= number <= len(CAUSES):
+        raise Trouble(f"the gate's library answers {answer} to a check, which is no verdict: it is of another version")
+    return CAUSES[number - 1]
 
 
 def _declare(gate: ctypes.CDLL) -> None:

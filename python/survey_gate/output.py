@@ -5,6 +5,7 @@ from __future__ import annotations
 import sys
 from typing import Any, Dict, List, Optional
 
+from .gate import Verdict
 from .refusals import MEANINGS, told
 from .trouble import Mistake, Mistakes, Refused, Trouble, shown
 from .why_held import Hold
@@ -34,10 +35,12 @@ class Output:
         self.answer(f"{shown(name)}: pass{_after(also)}", file=name, verdict="pass", **parts)
         return PASS
 
-    def held(self, name: str, reason: Hold, also: str = "") -> int:
-        """A sheet that is held, with the reason."""
-        text = f"{shown(name)}: held: {reason}{_after(also)}"
-        self.answer(text, file=name, verdict="held", reason=str(reason), **hold_parts(reason), **_noted(also))
+    def held(self, name: str, verdict: Verdict, also: str = "") -> int:
+        """A sheet that is held, with the gate's cause and the reason."""
+        reason = verdict.reason
+        text = f"{shown(name)}: held {verdict.cause}: {reason}{_after(also)}"
+        parts = {"cause": verdict.cause, "reason": str(reason), **hold_parts(reason), **_noted(also)}
+        self.answer(text, file=name, verdict="held", **parts)
         return HELD
 
     def refused(self, name: str, refused: Refused, also: str = "") -> int:
@@ -67,8 +70,8 @@ class Output:
 
 
 def hold_parts(reason: Hold) -> Dict[str, Any]:
-    """The reason of a hold as parts of an object."""
-    parts = {key: value for key, value in vars(reason).items() if key != "readings"}
+    """The reason of a hold as parts of an object; the cause is said beside it."""
+    parts = {key: value for key, value in vars(reason).items() if key not in ("cause", "readings")}
     return {**parts, "readings": [taken._asdict() for taken in reason.readings]}
 
 

@@ -1,9 +1,9 @@
-"""The eight types by their codes, with their widths and ends."""
+"""The eight types by their codes, with their widths and ends, and the causes for which a result is in none."""
 
 from __future__ import annotations
 
 import struct
-from typing import List, Sequence
+from typing import List, Optional, Sequence
 
 TYPES = ("u8", "u16", "u32", "u64", "i8", "i16", "i32", "i64")
 LETTERS = "BHIQbhiq"
@@ -11,6 +11,7 @@ WIDTHS = tuple(1 << (code % 4) for code in range(len(TYPES)))
 FIRST_SIGNED = 4
 LOWEST = tuple(-(1 << (8 * WIDTHS[code] - 1)) if code >= FIRST_SIGNED else 0 for code in range(len(TYPES)))
 HIGHEST = tuple((1 << (8 * WIDTHS[code] - (code >= FIRST_SIGNED))) - 1 for code in range(len(TYPES)))
+CAUSES = TOO_BIG, TOO_SMALL, NO_DIVISOR = "too big", "too small", "no divisor"
 
 
 def width(code: int) -> int:
@@ -36,6 +37,13 @@ def highest(code: int) -> int:
 def fits(code: int, value: int) -> bool:
     """Whether the value is in the type."""
     return LOWEST[code] <= value <= HIGHEST[code]
+
+
+def cause_of(code: int, result: Optional[int]) -> Optional[str]:
+    """Why a result, or none for a zero divisor, is no value of the type: one of CAUSES; nothing where it is one."""
+    if result is None:
+        return NO_DIVISOR
+    return TOO_BIG if result > HIGHEST[code] else TOO_SMALL if result < LOWEST[code] else None
 
 
 def immediate_value(code: int, immediate: int) -> int:

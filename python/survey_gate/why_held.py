@@ -1,7 +1,8 @@
 """Why a sheet is held: the first step that overflows, worked out in whole numbers outside the proved core.
 
-First means: conjuncts in the file's order; combinations of readings with the first atom slowest and the last
-fastest, readings as listed; within a combination the first step in postfix.
+First means what it means for the cause that the gate gives (document 02, Card 2): conjuncts in the file's order;
+combinations of readings with the first atom slowest and the last fastest, readings as listed; within a
+combination the first step in postfix.
 
 The search goes depth first over the atoms. A step is worked as soon as the last of its atoms is chosen, once
 for each choice of the atoms up to there, and the steps of the last atom for all its readings in one go. Before
@@ -9,8 +10,8 @@ it goes deeper it works the rest in ranges, from the lowest reading to the highe
 type, nothing below overflows and all of it is passed over. Ranges may only say that; what overflows is found by
 the plain steps.
 
-A conjunct that passes at the gate by itself is not searched. What is found is put to the gate again: the
-conjunct must hold a sheet with just those readings.
+A conjunct that passes at the gate by itself is not searched. What is found must have the gate's cause, and is
+put to the gate again: the conjunct must hold a sheet with just those readings, for the same cause.
 """
 
 from __future__ import annotations
@@ -18,11 +19,11 @@ from __future__ import annotations
 import operator
 from dataclasses import dataclass
 from itertools import repeat
-from typing import Callable, Dict, List, NamedTuple, Optional, Sequence, Tuple
+from typing import Callable, Dict, List, NamedTuple, Optional, Sequence, Set, Tuple
 
 from .condition import CONSTANT, READING, SIGN, Atom, Condition, Conjunct, infix
 from .library import Library
-from .ranges import TYPES, highest, immediate_value, lowest
+from .ranges import NO_DIVISOR, TOO_BIG, TYPES, cause_of, highest, immediate_value, lowest
 from .recipe import Recipe
 from .sheet import Sheet, packed
 from .statements import Kind
@@ -64,11 +65,12 @@ class Taken(NamedTuple):
 class Hold:
     """Why a sheet is held.
 
-    `conjunct` counts from 0. `left` and `right` are the operands of the step (`right` is None for a
-    conversion), `result` its whole number (None for a zero divisor), `type` its type and `end` the end of that
-    type which the result misses. `expression` is the step in the readings' names.
+    `cause` is one of CAUSES. `conjunct` counts from 0. `left` and `right` are the operands of the step (`right`
+    is None for a conversion), `result` its whole number (None for a zero divisor), `type` its type and `end` the
+    end of that type which the result misses. `expression` is the step in the readings' names.
     """
 
+    cause: str
     conjunct: int
     operation: str
     left: int
@@ -94,9 +96,9 @@ class Hold:
     def misses(self) -> str:
         """The step and the end of its type that it misses."""
         text = self.expression if len(self.expression) <= LONGEST_EXPRESSION else self.step()
-        if self.result is None:
+        if self.cause == NO_DIVISOR:
             return f"{text} divides by zero"
-        side = "above" if self.result > self.end else "below"
+        side = "above" if self.cause == TOO_BIG else "below"
         return f"{text} = {self.result} is {side} {self.type}'s {self.end}"
 
 
@@ -107,30 +109,41 @@ def _line_told(taken: Taken) -> str:
     return f"{taken.atom}: line {taken.line}"
 
 
-def why_held(recipe: Recipe, condition: Condition, sheet: Sheet, library: Library, tick: Tick = lambda work: None) -> Hold:
-    """The first step that overflows; Disagreement where the gate does not agree."""
+def why_held(
+    recipe: Recipe, condition: Condition, sheet: Sheet, cause: str, library: Library, tick: Tick = lambda work: None
+) -> Hold:
+    """The first step that overflows, of a sheet that the gate holds for a cause; Disagreement where the two differ."""
     data = sheet.to_bytes()
     for number, conjunct in enumerate(condition.conjuncts):
-        if library.check(condition.only(number), data):
+        alone = library.check(condition.only(number), data)
+        if alone is None:
             continue
+        _same(cause, f"under conjunct {number} alone", alone)
         picks = Search(conjunct, sheet.columns, tick).first()
         if picks is None:
             told = f"conjunct {number} is held by the gate, and in whole numbers nothing overflows"
             raise Disagreement(f"{told}: one of the two is wrong")
-        _agreed(condition, number, picks, sheet, library)
-        return _hold(recipe, number, conjunct, picks, sheet)
+        hold = _hold(recipe, number, conjunct, picks, sheet)
+        _same(cause, "in whole numbers", hold.cause)
+        again = library.check(condition.only(number), _only(conjunct, picks, sheet))
+        _same(cause, f"under conjunct {number} with just those readings", again)
+        return hold
     raise Disagreement("the gate holds the sheet, and passes it under each conjunct alone")
 
 
-def _agreed(condition: Condition, number: int, picks: Sequence[int], sheet: Sheet, library: Library) -> None:
-    """Disagreement unless the gate holds a sheet that has just these readings under this conjunct."""
-    columns: List[List[int]] = [[] for _ in sheet.columns]
-    for atom, pick in zip(condition.conjuncts[number].atoms, picks):
-        value = sheet.columns[atom.field][pick]
-        if value not in columns[atom.field]:
-            columns[atom.field].append(value)
-    if library.check(condition.only(number), packed(sheet.types, columns)):
-        raise Disagreement(f"conjunct {number} overflows in whole numbers and passes at the gate: one of the two is wrong")
+def _same(cause: str, where: str, found: Optional[str]) -> None:
+    """Disagreement unless what is found is the gate's cause."""
+    if found != cause:
+        other = f"held {found}" if found else "pass"
+        raise Disagreement(f"the gate answers held {cause}, and {where} it is {other}: one of the two is wrong")
+
+
+def _only(conjunct: Conjunct, picks: Sequence[int], sheet: Sheet) -> bytes:
+    """The sheet with just the readings that are picked, as listed, so that the first failure stays the first."""
+    kept: List[Set[int]] = [set() for _ in sheet.columns]
+    for atom, pick in zip(conjunct.atoms, picks):
+        kept[atom.field].add(pick)
+    return packed(sheet.types, [[column[pick] for pick in sorted(picked)] for column, picked in zip(sheet.columns, kept)])
 
 
 # ---- the search
@@ -291,14 +304,15 @@ def _hold(recipe: Recipe, number: int, conjunct: Conjunct, picks: Sequence[int],
             values.append(immediate_value(node.code, node.last))
             continue
         value = result(node.kind, values[left], values[right])
-        low, high = lowest(node.code), highest(node.code)
-        if value is None or not low <= value <= high:
+        cause = cause_of(node.code, value)
+        if cause:
             taken = tuple(_taken(conjunct, place, chosen, shown, recipe, sheet))
             text = infix(conjunct.steps, place, leaves, False)
             converts = node.kind == Kind.CONVERT
+            end = highest(node.code) if cause == TOO_BIG else lowest(node.code)
             return Hold(
-                number, "to" if converts else SIGN[node.kind], values[left], None if converts else values[right], value,
-                TYPES[node.code], None if value is None else high if value > high else low,
+                cause, number, "to" if converts else SIGN[node.kind], values[left], None if converts else values[right],
+                value, TYPES[node.code], None if cause == NO_DIVISOR else end,
                 f"{text} to {TYPES[node.code]}" if converts else text, taken,
             )
         values.append(value)

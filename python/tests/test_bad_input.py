@@ -10,6 +10,10 @@ import unittest
 
 from support import LAUNCHER, SAMPLES, Folder, gate, load
 
+from survey_gate import Trouble
+from survey_gate.library import _cause as cause_in
+from survey_gate.ranges import CAUSES
+
 BLOCK = os.path.join(SAMPLES, "block.txt")
 PASSES = os.path.join(SAMPLES, "passes.csv")
 NOBODY = 65534
@@ -199,6 +203,14 @@ class Libraries(unittest.TestCase):
             )
             self.assertEqual((ran.returncode, ran.stdout, ran.stderr.count("\n")), (3, "", 1), ran.stderr)
             self.assertTrue(ran.stderr.startswith(f"{path}: not the gate's library"))
+
+    def test_an_answer_that_is_no_verdict(self):
+        """As of an older library, whose hold has no cause: it is never taken for a pass, nor for some cause."""
+        for answer in (1, 2, 256, 1 + 256 * 4):
+            with self.assertRaises(Trouble) as raised:
+                cause_in(answer)
+            self.assertIn(f"answers {answer} to a check, which is no verdict", str(raised.exception))
+        self.assertEqual([cause_in(answer) for answer in (0, 257, 513, 769)], [None, *CAUSES])
 
 
 if __name__ == "__main__":

@@ -5,7 +5,7 @@ import os
 import subprocess
 import unittest
 
-from support import LAUNCHER, SAMPLES, Folder, cases, gate
+from support import LAUNCHER, SAMPLES, Folder, cases, gate, is_answer
 
 from filter_cases import beside
 from survey_gate import Condition, Recipe, Refused, Sheet, check, run
@@ -15,6 +15,7 @@ BLOCK = os.path.join(SAMPLES, "block.txt")
 LOOP = os.path.join(SAMPLES, "loop.txt")
 PASSES = os.path.join(SAMPLES, "passes.csv")
 HELD = os.path.join(SAMPLES, "held.csv")
+CLOCK = os.path.join(SAMPLES, "clock.txt")
 BLANK = os.path.join(SAMPLES, "blank.csv")
 NO_READINGS = "refused 15: a field that a conjunct reads has no readings"
 REASON = "channels=3 × (rate=192000 × seconds=3600 × 2) + rate=192000 × seconds=3600 × 2 = 5529600000 is above u32's 4294967295"
@@ -28,8 +29,21 @@ class Statuses(unittest.TestCase):
         status, out, err = gate("check", BLOCK, HELD, PASSES)
         self.assertEqual((status, err), (1, ""))
         held, passes = out.splitlines()
-        self.assertTrue(held.startswith(f"{HELD}: held: {REASON}; channels: line 2, rate: line 3, seconds: line 3; "), held)
+        self.assertTrue(held.startswith(f"{HELD}: held too big: {REASON}; channels: line 2, rate: line 3, seconds: line 3; "), held)
         self.assertEqual(passes, f"{PASSES}: pass")
+
+    def test_1_for_each_cause(self):
+        for table, told in (
+            ("clock-held.csv", "held too big: (recover=3100000 - deploy=-1200) × hour=720 = 2232864000 is above i32's 2147483647; "),
+            ("clock-behind.csv", "held too small: (recover=-3100000 - deploy=-1200) × hour=720 = -2231136000 is below i32's -2147483648; "),
+            ("clock-zero.csv", "held no divisor: (recover=845000 - deploy=-1200) × hour=1 / hours=0 divides by zero; "),
+        ):
+            path = os.path.join(SAMPLES, table)
+            status, out, err = gate("check", CLOCK, path)
+            self.assertEqual((status, err), (1, ""))
+            self.assertTrue(out.startswith(f"{path}: {told}"), out)
+            parts = json.loads(gate("check", "--json", CLOCK, path)[1])
+            self.assertEqual((parts["verdict"], f"held {parts['cause']}"), ("held", told.split(":")[0]))
 
     def test_2_some_refused(self):
         folder = Folder(self)
@@ -56,7 +70,7 @@ class Statuses(unittest.TestCase):
         wrong = folder.put("wrong.csv", "rate,seconds,channels\n1,x,300\n")
         status, out, err = gate("check", BLOCK, HELD, wrong, folder.at("none.csv"), PASSES)
         self.assertEqual(status, 3)
-        self.assertEqual([line.split(": ")[1] for line in out.splitlines()], ["held", "pass"])
+        self.assertEqual([line.split(": ")[1] for line in out.splitlines()], ["held too big", "pass"])
         self.assertEqual([line.split(": ")[0] for line in err.splitlines()], [f"{wrong}:2", f"{wrong}:2", folder.at("none.csv")])
 
     def test_3_usage(self):
@@ -80,7 +94,8 @@ class Forms(unittest.TestCase):
         passes, held, trouble = [json.loads(line) for line in out.splitlines()]
         self.assertEqual(status, 3)
         self.assertEqual(passes, {"file": PASSES, "verdict": "pass"})
-        self.assertEqual((held["file"], held["verdict"], held["conjunct"], held["operation"]), (HELD, "held", 2, "+"))
+        self.assertEqual((held["file"], held["verdict"], held["cause"]), (HELD, "held", "too big"))
+        self.assertEqual((held["conjunct"], held["operation"]), (2, "+"))
         self.assertEqual((held["left"], held["right"], held["result"]), (4147200000, 1382400000, 5529600000))
         self.assertEqual((held["type"], held["end"]), ("u32", 4294967295))
         self.assertEqual(held["readings"][1], {"atom": "rate", "field": "rate", "value": 192000, "number": 2, "of": 2, "line": 3})
@@ -157,7 +172,7 @@ class Blank(unittest.TestCase):
         head = "field f u8\nfield g u8\nvar a u8\nvar b u8\nvar s u8\na = read g\nsite a\n"
         recipe = self.folder.put("r.txt", head + "b = read f\ns = s + b\n" * 3 + "site s\n")
         place = "the column g is blank, and conjunct 0 reads g"
-        for rows, filled in ((128, "refused 14"), (1, "held")):
+        for rows, filled in ((128, "refused 14"), (1, "held too big")):
             blank = self.folder.put("blank.csv", "f,g\n" + "200,\n" * rows)
             self.assertEqual(gate("check", recipe, blank), (2, f"{blank}: {NO_READINGS}: {place}\n", ""))
             sheet = self.folder.put("filled.csv", "f,g\n200,1\n" + "200,\n" * (rows - 1))
@@ -166,8 +181,11 @@ class Blank(unittest.TestCase):
 
 def answer(condition, sheet):
     """The gate's answer as the vectors have it."""
-    number = load().answer(lambda library: library.check(condition, sheet))
-    return f"refused {number}" if number else "pass" if load().check(condition, sheet) else "held"
+    try:
+        cause = load().check(condition, sheet)
+    except Refused as refused:
+        return f"refused {refused.number}"
+    return f"held {cause}" if cause else "pass"
 
 
 class Library(unittest.TestCase):
@@ -179,18 +197,20 @@ class Library(unittest.TestCase):
             recipe = Recipe.from_bytes(case.content("recipe"))
             sheet = Sheet.from_bytes(case.content("sheet"), recipe)
             try:
-                told = "pass" if check(recipe, sheet).passed else "held"
+                verdict = check(recipe, sheet)
+                told = "pass" if verdict.passed else f"held {verdict.cause}"
             except Refused as refused:
                 told = f"refused {refused.number}"
                 self.assertTrue(refused.place, case)
-            self.assertEqual(told, case.derived, case)
+            self.assertTrue(is_answer(case.derived, told), (case, told))
             seen.add(told)
-        self.assertEqual(seen, {"pass", "held", "refused 14", "refused 15"})
+        self.assertEqual(seen, {"pass", "held too big", "held too small", "held no divisor", "refused 14", "refused 15"})
 
     def test_stored_verdicts_on_other_conditions(self):
         for case in cases():
             if case.made_up:
-                self.assertEqual(answer(case.content("condition"), case.content("sheet")), case.made_up, case)
+                told = answer(case.content("condition"), case.content("sheet"))
+                self.assertTrue(is_answer(case.made_up, told), (case, told))
 
     def test_the_cases_beside_the_vectors(self):
         for one in beside():
@@ -206,7 +226,7 @@ class Library(unittest.TestCase):
         self.assertEqual([(r.label, r.variable, r.value, r.overflowed) for r in ran.records],
                          [(6, "bytes", 23040000, False), (18, "last", 207360000, False)])
         held = run(recipe, Sheet.read(HELD, recipe), choices=[1, 1, 0, 1, 1, 1])
-        self.assertFalse(held.verdict.passed)
+        self.assertEqual((held.verdict.passed, held.verdict.cause), (False, "too big"))
         self.assertEqual((held.end, held.records), (None, ()))
 
 

@@ -8,7 +8,7 @@ import unittest
 
 from support import ROOT, Folder, cases, load
 
-from survey_gate import Condition, Recipe
+from survey_gate import Condition, Recipe, Sheet, check
 from survey_gate.library import load as library
 
 
@@ -90,6 +90,46 @@ class Mends(unittest.TestCase):
         head = "field f u8\nvar n u8\nvar one u8\nvar n32 u32\nvar x u32\nvar s u32\none = 1\ns = 5\nn = read f\n"
         self.assertEqual(self.answer(head + "while n\nx = x + s\nn = n - one\nend\nsite x\n"), 11)
         self.assertEqual(self.answer(head + "n32 = to n\nx = n32 * s\nsite x\n"), "conjuncts 1")
+
+
+class WaysOut(unittest.TestCase):
+    """The ways out of each cause of a hold, as REFUSALS.md names them."""
+
+    def answer(self, lines, table, *, of="u8", in_type="u8"):
+        """The gate's answer on a, b and c, read from fields of one type and worked in another."""
+        fields, reads = "".join(f"field {name} {of}\nvar {name}0 {of}\n" for name in "fgh"), ""
+        for name, field in zip("abc", "fgh"):
+            reads += f"var {name} {in_type}\n{field}0 = read {field}\n{name} = to {field}0\n"
+        recipe = Recipe.from_text(fields + reads + lines + "site a\n")
+        verdict = check(recipe, Sheet.from_csv("f,g,h\n" + table, recipe))
+        return "pass" if verdict.passed else f"held {verdict.cause}"
+
+    def test_too_big(self):
+        product = "a = a * b\n"
+        self.assertEqual(self.answer(product, "16,16,0\n"), "held too big")
+        self.assertEqual(self.answer(product, "16,15,0\n"), "pass")
+        self.assertEqual(self.answer(product, "16,16,0\n", in_type="u16"), "pass")
+
+    def test_too_small(self):
+        difference, product = "a = a - b\n", "a = a * b\n"
+        self.assertEqual(self.answer(difference, "3,5,0\n"), "held too small")
+        self.assertEqual(self.answer(difference, "5,3,0\n"), "pass")
+        self.assertEqual(self.answer(difference, "3,5,0\n", in_type="u64"), "held too small")
+        self.assertEqual(self.answer(difference, "3,5,0\n", in_type="i16"), "pass")
+        self.assertEqual(self.answer(product, "-100,2,0\n", of="i8", in_type="i8"), "held too small")
+        self.assertEqual(self.answer(product, "-100,2,0\n", of="i8", in_type="i16"), "pass")
+
+    def test_no_divisor(self):
+        quotient, by_difference = "a = a / b\n", "b = b - c\na = a / b\n"
+        for lines, zero, other in ((quotient, "3,0,0\n", "3,1,0\n"), (by_difference, "3,7,7\n", "3,7,6\n")):
+            for in_type in ("u8", "u64", "i64"):
+                self.assertEqual(self.answer(lines, zero, in_type=in_type), "held no divisor")
+                self.assertEqual(self.answer(lines, other, in_type=in_type), "pass")
+
+    def test_another_cause_behind_the_first(self):
+        lines = "b = a - b\na = a * a\na = b + a\n"
+        answers = [self.answer(lines, table) for table in ("20,30,0\n", "20,10,0\n", "15,10,0\n")]
+        self.assertEqual(answers, ["held too small", "held too big", "pass"])
 
 
 class Cases(unittest.TestCase):

@@ -81,6 +81,7 @@ class Runs(unittest.TestCase):
         log = folder.at("a.log")
         status, out, _ = gate("run", BLOCK, HELD, log, *TAKE)
         self.assertEqual((status, folder.names()), (1, []))
+        self.assertTrue(out.startswith(f"{HELD}: held too big: "), out)
         gate("run", BLOCK, PASSES, log, *TAKE)
         older = load(log)
         for aside in ("a.log.old", "a.log.old2"):
@@ -127,7 +128,8 @@ class Runs(unittest.TestCase):
         folder = Folder(self)
         log = folder.put("a.log", b"")
         parts = json.loads(gate("run", "--json", BLOCK, HELD, log, *TAKE)[1])
-        self.assertEqual((parts["verdict"], parts["note"]), ("held", f"the older {log} is now {log}.old"))
+        told = ("held", "too big", f"the older {log} is now {log}.old")
+        self.assertEqual((parts["verdict"], parts["cause"], parts["note"]), told)
 
 
 class Outputs(unittest.TestCase):

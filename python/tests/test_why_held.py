@@ -1,4 +1,4 @@
-"""Why held: the first failure, beside an evaluation of every combination in order; agreement with the gate."""
+"""Why held: the first failure and its cause, beside an evaluation of every combination in order; agreement with the gate."""
 
 import itertools
 import random
@@ -6,12 +6,12 @@ import time
 import unittest
 from unittest import mock
 
-from support import Folder, cases, gate
+from support import Folder, cases, gate, is_answer
 
 from survey_gate import Condition, Recipe, Sheet, Trouble, check
 from survey_gate.condition import READING, Atom, Conjunct, Node
 from survey_gate.library import load
-from survey_gate.ranges import fits, highest, immediate_value, lowest
+from survey_gate.ranges import CAUSES, NO_DIVISOR, TOO_BIG, TOO_SMALL, cause_of, highest, immediate_value, lowest
 from survey_gate.statements import Kind
 from survey_gate.why_held import Search, quotient, result, why_held
 
@@ -21,10 +21,10 @@ BLOCK = "field rate u32\nfield seconds u16\nvar r u32\nvar s u16\nvar t u32\nvar
 
 
 def every_combination(conjunct, columns):
-    """The first combination that fails, by trying them all in order; and the place of its first failing step."""
+    """The first combination that fails, by trying them all in order; and the cause of its first failing step."""
     for picks in itertools.product(*[range(len(columns[atom.field])) for atom in conjunct.atoms]):
         chosen, values = dict(zip(conjunct.atoms, picks)), []
-        for place, (node, left, right) in enumerate(conjunct.steps):
+        for node, left, right in conjunct.steps:
             if node.kind == READING:
                 atom = Atom(node.field, node.last)
                 values.append(columns[atom.field][chosen[atom]])
@@ -32,22 +32,23 @@ def every_combination(conjunct, columns):
                 values.append(immediate_value(node.code, node.last))
             else:
                 value = result(node.kind, values[left], values[right])
-                if value is None or not fits(node.code, value):
-                    return list(picks), place
+                if cause_of(node.code, value):
+                    return list(picks), cause_of(node.code, value)
                 values.append(value)
-    return None, -1
+    return None, None
 
 
 class First(unittest.TestCase):
     def same(self, conjunct, columns, case=""):
-        found = Search(conjunct, columns, lambda work: None).first()
-        self.assertEqual(found, every_combination(conjunct, columns)[0], case)
-        return found
+        """The cause of the first failure, if there is one; the search must find its readings."""
+        picks, cause = every_combination(conjunct, columns)
+        self.assertEqual(Search(conjunct, columns, lambda work: None).first(), picks, case)
+        return cause
 
     def test_stored_conditions(self):
-        held = 0
+        seen = []
         for case in cases():
-            if case.derived not in ("pass", "held"):
+            if case.derived != "pass" and not case.derived.startswith("held"):
                 continue
             recipe = Recipe.from_bytes(case.content("recipe"))
             condition = Condition.from_bytes(case.content("derived"))
@@ -55,16 +56,18 @@ class First(unittest.TestCase):
             if condition.work(sheet.columns) > 200_000:
                 continue
             found = [self.same(conjunct, sheet.columns, case) for conjunct in condition.conjuncts]
-            self.assertEqual(any(picks is not None for picks in found), case.derived == "held", case)
-            if case.derived == "held":
-                held += 1
-                hold = why_held(recipe, condition, sheet, load())
-                self.assertEqual(hold.conjunct, next(k for k, picks in enumerate(found) if picks is not None))
-        self.assertGreater(held, 5)
+            number, cause = next(((k, cause) for k, cause in enumerate(found) if cause), (None, None))
+            self.assertTrue(is_answer(case.derived, f"held {cause}" if cause else "pass"), case)
+            if cause:
+                hold = why_held(recipe, condition, sheet, cause, load())
+                self.assertEqual((hold.conjunct, hold.cause), (number, cause), case)
+                seen.append(cause)
+        self.assertEqual(set(seen), set(CAUSES))
+        self.assertGreater(len(seen), 20)
 
     def test_random_conjuncts(self):
         rng = random.Random(15)
-        failing = 0
+        failing = dict.fromkeys((None, *CAUSES), 0)
         for _ in range(600):
             code = rng.choice([0, 2, 4, 6, 7])
             nodes, last, depth = [], [0, 0], 0
@@ -80,8 +83,8 @@ class First(unittest.TestCase):
                     depth -= 1
             edges = [0, 1, 2, 3, lowest(code), highest(code), highest(code) // 2, highest(code) // 3]
             columns = [[rng.choice(edges) for _ in range(rng.randint(1, 4))] for _ in range(2)]
-            failing += self.same(Conjunct(nodes), columns) is not None
-        self.assertGreater(failing, 100)
+            failing[self.same(Conjunct(nodes), columns)] += 1
+        self.assertGreater(min(failing.values()), 50)
 
     def test_division_drops_the_fraction_toward_zero(self):
         self.assertEqual([quotient(*pair) for pair in ((7, 2), (-7, 2), (7, -2), (-7, -2))], [3, -3, -3, 3])
@@ -97,10 +100,10 @@ class First(unittest.TestCase):
 
 
 class Told(unittest.TestCase):
-    def hold(self, text, table):
+    def hold(self, text, table, cause=TOO_BIG):
         recipe = Recipe.from_text(text)
         verdict = check(recipe, Sheet.from_csv(table, recipe))
-        self.assertFalse(verdict.passed)
+        self.assertEqual((verdict.passed, verdict.cause, verdict.reason.cause), (False, cause, cause))
         return verdict.reason
 
     def test_the_step_its_values_and_the_lines_of_its_readings(self):
@@ -124,17 +127,19 @@ class Told(unittest.TestCase):
 
     def test_below_the_type(self):
         text = "field f u8\nfield g u8\nvar a u8\nvar b u8\na = read f\nb = read g\na = a - b\nsite a\n"
-        self.assertIn("f=3 - g=5 = -2 is below u8's 0; f: line 2, g: line 3;", str(self.hold(text, "f,g\n3,1\n,5\n")))
+        reason = self.hold(text, "f,g\n3,1\n,5\n", TOO_SMALL)
+        self.assertIn("f=3 - g=5 = -2 is below u8's 0; f: line 2, g: line 3;", str(reason))
 
     def test_a_zero_divisor(self):
         text = "field f u8\nfield g u8\nvar a u8\nvar b u8\na = read f\nb = read g\na = a / b\nsite a\n"
-        reason = self.hold(text, "f,g\n3,0\n")
+        reason = self.hold(text, "f,g\n3,0\n", NO_DIVISOR)
         self.assertIn("f=3 / g=0 divides by zero; f: line 2, g: line 2", str(reason))
         self.assertEqual((reason.result, reason.end), (None, None))
 
     def test_a_conversion(self):
         text = "field f i32\nvar a i32\nvar b u32\na = read f\nb = to a\nsite b\n"
-        self.assertIn("f=-1 to u32 = -1 is below u32's 0; f: line 3; conjunct 0 at -1 to u32", str(self.hold(text, "f\n1\n-1\n")))
+        reason = self.hold(text, "f\n1\n-1\n", TOO_SMALL)
+        self.assertIn("f=-1 to u32 = -1 is below u32's 0; f: line 3; conjunct 0 at -1 to u32", str(reason))
 
     def test_two_reads_of_a_field(self):
         text = "field f u8\nvar a u8\nvar b u8\na = read f\nb = read f\na = a * b\nsite a\n"
@@ -148,6 +153,20 @@ class Told(unittest.TestCase):
     def test_the_first_step_in_postfix_is_told(self):
         text = "field f u8\nfield g u8\nvar a u8\nvar b u8\nvar c u8\na = read f\nb = read g\nc = b + b\na = a + a\nc = c + a\nsite c\n"
         self.assertIn("g=200 + g=200 = 400", str(self.hold(text, "f,g\n200,200\n")))
+
+    def test_an_earlier_combination_comes_before_an_earlier_step(self):
+        head = "field f u8\nfield g u8\nvar a u8\nvar b u8\nvar c u8\na = read f\nb = read g\n"
+        text = head + "a = a - b\nc = b * b\na = a + c\nsite a\n"
+        self.assertIn("g=16 × g=16 = 256", str(self.hold(text, "f,g\n20,16\n,30\n")))
+        self.assertIn("f=20 - g=30 = -10", str(self.hold(text, "f,g\n20,30\n,16\n", TOO_SMALL)))
+
+    def test_two_readings_of_a_field_are_put_to_the_gate_as_listed(self):
+        """20 and 1 fail at the difference. With 20 listed before 1, 20 and 20 would come first, and fail at the product."""
+        head = "field f u8\nvar a u8\nvar b u8\nvar c u8\nvar d u8\nvar t u8\na = read f\nb = read f\n"
+        text = head + "d = a * b\nt = 10\nc = b + t\nc = c - a\nc = d + c\nsite c\n"
+        reason = self.hold(text, "f\n1\n20\n", TOO_SMALL)
+        self.assertIn("f<2>=1 + 10 - f<1>=20 = -9 is below u8's 0; f<1>: line 3, f<2>: line 2;", str(reason))
+        self.assertIn("f<1>=20 × f<2>=20 = 400", str(self.hold(text, "f\n20\n1\n")))
 
     def test_a_long_expression_gives_way_to_its_values(self):
         lines = "".join("x = x + y\n" for _ in range(20))
@@ -171,7 +190,7 @@ class Disagreement(unittest.TestCase):
 
     def trouble(self, table, *answers):
         with self.assertRaises(Trouble) as raised:
-            why_held(self.recipe, self.condition, Sheet.from_csv(table, self.recipe), self.Lying(*answers))
+            why_held(self.recipe, self.condition, Sheet.from_csv(table, self.recipe), TOO_BIG, self.Lying(*answers))
         return str(raised.exception)
 
     def test_the_command_names_the_sheet_and_gives_status_3(self):
@@ -185,9 +204,32 @@ class Disagreement(unittest.TestCase):
                 self.assertEqual(err, f"{sheet}: {told}\n")
 
     def test_disagreement_is_trouble(self):
-        self.assertIn("in whole numbers nothing overflows", self.trouble("rate,seconds\n1,1\n", False))
-        self.assertIn("passes at the gate", self.trouble("rate,seconds\n4000000000,2\n", False, True))
-        self.assertIn("under each conjunct alone", self.trouble("rate,seconds\n4000000000,2\n", True))
+        small, large = "rate,seconds\n1,1\n", "rate,seconds\n4000000000,2\n"
+        self.assertIn("in whole numbers nothing overflows", self.trouble(small, TOO_BIG))
+        self.assertIn("under each conjunct alone", self.trouble(large, None))
+
+    def test_another_cause_is_trouble(self):
+        large = "rate,seconds\n4000000000,2\n"
+        for answers, other in (
+            ((TOO_SMALL,), "under conjunct 0 alone it is held too small"),
+            ((TOO_BIG, None), "under conjunct 0 with just those readings it is pass"),
+            ((TOO_BIG, NO_DIVISOR), "under conjunct 0 with just those readings it is held no divisor"),
+        ):
+            told = f"the gate answers held too big, and {other}: one of the two is wrong"
+            self.assertEqual(self.trouble(large, *answers), told)
+        sheet = Sheet.from_csv(large, self.recipe)
+        with self.assertRaises(Trouble) as raised:
+            why_held(self.recipe, self.condition, sheet, NO_DIVISOR, self.Lying(NO_DIVISOR))
+        told = "the gate answers held no divisor, and in whole numbers it is held too big: one of the two is wrong"
+        self.assertEqual(str(raised.exception), told)
+
+    def test_a_run_that_is_held_and_a_check_that_passes_are_trouble(self):
+        folder = Folder(self)
+        recipe, sheet = folder.put("r.txt", BLOCK), folder.put("s.csv", "rate,seconds\n4000000000,2\n")
+        with mock.patch("survey_gate.library.Library.check", return_value=None):
+            status, out, err = gate("run", recipe, sheet, folder.at("log"))
+        told = "the gate holds the sheet before a run, and passes it by itself: one of the two is wrong"
+        self.assertEqual((status, out, err), (3, "", f"{sheet}: {told}\n"))
 
 
 if __name__ == "__main__":

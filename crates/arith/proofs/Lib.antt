@@ -8,3 +8,4 @@ pub mod Halves
 pub mod WrapLaws
 pub mod WordLaws
 pub mod StepLaws
+pub mod Causes

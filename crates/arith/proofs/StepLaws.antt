@@ -10,13 +10,13 @@ use borrow.Author.Tests.{not-false}
 use lib.IntN.{ℤ, pos, negsuc, natAbs}
 use Rattle.arith.specs.declared.Op.{Op}
 use Rattle.arith.specs.declared.Op.the-variants.{Div}
-use Rattle.arith.specs.Step.{value, overflow, passes, fits, exactOf, lacksDivisor, stepOf, wrap, overflows}
+use Rattle.arith.specs.Step.{value, overflow, passes, fits, exactOf, lacksDivisor, causeOf, stepOf, wrap, overflows}
 use Rattle.arith.proofs.WrapLaws.{fits-wrap}
 
 pub step-passes : (o : Op) (t : ℕ) (a b : ℤ) → passes (stepOf o t a b) ≡ not (overflows o t a b)
 step-passes o t a b = go (overflows o t a b)
   where
-    go : (l : Bool) → passes (cond l overflow (value (exactOf o a b))) ≡ not l
+    go : (l : Bool) → passes (cond l (overflow (causeOf o t a b)) (value (exactOf o a b))) ≡ not l
     go true = refl
     go false = refl
 

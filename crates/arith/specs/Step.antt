@@ -7,6 +7,8 @@ use lib.IntN.{ℤ, pos, negsuc, _+ℤ_, _-ℤ_, _*ℤ_, natAbs}
 use lib.Signed.{leZ, quotZ}
 use Rattle.arith.specs.declared.Op.{Op}
 use Rattle.arith.specs.declared.Op.the-variants.{Add, Sub, Mul, Div, Convert}
+use Rattle.arith.specs.declared.Cause.{Cause}
+use Rattle.arith.specs.declared.Cause.the-variants.{Above, Below, NoDivisor}
 use Rattle.arith.specs.declared.Step.{Step}
 use Rattle.arith.specs.declared.Step.the-variants.{Value, Overflow}
 use Rattle.arith.specs.Types.{bits, lowest, highest}
@@ -40,23 +42,27 @@ fits t z = leZ (lowest t) z && leZ z (highest t)
 abbrev pub overflows : Op → ℕ → ℤ → ℤ → Bool
 overflows o t a b = lacksDivisor o b || not (fits t (exactOf o a b))
 
--- what comes of a step: its value, or that it overflows
+-- why it does: there is no divisor, or the result is above the type's range, or below it
+abbrev pub causeOf : Op → ℕ → ℤ → ℤ → Cause
+causeOf o t a b = cond (lacksDivisor o b) NoDivisor (cond (leZ (lowest t) (exactOf o a b)) Above Below)
+
+-- what comes of a step: its value, or why it overflows
 pub data Outcome : Type 0 where
   value : ℤ → Outcome
-  overflow : Outcome
+  overflow : Cause → Outcome
 
 -- it has a value
 abbrev pub passes : Outcome → Bool
 passes (value z) = true
-passes overflow = false
+passes (overflow c) = false
 
 abbrev pub stepOf : Op → ℕ → ℤ → ℤ → Outcome
-stepOf o t a b = cond (overflows o t a b) overflow (value (exactOf o a b))
+stepOf o t a b = cond (overflows o t a b) (overflow (causeOf o t a b)) (value (exactOf o a b))
 
 -- the outcome that the code's answer stands for
 abbrev pub outcomeOf : Step → Outcome
 outcomeOf (Value n) = value (valueOf n)
-outcomeOf Overflow = overflow
+outcomeOf (Overflow c) = overflow c
 
 -- the remainder of z by m, from 0 to m - 1
 abbrev pub residue : ℕ → ℤ → ℕ

@@ -1,11 +1,13 @@
-// One step of arithmetic on the eight integer types, in whole numbers: its value, or that it
+// One step of arithmetic on the eight integer types, in whole numbers: its value, or why it
 // overflows; and wrapped to the type, with whether it overflowed. Assumes nothing.
 ghost use mathlib.Core.Path.{_≡_};
-ghost use mathlib.Core.Bool.{Bool, not, _||_};
+ghost use mathlib.Core.Bool.{Bool, true, not, cond, _||_};
 ghost use Prim.Native.Nat.{ℕ, _+_, _*_, _%_, _^_, _<_};
 ghost use lib.Dec.{leb};
 ghost use lib.IntN.{ℤ, pos};
-ghost use Rattle.arith.specs.Types.{Row, IsRow, bits, limitOf};
+ghost use lib.Signed.{leZ};
+ghost use Rattle.arith.specs.declared.Cause.the-variants.{Above, Below, NoDivisor};
+ghost use Rattle.arith.specs.Types.{Row, IsRow, bits, lowest, limitOf};
 ghost use Rattle.arith.specs.Whole.{valueOf, Holds};
 ghost use Rattle.arith.specs.Words.{wordOf, valueAt, immediate};
 ghost use Rattle.arith.specs.Step.{opOf, exactOf, lacksDivisor, fits, stepOf, outcomeOf, wrap, overflows};
@@ -39,10 +41,17 @@ pub enum Op {
     Convert,
 }
 
-// What comes of a step: its value, or that it overflows in the type.
+// Why a step overflows in its type: the result is above the type's range, below it, or there is no divisor.
+pub enum Cause {
+    Above,
+    Below,
+    NoDivisor,
+}
+
+// What comes of a step: its value, or why it overflows in the type.
 pub enum Step {
     Value(Num),
-    Overflow,
+    Overflow(Cause),
 }
 
 // The word of a step's result wrapped to the type, and whether the step overflowed.
@@ -287,14 +296,28 @@ fn overflowed(op: Op, range: Range, b: Num, w: Whole) -> bool
     !within(w, l)
 }
 
-// One step in whole numbers, on values that need not be of the type: its value, or that it
+// Why a step with the exact result w overflows: without a divisor, or on the side of 0 where w is.
+fn cause_of(op: Op, b: Num, w: Whole) -> Cause
+    ensures { λ c. ⌜ ((ty : ℕ) (z : ℤ) → Holds w z → (lacksDivisor op (valueOf b) || not (fits ty z)) ≡ true
+        → c ≡ cond (lacksDivisor op (valueOf b)) NoDivisor (cond (leZ (lowest ty) z) Above Below)) ⌝ }
+{
+    if lacks(op, b) {
+        return Cause::NoDivisor;
+    }
+    if w.neg {
+        return Cause::Below;
+    }
+    Cause::Above
+}
+
+// One step in whole numbers, on values that need not be of the type: its value, or why it
 // overflows in the type.
 pub fn checked_step(op: Op, range: Range, a: Num, b: Num) -> Step
     ensures { λ s. ⌜ ((ty : ℕ) → Row ty range → outcomeOf s ≡ stepOf op ty (valueOf a) (valueOf b)) ⌝ }
 {
     let w = exact(op, a, b);
     if overflowed(op, range, b, w) {
-        return Step::Overflow;
+        return Step::Overflow(cause_of(op, b, w));
     }
     Step::Value(Num {
         neg: w.neg,

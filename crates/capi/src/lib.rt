@@ -3,14 +3,16 @@
 // refusal's number times 2^32, or what the operation gives. specs/Words.antt says what each word
 // stands for. Assumes nothing.
 ghost use mathlib.Core.Path.{_≡_};
-ghost use Prim.Native.Nat.{_*_};
+ghost use Prim.Native.Nat.{_*_, _≤_};
 ghost use lib.ListN.{length};
-ghost use Rattle.model.specs.Filter.{filterInput};
+ghost use Rattle.model.specs.Refusals.{mapped};
+ghost use Rattle.model.specs.Failure.{causeNumber, verdictNumber, verdict};
 ghost use Rattle.analysis.specs.Deriving.{analysisWords, derivation};
 ghost use Rattle.interpreter.specs.Answers.{runLent};
 ghost use Rattle.guard.specs.Answers.{guarding};
 ghost use Rattle.capi.specs.Words.{refusalUnit, answerWord, GateDerive, GateRun, GateGuarded};
 use analysis::Derived;
+use arith::Cause;
 use filter::Verdict;
 use guard::Guarded;
 use interpreter::Ran;
@@ -45,16 +47,27 @@ pub extern "C" fn gate_derive(recipe: &[u8], condition: &mut [u8], scratch: &mut
     }
 }
 
-// The verdict on a sheet: 0 pass, 1 held.
+// The number of a cause: 1 too big, 2 too small, 3 no divisor.
+fn cause_number(cause: Cause) -> u64
+    ensures { λ r. ⌜ (r ≡ causeNumber cause) × (r ≤ 3) ⌝ }
+{
+    match cause {
+        Cause::Above => 1,
+        Cause::Below => 2,
+        Cause::NoDivisor => 3,
+    }
+}
+
+// The verdict on a sheet: 0 pass; 1 held, and 256 times the number of its cause.
 #[no_mangle]
 pub extern "C" fn gate_check(condition: &[u8], sheet: &[u8]) -> u64
-    ensures { λ r. ⌜ r ≡ answerWord (filterInput (now (condition .entry)) (now (sheet .entry))) ⌝ }
+    ensures { λ r. ⌜ r ≡ answerWord (mapped verdictNumber (verdict (now (condition .entry)) (now (sheet .entry)))) ⌝ }
 {
     let v = filter::check(condition, sheet);
     match v {
         Verdict::Refused(n) => refusal(n),
         Verdict::Pass => 0,
-        Verdict::Held => 1,
+        Verdict::Held(cause) => 1 + 256 * cause_number(cause),
     }
 }
 

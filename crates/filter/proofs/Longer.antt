@@ -19,7 +19,7 @@ use Rattle.model.specs.Refusals.{Out, ok, refused, _>>=_, check, wrongCondition
 use Rattle.model.specs.Bytes.{u32At, part, Pair, pairAt, pairsAt, chained}
 use Rattle.model.specs.Condition.{Condition, conjunctsAt, readCondition}
 use Rattle.model.specs.Input.{Input, width, readingsOf, lengthsRight, readInput}
-use Rattle.model.specs.Filter.{filterInput}
+use Rattle.model.specs.Failure.{verdict}
 use Rattle.model.proofs.Tests.{case, and-left, and-right}
 use Rattle.model.proofs.Results.{check-ok}
 use Rattle.model.proofs.Every.{every-all}
@@ -28,7 +28,7 @@ use Rattle.condition.specs.Answers.{pairRight, typesOf, conjunctsOf}
 use Rattle.condition.proofs.Table.{formBy, form-chained, form-pairs, pair-short, read-form, condition-read, table-inside}
 use Rattle.filter.specs.Verdict.{judged}
 use Rattle.filter.proofs.Conjuncts.{form-few, form-narrow}
-use Rattle.filter.proofs.Verdicts.{filter-steps}
+use Rattle.filter.proofs.Verdicts.{verdict-steps}
 
 -- ---- parts of a bounded length, one after the other
 
@@ -104,17 +104,17 @@ input-shortened types s few =
     let l = leb-false (length s) 33024 q in
     input-long types (take 33025 s) few (omega (arith, length-take-le 33025 s (omega arith))) ∙ sym (input-long types s few l))
 
-on-input : (c s : List ℕ) (o : Out Condition) → readCondition c ≡ o → filterInput c (take 33025 s) ≡ filterInput c s
-on-input c s (refused n) e = filter-steps c (take 33025 s) ∙ rw e (sym (filter-steps c s ∙ rw e))
+on-input : (c s : List ℕ) (o : Out Condition) → readCondition c ≡ o → verdict c (take 33025 s) ≡ verdict c s
+on-input c s (refused n) e = verdict-steps c (take 33025 s) ∙ rw e (sym (verdict-steps c s ∙ rw e))
 on-input c s (ok C) e =
-    filter-steps c (take 33025 s)
-    ∙ rw e (ap (λ (i : Out Input). i >>= λ I. judged I (C .conjuncts)) (input-shortened (C .types) s (fields-few c C e)) ∙ sym (filter-steps c s ∙ rw e))
+    verdict-steps c (take 33025 s)
+    ∙ rw e (ap (λ (i : Out Input). i >>= λ I. judged I (C .conjuncts)) (input-shortened (C .types) s (fields-few c C e)) ∙ sym (verdict-steps c s ∙ rw e))
 
-pub shortened : (c s : List ℕ) → filterInput (take 61993 c) (take 33025 s) ≡ filterInput c s
+pub shortened : (c s : List ℕ) → verdict (take 61993 c) (take 33025 s) ≡ verdict c s
 shortened c s =
-    case (leb (length c) 61992) (λ z. filterInput (take 61993 c) (take 33025 s) ≡ filterInput c s)
-    (λ q. ap (λ (d : List ℕ). filterInput d (take 33025 s)) (take-all 61993 c (omega (arith, leb-true (length c) 61992 q))) ∙ on-input c s (readCondition c) refl)
+    case (leb (length c) 61992) (λ z. verdict (take 61993 c) (take 33025 s) ≡ verdict c s)
+    (λ q. ap (λ (d : List ℕ). verdict d (take 33025 s)) (take-all 61993 c (omega (arith, leb-true (length c) 61992 q))) ∙ on-input c s (readCondition c) refl)
     (λ q.
     let l = leb-false (length c) 61992 q in
-    filter-steps (take 61993 c) (take 33025 s)
-    ∙ rw (condition-long (take 61993 c) (omega (arith, length-take-le 61993 c (omega arith)))) (sym (filter-steps c s ∙ rw (condition-long c l))))
+    verdict-steps (take 61993 c) (take 33025 s)
+    ∙ rw (condition-long (take 61993 c) (omega (arith, length-take-le 61993 c (omega arith)))) (sym (verdict-steps c s ∙ rw (condition-long c l))))

@@ -1,18 +1,20 @@
 -- The filter step by step: where it refuses, and what it answers of a condition and an input that are read.
 -- Assumes nothing.
 use mathlib.Core.Path.{_≡_, refl, sym, ap, ap₂, _∙_}
-use mathlib.Core.Bool.{Bool, true, _&&_, cond}
+use mathlib.Core.Bool.{true, _&&_, cond}
 use mathlib.Core.List.{List, [], _∷_}
 use Prim.Native.Nat.{ℕ, _*_}
 use lib.Dec.{ltb}
 use lib.ListN.{length, getD}
+use Rattle.arith.specs.declared.Cause.{Cause}
 use Rattle.model.specs.Lists.{All, every}
 use Rattle.model.specs.Refusals.{Out, ok, refused, _>>=_, mapped, wrongInput}
 use Rattle.model.specs.Bytes.{pairAt, pairsAt, chained}
 use Rattle.model.specs.Conjunct.{Conjuncts}
 use Rattle.model.specs.Condition.{Condition, readCondition}
 use Rattle.model.specs.Input.{Input, readingsOf, lengthsRight, readInput}
-use Rattle.model.specs.Filter.{holds, hasReadings, passNumber, heldNumber, filterInput}
+use Rattle.model.specs.Filter.{hasReadings}
+use Rattle.model.specs.Failure.{Found, first, failureIn, verdict}
 use Rattle.model.proofs.Results.{ok-eq, refused-ok, check-ok, mapped-ok}
 use Rattle.model.proofs.Tests.{and-left, and-right}
 use Rattle.input.specs.Answers.{InputIsRead}
@@ -37,9 +39,9 @@ module _ (I : Input) (S : Conjuncts) where
   judged-too-many h = rw (h .0, h .1)
 
   -- where they are within the limit, the evaluations decide
-  pub judged-within : Told Within I S → (b : Bool) → every (holds I) S ≡ b → judged I S ≡ ok (cond b passNumber heldNumber)
+  pub judged-within : Told Within I S → (a : Found Cause) → a ≡ first (failureIn I) S → ok a ≡ judged I S
   unfolding judged
-  judged-within h b k = rw (h .0, h .1, k)
+  judged-within h a k = rw (h .0, h .1, k)
 
 -- where no field that is read is blank, every conjunct can be evaluated
 pub none-blank : (counts : List ℕ) (S : Conjuncts) → ((I : Input) → Counted I counts → every (hasReadings I) S ≡ true) → All (NoneBlank counts) S
@@ -66,28 +68,28 @@ input-is types s I e =
     sym (ok-eq J I (check-ok (chained (8 * length types) ps (length s) && lengthsRight types ps) wrongInput (ok J) I e .1))
 
 module _ (s t : List ℕ) where
-  abbrev pub onInput : List ℕ → Conjuncts → Out ℕ
+  abbrev pub onInput : List ℕ → Conjuncts → Out (Found Cause)
   onInput types S = readInput types t >>= λ I. judged I S
 
-  pub filter-steps : filterInput s t ≡ (readCondition s >>= λ C. onInput (C .types) (C .conjuncts))
-  unfolding filterInput judged
-  filter-steps = refl
+  pub verdict-steps : verdict s t ≡ (readCondition s >>= λ C. onInput (C .types) (C .conjuncts))
+  unfolding verdict judged
+  verdict-steps = refl
 
-  pub condition-refused : (n : ℕ) → refused n ≡ mapped sizes (readCondition s) → refused n ≡ filterInput s t
-  condition-refused n e = through sizes n (readCondition s) (λ C. onInput (C .types) (C .conjuncts)) e ∙ sym filter-steps
+  pub condition-refused : (n : ℕ) → refused n ≡ mapped sizes (readCondition s) → refused n ≡ verdict s t
+  condition-refused n e = through sizes n (readCondition s) (λ C. onInput (C .types) (C .conjuncts)) e ∙ sym verdict-steps
 
   module _ (k : Counts) (read : ConditionIsRead s k) where
-    filter-read : filterInput s t ≡ onInput (typesOf s) (conjunctsOf s)
-    filter-read =
+    verdict-read : verdict s t ≡ onInput (typesOf s) (conjunctsOf s)
+    verdict-read =
         let r = mapped-ok sizes (readCondition s) (sizesOf k) read in
         let C : Condition = r .0 in
         let q = condition-read s C (r .1) in
-        filter-steps ∙ ap (λ (o : Out Condition). o >>= λ D. onInput (D .types) (D .conjuncts)) (r .1) ∙ ap₂ onInput (q .0) (q .1)
+        verdict-steps ∙ ap (λ (o : Out Condition). o >>= λ D. onInput (D .types) (D .conjuncts)) (r .1) ∙ ap₂ onInput (q .0) (q .1)
 
-    pub input-refused : (n : ℕ) → refused n ≡ mapped (λ I. tt {0}) (readInput (typesOf s) t) → refused n ≡ filterInput s t
-    input-refused n e = through (λ I. tt {0}) n (readInput (typesOf s) t) (λ I. judged I (conjunctsOf s)) e ∙ sym filter-read
+    pub input-refused : (n : ℕ) → refused n ≡ mapped (λ I. tt {0}) (readInput (typesOf s) t) → refused n ≡ verdict s t
+    input-refused n e = through (λ I. tt {0}) n (readInput (typesOf s) t) (λ I. judged I (conjunctsOf s)) e ∙ sym verdict-read
 
-    pub both-read : InputIsRead (typesOf s) t → filterInput s t ≡ judged (inputIn (typesOf s) t) (conjunctsOf s)
+    pub both-read : InputIsRead (typesOf s) t → verdict s t ≡ judged (inputIn (typesOf s) t) (conjunctsOf s)
     both-read h =
         let r = mapped-ok (λ I. tt {0}) (readInput (typesOf s) t) (tt {0}) h in
-        filter-read ∙ ap (λ (o : Out Input). o >>= λ I. judged I (conjunctsOf s)) (r .1) ∙ ap (λ (I : Input). judged I (conjunctsOf s)) (input-is (typesOf s) t (r .0) (r .1))
+        verdict-read ∙ ap (λ (o : Out Input). o >>= λ I. judged I (conjunctsOf s)) (r .1) ∙ ap (λ (I : Input). judged I (conjunctsOf s)) (input-is (typesOf s) t (r .0) (r .1))

@@ -1,7 +1,8 @@
-// The filter (document 01: gate): whether the readings of an input pass a condition. The condition is
-// read, then the input; the readings are decoded once. Two passes go over all conjuncts: the first works
-// out how many combinations each has, which tells of blank fields (15) and of too many combinations (14);
-// the second evaluates, and only where the first refuses nothing. Assumes nothing.
+// The filter (document 01: gate): whether the readings of an input pass a condition, or why the first
+// combination that does not pass does not. The condition is read, then the input; the readings are decoded
+// once. Two passes go over all conjuncts: the first works out how many combinations each has, which tells
+// of blank fields (15) and of too many combinations (14); the second evaluates, and only where the first
+// refuses nothing. Assumes nothing.
 ghost use mathlib.Core.Path.{_≡_};
 ghost use mathlib.Core.Bool.{true};
 ghost use Prim.Native.Nat.{ℕ, _+_, _*_, _/_, _≤_, _<_};
@@ -11,21 +12,24 @@ ghost use Rattle.arith.specs.Types.{Row, IsRow};
 ghost use Rattle.model.specs.Lists.{All, every};
 ghost use Rattle.model.specs.Program.{typeRight};
 ghost use Rattle.model.specs.Input.{Input, width, readingAt};
-ghost use Rattle.model.specs.Filter.{holds, filterInput};
+ghost use Rattle.model.specs.Failure.{first, failureIn, verdict};
 ghost use Rattle.input.specs.Answers.{InputIsRead};
 ghost use Rattle.condition.specs.Answers.{ConditionIsRead, typesOf, conjunctsOf};
 ghost use Rattle.plan.specs.Readings.{signedAt, Few, Lent, Counted, Decoded, NoneBlank, Taken};
+ghost use Rattle.evaluator.specs.Answer.{answerOf};
 ghost use Rattle.filter.specs.Verdict.{verdictOf, Told, judged};
 ghost use Rattle.filter.specs.Decoding.{inputIn, Filled};
+use arith::Cause;
 use arith::Range;
 use condition::ConditionRead;
 use condition::Counts;
+use evaluator::Answer;
 use input::InputRead;
 
-// The input passes, is held, or the number of the refusal.
+// The input passes, is held, and why it is, or the number of the refusal.
 pub enum Verdict {
     Pass,
-    Held,
+    Held(Cause),
     Refused(u8),
 }
 
@@ -128,23 +132,24 @@ fn products(condition: &[u8], sizes: Counts, counts: &[usize]) -> Combinations
     Combinations::Within
 }
 
-// Whether all conjuncts hold: none of their combinations overflows.
-fn all_hold(condition: &[u8], sizes: Counts, counts: &[usize], mags: &[u64], negs: &[bool]) -> bool
+// Why the first conjunct that does not hold does not, or that all do.
+fn try_all(condition: &[u8], sizes: Counts, counts: &[usize], mags: &[u64], negs: &[bool]) -> Answer
     requires { ⌜ ConditionIsRead (now condition) sizes × Lent (now counts) (now mags) (now negs)
         × All (NoneBlank (now counts)) (conjunctsOf (now condition)) ⌝ }
     ensures { λ r. ⌜ ((I : Input) → Decoded I (now (counts .entry)) (now (mags .entry)) (now (negs .entry))
-        → r ≡ every (holds I) (conjunctsOf (now (condition .entry)))) ⌝ }
+        → answerOf r ≡ first (failureIn I) (conjunctsOf (now (condition .entry)))) ⌝ }
 {
     let n = sizes.conjuncts;
-    let mut i: usize = 0;
-    while i < n {
-        let part = condition::conjunct(condition, sizes, i);
-        if !evaluator::holds(part, counts, mags, negs) {
-            return false;
+    let mut place: usize = 0;
+    while place < n {
+        let part = condition::conjunct(condition, sizes, place);
+        let answer = evaluator::first_failure(part, counts, mags, negs);
+        if let Answer::Overflows(_) = answer {
+            return answer;
         }
-        i += 1;
+        place += 1;
     }
-    true
+    Answer::Holds
 }
 
 // ---- the verdict
@@ -158,13 +163,10 @@ fn judge(condition: &[u8], sizes: Counts, counts: &[usize], mags: &[u64], negs: 
     match products(condition, sizes, counts) {
         Combinations::Blank => Verdict::Refused(15),
         Combinations::TooMany => Verdict::Refused(14),
-        Combinations::Within => {
-            if all_hold(condition, sizes, counts, mags, negs) {
-                Verdict::Pass
-            } else {
-                Verdict::Held
-            }
-        }
+        Combinations::Within => match try_all(condition, sizes, counts, mags, negs) {
+            Answer::Holds => Verdict::Pass,
+            Answer::Overflows(cause) => Verdict::Held(cause),
+        },
     }
 }
 
@@ -221,7 +223,7 @@ fn judge_input(condition: &[u8], sizes: Counts, input: &[u8]) -> Verdict
 // Of a condition that is read.
 fn check_input(condition: &[u8], sizes: Counts, input: &[u8]) -> Verdict
     requires { ⌜ ConditionIsRead (now condition) sizes ⌝ }
-    ensures { λ r. ⌜ verdictOf r ≡ filterInput (now (condition .entry)) (now (input .entry)) ⌝ }
+    ensures { λ r. ⌜ verdictOf r ≡ verdict (now (condition .entry)) (now (input .entry)) ⌝ }
 {
     let types = condition::types(condition, sizes);
     let r = input::read(types, input);
@@ -233,7 +235,7 @@ fn check_input(condition: &[u8], sizes: Counts, input: &[u8]) -> Verdict
 
 // The verdict on two byte strings.
 pub fn check(condition: &[u8], input: &[u8]) -> Verdict
-    ensures { λ r. ⌜ verdictOf r ≡ filterInput (now (condition .entry)) (now (input .entry)) ⌝ }
+    ensures { λ r. ⌜ verdictOf r ≡ verdict (now (condition .entry)) (now (input .entry)) ⌝ }
 {
     let r = condition::read(condition);
     match r {

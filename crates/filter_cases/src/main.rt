@@ -1,11 +1,15 @@
 // Runs the filter over stored files, NNN.condition with NNN.sheet, and NNN.derived with NNN.sheet, each
-// where there is one, in the folder that it is run in: a line for each with the verdict.
+// where there is one, in the folder that it is run in: a line for each with the verdict, and with the cause
+// of a hold where the case's answer has one.
 ghost use Prim.Native.Nat.{_<_};
+use arith::Cause;
 use filter::Verdict;
 use libc::STDOUT_FILENO;
 
 // How many cases are stored.
-const CASES: usize = 196;
+const CASES: usize = 316;
+// The first case whose answer has the cause of a hold.
+const WITH_CAUSE: usize = 184;
 
 // The digit of a number at a place: 100, 10 or 1.
 fn digit(i: usize, place: usize) -> u8
@@ -18,6 +22,23 @@ fn say(text: &[u8]) {
     io::write_all(STDOUT_FILENO, text);
 }
 
+fn say_cause(cause: Cause) {
+    match cause {
+        Cause::Above => say(b" too big"),
+        Cause::Below => say(b" too small"),
+        Cause::NoDivisor => say(b" no divisor"),
+    }
+}
+
+// A hold.
+fn held(i: usize, cause: Cause) {
+    say(b" held");
+    if WITH_CAUSE <= i {
+        say_cause(cause);
+    }
+    say(b"\n");
+}
+
 // A line: the case, which of its files, and the verdict.
 fn line(i: usize, name: &[u8], v: Verdict) {
     let number = [digit(i, 100), digit(i, 10), digit(i, 1)];
@@ -25,7 +46,7 @@ fn line(i: usize, name: &[u8], v: Verdict) {
     say(name);
     match v {
         Verdict::Pass => say(b" pass\n"),
-        Verdict::Held => say(b" held\n"),
+        Verdict::Held(cause) => held(i, cause),
         Verdict::Refused(k) => {
             say(b" refused ");
             io::print_decimal(STDOUT_FILENO, k as u64);

@@ -8,10 +8,11 @@ use lib.Dec.{leb}
 use lib.ListN.{length, take}
 use Rattle.model.specs.Refusals.{Out, ok, lentTooShort}
 use Rattle.model.specs.Condition.{conditionBytes, analysis}
-use Rattle.model.specs.Filter.{filterInput}
+use Rattle.model.specs.Failure.{verdict}
 use Rattle.model.specs.Run.{Ran, run}
 use Rattle.model.specs.Demands.{Exact}
 use Rattle.model.proofs.Demand3.{demand3}
+use Rattle.model.proofs.Verdicts.{verdict-answer}
 use Rattle.model.proofs.Results.{check-ok}
 use Rattle.filter.specs.Verdict.{verdictOf}
 use Rattle.filter.specs.declared.Verdict.the-variants.{Pass}
@@ -35,11 +36,11 @@ lent-run words scratch program input limit choices log R e = check-ok (leb words
 -- exact run, whatever was lent to each
 pub apart : (program input : List ℕ) (limit : ℕ) (choices log : List ℕ) (n : ℕ) (before condition s s′ : List ℕ) (end steps records : ℕ) (log′ t t′ : List ℕ)
     → Derives (derivation (length before) (length s) program) (Written n) before condition s s′
-    → verdictOf Pass ≡ filterInput (take n condition) input
+    → verdictOf Pass ≡ verdict (take n condition) input
     → Interprets (runLent scratchWords (length t) program input limit choices log) (Ended end steps records) log log′ t t′
     → Exact program input limit choices (length log) records log′
 apart program input limit choices log n before condition s s′ end steps records log′ t t′ d v r =
     let ran : Ran = record { end = end; steps = steps; records = records; log = log′ } in
     demand3 program (take n condition) input limit choices log ran
-    (derivation-analysis (length before) (length s) program (take n condition) (d .answer)) (sym v)
+    (derivation-analysis (length before) (length s) program (take n condition) (d .answer)) (verdict-answer (take n condition) input (verdictOf Pass) v)
     (lent-run scratchWords (length t) program input limit choices log ran (sym (r .answer)))

@@ -4,9 +4,8 @@ ghost use mathlib.Core.Path.{_≡_};
 ghost use Prim.Native.Nat.{_≤_};
 ghost use lib.ListN.{length, take};
 ghost use Rattle.model.specs.Condition.{conditionBytes};
-ghost use Rattle.model.specs.Filter.{filterInput};
-ghost use Rattle.filter.specs.Verdict.{verdictOf};
-ghost use Rattle.filter.specs.declared.Verdict.the-variants.{Pass};
+ghost use Rattle.model.specs.Refusals.{ok};
+ghost use Rattle.model.specs.Filter.{passNumber, filterInput};
 ghost use Rattle.model.specs.Guarded.{guarded};
 ghost use Rattle.guard.specs.Answers.{Ready, guarding, Guards};
 use analysis::Derived;
@@ -32,7 +31,7 @@ fn run_passed(
     condition: &mut [u8],
     scratch: &mut [u64],
 ) -> Guarded
-    requires { ⌜ Ready (now program) n (now file) (now condition) (now scratch) × (verdictOf Pass ≡ filterInput (take n (now file)) (now input)) ⌝ }
+    requires { ⌜ Ready (now program) n (now file) (now condition) (now scratch) × (filterInput (take n (now file)) (now input) ≡ ok passNumber) ⌝ }
     ensures { λ r. ⌜ Guards (now (program .entry)) (now (input .entry)) limit (now (choices .entry))
         (guarded (now (program .entry)) (now (input .entry)) limit (now (choices .entry)) (now (log .entry)))
         r (now (condition .entry)) (now (log .entry)) (now (scratch .entry)) (now (condition .exit)) (now (log .exit)) (now (scratch .exit)) ⌝ }
@@ -76,7 +75,7 @@ fn filter_and_run(
     let verdict = filter::check(&file[0..n], input);
     match verdict {
         Verdict::Refused(k) => Guarded::Refused(k),
-        Verdict::Held => Guarded::Held,
+        Verdict::Held(_) => Guarded::Held,
         Verdict::Pass => run_passed(
             program,
             input,

@@ -51,6 +51,8 @@ pub mod Combining
 pub mod Worked
 pub mod Choosing
 pub mod FilterExact
+pub mod Firsts
+pub mod Verdicts
 pub mod BlankFields
 pub mod SafeMeets
 -- the operations on byte strings
@@ -58,6 +60,7 @@ pub mod RefusalNumbers
 pub mod Demand3
 pub mod Ends
 pub mod Demand1
+pub mod Causes
 pub mod WorkedExamples
 pub mod Depth
 pub mod Guarding

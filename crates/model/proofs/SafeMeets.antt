@@ -10,7 +10,7 @@ use lib.IntN.{ℤ, pos}
 use lib.ListN.{length, getD, drop, List·getD-map}
 use Rattle.arith.specs.declared.Op.{Op}
 use Rattle.arith.specs.declared.Op.the-variants.{Convert}
-use Rattle.arith.specs.Step.{value, overflow, passes, exactOf, overflows, stepOf}
+use Rattle.arith.specs.Step.{value, overflow, passes, exactOf, overflows, causeOf, stepOf}
 use Rattle.arith.proofs.StepLaws.{step-wraps}
 use Rattle.model.specs.Lists.{All}
 use Rattle.model.specs.Values.{Val, plain, Operation, stepOp, operated, converted}
@@ -29,7 +29,7 @@ use Rattle.model.proofs.Worked.{Stack, stack, stopped, onTop, goOn, out
 -- the values are the stack's numbers, unmarked, unless a step overflowed
 abbrev Unmarked : Stack → List Val → Type 0
 Unmarked (stack st) vs = vs ≡ map plain st
-Unmarked stopped vs = Unit {0}
+Unmarked (stopped c) vs = Unit {0}
 
 -- ---- one step
 
@@ -45,7 +45,7 @@ converted-plain ty a q = λ i. record { num = step-wraps Convert ty a (pos 0) q 
 onTop-unmarked : (o : Op) (ty : ℕ) (a b : ℤ) (v : Val) (st : List ℤ) → (overflows o ty a b ≡ false → v ≡ plain (exactOf o a b))
     → Unmarked (onTop (stepOf o ty a b) st) (v ∷ map plain st)
 onTop-unmarked o ty a b v st h =
-    case (overflows o ty a b) (λ z. Unmarked (onTop (cond z overflow (value (exactOf o a b))) st) (v ∷ map plain st)) (λ q. tt) (λ q. ap (_∷ map plain st) (h q))
+    case (overflows o ty a b) (λ z. Unmarked (onTop (cond z (overflow (causeOf o ty a b)) (value (exactOf o a b))) st) (v ∷ map plain st)) (λ q. tt) (λ q. ap (_∷ map plain st) (h q))
 
 -- ---- the nodes
 
@@ -75,7 +75,7 @@ module _ (I : Input) (env : Env) (at : Atom → ℤ) where
       go : (s : Stack) (vs : List Val) → Unmarked s vs → ((st : List ℤ) → Unmarked (worked at e st) (eval I zeros env e (map plain st)))
           → Unmarked (goOn s (worked at e)) (eval I zeros env e vs)
       go (stack st′) vs q ih = rw q (ih st′)
-      go stopped vs q ih = tt
+      go (stopped c) vs q ih = tt
 
 -- ---- the choices
 
@@ -85,7 +85,7 @@ topMark-plain (z ∷ st) = refl
 
 outcome-mark : (s : Stack) (vs : List Val) → passes (outcome s) ≡ true → Unmarked s vs → topMark vs ≡ false
 outcome-mark (stack st) vs p q = ap topMark q ∙ topMark-plain st
-outcome-mark stopped vs p q = absurd (true→T p)
+outcome-mark (stopped c) vs p q = absurd (true→T p)
 
 -- what a source has in the zero state is unmarked
 picked : (I : Input) (s : Source) (c : ℕ) → pick I zeros s c ≡ plain (pick I zeros s c .num)

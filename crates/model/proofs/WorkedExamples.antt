@@ -1,11 +1,13 @@
 -- Document 01's worked examples (its soundings), by computation from byte strings: A to L as one theorem over one table, of the
--- definitions that the public operations equal; and the examples without a letter.
+-- definitions that the public operations equal; the examples without a letter, and those of document 02.
 -- Assumes nothing.
 use mathlib.Core.Path.{_≡_, refl}
 use mathlib.Core.List.{List, [], _∷_, _++_, map, flatMap}
 use Prim.Native.Nat.{ℕ, zero, suc, _+_, _*_}
 use lib.IntN.{ℤ, pos, negsuc}
 use lib.ListN.{length}
+use Rattle.arith.specs.declared.Cause.{Cause}
+use Rattle.arith.specs.declared.Cause.the-variants.{Above, Below, NoDivisor}
 use Rattle.arith.specs.Step.{Outcome, value, overflow}
 use Rattle.arith.specs.Types
 use Rattle.arith.specs.Words
@@ -16,12 +18,14 @@ use Rattle.model.specs.Code.{plain, site, done, step, branch, loop, if, 
 use Rattle.model.specs.Conjunct.{field, Node, const, atom, op, conv, Conjuncts, atoms}
 use Rattle.model.specs.Condition.{Condition, encode, readCondition, analysis}
 use Rattle.model.specs.Input.{readInput}
-use Rattle.model.specs.Filter.{evaluate, combinationsOf, valueIn, passNumber, heldNumber, filterInput}
+use Rattle.model.specs.Filter.{evaluate, combinationsOf, valueIn}
+use Rattle.model.specs.Failure.{Found, nothing, found, verdict}
 use Rattle.model.specs.Bytes
 use Rattle.model.specs.Code
 use Rattle.model.specs.Condition
 use Rattle.model.specs.Conjunct
 use Rattle.model.specs.Decimal
+use Rattle.model.specs.Failure
 use Rattle.model.specs.Filter
 use Rattle.model.specs.Input
 use Rattle.model.specs.Listing
@@ -34,7 +38,7 @@ use Rattle.model.specs.Walk
 
 -- to unfold this is to unfold all that they are made of
 definitions : Type 0
-unfolding Bytes.bytes2 Bytes.bytes4 Bytes.bytes8 Bytes.entries Bytes.chained Code.taking Code.opened Code.treeOf Condition.conjunctBytes Condition.pairBytes Condition.encode Condition.analysis Condition.nodeAt Condition.nodeRight Condition.typeNode Condition.typeNodes Condition.whole Condition.numbered Condition.rising Condition.readCondition Conjunct.sourceBytes Conjunct.bytes Conjunct.orderNumbers Conjunct.orderNodes Conjunct.order Conjunct.withConjunct Conjunct.unionOf Conjunct.same Conjunct.long Conjunct.limits Conjunct.sameSource Conjunct.sameAtom Conjunct.without Conjunct.atoms Conjunct.rank Conjunct.renamed Conjunct.renumber Decimal.digits Decimal.places Decimal.decimal Decimal.number Filter.evaluate Filter.combinations Filter.valueIn Filter.combinationsOf Filter.holds Filter.productOf Filter.fewCombinations Filter.hasReadings Filter.filterInput Input.width Input.bitsAt Input.readingAt Input.readingsOf Input.lengthsRight Input.readInput Listing.typeText Listing.operationText Listing.atomText Listing.nodeName Listing.nodeType Listing.nodeText Listing.lineText Listing.linesFrom Listing.listingText Listing.refusalText Listing.listing Lists.every Program.layoutOf Program.tablesAt Program.sectionsRight Program.countsRight Program.typesRight Program.formRight Program.typesAgree Program.immediateRight Program.stmtOf Program.readProgram Values.operated Values.converted Walk.nodes Walk.replace Walk.onArray Walk.loads Walk.swap Walk.swapAll Walk.subsets Walk.before Walk.gather Walk.back Walk.rounds Walk.walk Walk.here Walk.sites Walk.zeroed Walk.start Walk.join Walk.derived Types.bits Types.signed Types.depth Types.height Words.wideOf Words.wordOf Words.valueAt Words.immediate mathlib.Core.List.flatMap
+unfolding Bytes.bytes2 Bytes.bytes4 Bytes.bytes8 Bytes.entries Bytes.chained Code.taking Code.opened Code.treeOf Condition.conjunctBytes Condition.pairBytes Condition.encode Condition.analysis Condition.nodeAt Condition.nodeRight Condition.typeNode Condition.typeNodes Condition.whole Condition.numbered Condition.rising Condition.readCondition Conjunct.sourceBytes Conjunct.bytes Conjunct.orderNumbers Conjunct.orderNodes Conjunct.order Conjunct.withConjunct Conjunct.unionOf Conjunct.same Conjunct.long Conjunct.limits Conjunct.sameSource Conjunct.sameAtom Conjunct.without Conjunct.atoms Conjunct.rank Conjunct.renamed Conjunct.renumber Decimal.digits Decimal.places Decimal.decimal Decimal.number Filter.evaluate Filter.combinations Filter.valueIn Filter.combinationsOf Filter.holds Filter.productOf Filter.fewCombinations Filter.hasReadings Failure.first Failure.failureIn Failure.verdict Input.width Input.bitsAt Input.readingAt Input.readingsOf Input.lengthsRight Input.readInput Listing.typeText Listing.operationText Listing.atomText Listing.nodeName Listing.nodeType Listing.nodeText Listing.lineText Listing.linesFrom Listing.listingText Listing.refusalText Listing.listing Lists.every Program.layoutOf Program.tablesAt Program.sectionsRight Program.countsRight Program.typesRight Program.formRight Program.typesAgree Program.immediateRight Program.stmtOf Program.readProgram Values.operated Values.converted Walk.nodes Walk.replace Walk.onArray Walk.loads Walk.swap Walk.swapAll Walk.subsets Walk.before Walk.gather Walk.back Walk.rounds Walk.walk Walk.here Walk.sites Walk.zeroed Walk.start Walk.join Walk.derived Types.bits Types.signed Types.depth Types.height Words.wideOf Words.wordOf Words.valueAt Words.immediate mathlib.Core.List.flatMap
 definitions = Unit {0}
 
 -- the analysis
@@ -53,9 +57,9 @@ unfolding definitions
 text condition = Listing.listing condition
 
 -- the filter
-check : List ℕ → List ℕ → Out ℕ
+check : List ℕ → List ℕ → Out (Found Cause)
 unfolding definitions
-check condition input = filterInput condition input
+check condition input = verdict condition input
 
 -- the evaluation of each conjunct at each combination
 values : List ℕ → List ℕ → Out (List (List Outcome))
@@ -98,11 +102,11 @@ program fields variables arrays statements =
 
 -- the values and the filter's answer, or the condition file
 data Answer : Type 0 where
-  filtered : Out (List (List Outcome)) → Out ℕ → Answer
+  filtered : Out (List (List Outcome)) → Out (Found Cause) → Answer
   derives : Out (List ℕ) → Answer
 
 record Example : Type 0 where
-  found : Answer
+  answer : Answer
   expected : Answer
 
 -- two readings and an operation of a type of 4 bytes
@@ -125,34 +129,34 @@ stored len =
 
 -- passes with this value
 abbrev pass : ℤ → Answer
-pass z = filtered (ok ((value z ∷ []) ∷ [])) (ok passNumber)
+pass z = filtered (ok ((value z ∷ []) ∷ [])) (ok nothing)
 
 -- is held
-abbrev held : Answer
-held = filtered (ok ((overflow ∷ []) ∷ [])) (ok heldNumber)
+abbrev held : Cause → Answer
+held c = filtered (ok ((overflow c ∷ []) ∷ [])) (ok (found c))
 
 abbrev example : Answer → Answer → Example
-example f e = record { found = f; expected = e }
+example f e = record { answer = f; expected = e }
 
 -- type codes: u16 is 1, u32 is 2, i32 is 6; readings as the 4 bytes of an input
 examples : List Example
 unfolding operation conversion stored
 examples =
     example (operation mul 6 46340 46340) (pass (pos 2147395600))  -- A
-    ∷ example (operation mul 6 46341 46341) held  -- B
+    ∷ example (operation mul 6 46341 46341) (held Above)  -- B
     ∷ example (operation mul 2 65535 65535) (pass (pos 4294836225))  -- C
     ∷ example (operation sub 6 2147483648 0) (pass (negsuc 2147483647))  -- D
-    ∷ example (operation sub 6 2147483648 1) held  -- E
-    ∷ example (operation div 6 2147483648 4294967295) held  -- F
+    ∷ example (operation sub 6 2147483648 1) (held Below)  -- E
+    ∷ example (operation div 6 2147483648 4294967295) (held Above)  -- F
     ∷ example (operation div 6 4294967289 2) (pass (negsuc 2))  -- G
     ∷ example (conversion 2 1 65535) (pass (pos 65535))  -- H
-    ∷ example (conversion 2 1 65536) held  -- I
-    ∷ example (conversion 6 2 4294967295) held  -- J
+    ∷ example (conversion 2 1 65536) (held Above)  -- I
+    ∷ example (conversion 6 2 4294967295) (held Below)  -- J
     ∷ example (stored 1) (derives (ok (file [] ((const 0 5 ∷ []) ∷ []))))  -- K
     ∷ example (stored 2) (derives (ok (file [] ((const 0 0 ∷ []) ∷ (const 0 5 ∷ []) ∷ []))))  -- L
     ∷ []
 
-worked-examples : map (λ x. x .found) examples ≡ map (λ x. x .expected) examples
+worked-examples : map (λ x. x .answer) examples ≡ map (λ x. x .expected) examples
 unfolding examples operation conversion stored derive file check values program two one
 worked-examples = refl
 
@@ -220,25 +224,29 @@ unfolding derive program zeros
 seven-loads = refl
 
 -- 46,341 × 46,341 / 46,341 is held: every step is tested, and not only the last
-each-step : check (file (6 ∷ 6 ∷ []) ((reading 0 6 ∷ reading 1 6 ∷ op mul 6 ∷ reading 0 6 ∷ op div 6 ∷ []) ∷ [])) (two 46341 46341) ≡ ok heldNumber
+each-step : check (file (6 ∷ 6 ∷ []) ((reading 0 6 ∷ reading 1 6 ∷ op mul 6 ∷ reading 0 6 ∷ op div 6 ∷ []) ∷ [])) (two 46341 46341) ≡ ok (found Above)
 unfolding check file two
 each-step = refl
 
 -- no fields, no statements: the empty condition, and the empty input passes
-nothing : derive (program [] [] [] []) ≡ ok (file [] [])
+no-fields : derive (program [] [] [] []) ≡ ok (file [] [])
 unfolding derive program file
-nothing = refl
+no-fields = refl
 
-nothing-passes : check (file [] []) [] ≡ ok passNumber
+no-fields-pass : check (file [] []) [] ≡ ok nothing
 unfolding check file
-nothing-passes = refl
+no-fields-pass = refl
 
 -- ---- a field left blank
 
--- an input of two u8 fields: so many zeros, and these readings
-zerosAnd : ℕ → List ℕ → List ℕ
+-- an input of two u8 fields with these readings
+fields : List ℕ → List ℕ → List ℕ
 unfolding Bytes.bytes4
-zerosAnd n rest = bytes4 16 ++ bytes4 n ++ bytes4 (16 + n) ++ bytes4 (length rest) ++ zeros n ++ rest
+fields zs ws = bytes4 16 ++ bytes4 (length zs) ++ bytes4 (16 + length zs) ++ bytes4 (length ws) ++ zs ++ ws
+
+-- so many zeros, and these readings
+zerosAnd : ℕ → List ℕ → List ℕ
+zerosAnd n rest = fields (zeros n) rest
 
 -- f0<k>, a u8
 abbrev again : ℕ → Node
@@ -264,9 +272,42 @@ blank-examples :
     ∷ check overflowing (zerosAnd 0 [])
     ∷ check overflowing (zerosAnd 1 [])
     ∷ []
-    ≡ refused blankField ∷ ok passNumber ∷ refused blankField ∷ refused tooManyCombinations ∷ refused blankField ∷ ok heldNumber ∷ []
-unfolding check file zerosAnd zeros three-atoms overflowing
+    ≡ refused blankField ∷ ok nothing ∷ refused blankField ∷ refused tooManyCombinations ∷ refused blankField ∷ ok (found Above) ∷ []
+unfolding check file zerosAnd fields zeros three-atoms overflowing
 blank-examples = refl
+
+-- ---- the cause of the first failure
+
+-- one conjunct over two u8 fields
+abbrev conjunct : List Node → List ℕ
+conjunct e = file (0 ∷ 0 ∷ []) (e ∷ [])
+
+-- f0 - f1 with f0 1 and 0, f1 0, 1 and 2, fails first with 1 - 2, the last atom's reading changing fastest; f0 × f0 fails before 0 - f0
+-- behind it; 16 × 16 behind 20 - 16 comes before 20 - 30; and 1 - f0 of the first conjunct before f0 + f0 of the next
+first-failures :
+    check (conjunct (again 1 ∷ reading 1 0 ∷ op sub 0 ∷ [])) (fields (1 ∷ 0 ∷ []) (0 ∷ 1 ∷ 2 ∷ []))
+    ∷ check (conjunct (again 1 ∷ again 1 ∷ op mul 0 ∷ const 0 0 ∷ again 1 ∷ op sub 0 ∷ op add 0 ∷ [])) (fields (16 ∷ []) [])
+    ∷ check (conjunct (again 1 ∷ reading 1 0 ∷ op sub 0 ∷ reading 1 0 ∷ reading 1 0 ∷ op mul 0 ∷ op add 0 ∷ [])) (fields (20 ∷ []) (16 ∷ 30 ∷ []))
+    ∷ check (file (0 ∷ 0 ∷ []) ((const 0 1 ∷ again 1 ∷ op sub 0 ∷ []) ∷ (again 1 ∷ again 2 ∷ op add 0 ∷ []) ∷ [])) (fields (3 ∷ 200 ∷ []) [])
+    ∷ []
+    ≡ ok (found Below) ∷ ok (found Above) ∷ ok (found Above) ∷ ok (found Below) ∷ []
+unfolding check file fields
+first-failures = refl
+
+-- -2,147,483,648 / -1 is above, and / 0 has no divisor, like 0 / 0; 4,294,967,295 to i8 is above, -1 to u32 below
+causesOf : List Example
+unfolding operation conversion
+causesOf =
+    example (operation div 6 2147483648 4294967295) (held Above)
+    ∷ example (operation div 6 2147483648 0) (held NoDivisor)
+    ∷ example (operation div 6 0 0) (held NoDivisor)
+    ∷ example (conversion 2 4 4294967295) (held Above)
+    ∷ example (conversion 6 2 4294967295) (held Below)
+    ∷ []
+
+causes : map (λ x. x .answer) causesOf ≡ map (λ x. x .expected) causesOf
+unfolding causesOf operation conversion check values file two one
+causes = refl
 
 -- ---- block trees
 

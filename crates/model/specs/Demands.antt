@@ -7,16 +7,21 @@ use mathlib.Core.List.{List, [], _∷_, List·Memᴰ, Forall₂}
 use Prim.Native.Nat.{ℕ, zero, suc, _≤_}
 use lib.IntN.{ℤ}
 use lib.ListN.{length, drop}
-use Rattle.arith.specs.Step.{passes}
+use lib.Signed.{leZ}
+use Rattle.arith.specs.declared.Op.{Op}
+use Rattle.arith.specs.declared.Cause.the-variants.{Above, Below, NoDivisor}
+use Rattle.arith.specs.Types.{lowest, highest}
+use Rattle.arith.specs.Step.{overflow, passes, exactOf, lacksDivisor, stepOf}
 use Rattle.arith.specs.Words.{valueAt}
 use Rattle.model.specs.Lists.{All, every}
-use Rattle.model.specs.Refusals.{Out, ok, refused, _>>=_, check, lentTooShort, wrongSections, wrongBlocks}
+use Rattle.model.specs.Refusals.{Out, ok, refused, _>>=_, mapped, check, lentTooShort, wrongSections, wrongBlocks}
 use Rattle.model.specs.Refusals.{neverSettles, wrongCondition, wrongInput, tooManyCombinations, blankField}
 use Rattle.model.specs.Bytes.{byteAt, u16At, u64At}
 use Rattle.model.specs.Conjunct.{Source, field, cell, Atom, Conj, Conjuncts, atoms}
 use Rattle.model.specs.Condition.{Condition, readCondition, analysis}
 use Rattle.model.specs.Input.{Input, readInput}
 use Rattle.model.specs.Filter.{evaluate, holds, fewCombinations, hasReadings, passNumber, heldNumber, filterInput}
+use Rattle.model.specs.Failure.{answerNumber, verdict}
 use Rattle.model.specs.Run.{Ran, run}
 use Rattle.model.specs.Guarded.{guarded}
 use Rattle.model.specs.Exact.{Note, exactRun}
@@ -113,6 +118,17 @@ pub record BlankFields : Type 0 where
       → (filterInput condition input ≡ refused blankField) ↔ Some (λ e. Some (λ a. IsBlank I (a .src)) (atoms e)) (C .conjuncts)
   pub others : (condition input : List ℕ)
       → (filterInput condition input ≡ refused blankField) ⊎ (filterInput condition input ≡ filterAllowingBlanks condition input)
+
+-- ---- document 02, card 2: why an input is held
+
+-- a step's cause is that its result is above the type's range, or below it, or that there is no divisor; and beside the cause nothing has
+-- moved: the verdict is given or refused as the filter's answer is
+pub record Causes : Type 0 where
+  pub above : (o : Op) (t : ℕ) (a b : ℤ) → (stepOf o t a b ≡ overflow Above) ↔ ((lacksDivisor o b ≡ false) × (leZ (exactOf o a b) (highest t) ≡ false))
+  pub below : (o : Op) (t : ℕ) (a b : ℤ) → (stepOf o t a b ≡ overflow Below) ↔ ((lacksDivisor o b ≡ false) × (leZ (lowest t) (exactOf o a b) ≡ false))
+  pub no-divisor : (o : Op) (t : ℕ) (a b : ℤ) → (stepOf o t a b ≡ overflow NoDivisor) ↔ (lacksDivisor o b ≡ true)
+  pub answered : (condition input : List ℕ) → ResultOrRefusal FilterRefusal (verdict condition input)
+  pub unmoved : (condition input : List ℕ) → mapped answerNumber (verdict condition input) ≡ filterInput condition input
 
 -- ---- demand 3
 

@@ -11,6 +11,7 @@ pub mod Decimal
 pub mod Listing
 pub mod Input
 pub mod Filter
+pub mod Failure
 pub mod Run
 pub mod Exact
 pub mod Guarded

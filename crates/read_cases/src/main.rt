@@ -8,7 +8,7 @@ use libc::STDOUT_FILENO;
 use program::ProgramRead;
 
 // How many cases are stored.
-const CASES: usize = 184;
+const CASES: usize = 287;
 
 // The digit of a number at a place: 100, 10 or 1.
 fn digit(i: usize, place: usize) -> u8

@@ -10,7 +10,7 @@ use libc::STDOUT_FILENO;
 use program::ProgramRead;
 
 // How many cases are stored.
-const CASES: usize = 190;
+const CASES: usize = 293;
 
 // The digit of a number at a place: 100, 10 or 1.
 fn digit(i: usize, place: usize) -> u8

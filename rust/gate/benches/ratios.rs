@@ -198,7 +198,7 @@ fn main() {
     heading("check");
     let checks = |name: &str, unit: &str, count: f64, file: &[u8], sheet: &[u8]| {
         let file = plain::derive(file).unwrap();
-        assert_eq!(plain::check(&file, sheet), Ok(true));
+        assert_eq!(plain::check(&file, sheet), Ok(plain::Verdict::Pass));
         assert_eq!(check(&file, sheet), Ok(Verdict::Pass));
         compare(name, unit, count, || check(&file, sheet), || plain::check(&file, sheet));
     };

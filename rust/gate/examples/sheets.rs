@@ -5,7 +5,7 @@
 //!
 //! Exit status as of survey-gate: 0 all pass, 1 some held, 2 some refused, 3 trouble.
 
-use gate::{check, Choices, Gate, Refusal, Run, Verdict};
+use gate::{check, Cause, Choices, Gate, Refusal, Run, Verdict};
 use std::error::Error;
 use std::process::ExitCode;
 use std::{env, fs};
@@ -21,25 +21,25 @@ fn derived(gate: &mut Gate, name: &str) -> Result<(Vec<u8>, Vec<u8>), Box<dyn Er
     Ok((condition, recipe))
 }
 
-/// The run on a sheet that passes; nothing where it is held.
-fn run(gate: &mut Gate, condition: &[u8], recipe: &[u8], sheet: &[u8]) -> Result<Option<Run>, Refusal> {
-    if check(condition, sheet)? == Verdict::Held {
-        return Ok(None);
+/// The run on a sheet that passes, or why the sheet is held.
+fn run(gate: &mut Gate, condition: &[u8], recipe: &[u8], sheet: &[u8]) -> Result<Result<Run, Cause>, Refusal> {
+    if let Verdict::Held(cause) = check(condition, sheet)? {
+        return Ok(Err(cause));
     }
     let first_readings: Choices = std::iter::repeat_n(0, MOST_READS).collect();
-    gate.run(recipe, sheet, LIMIT, &first_readings, MOST_RECORDS).map(Some)
+    gate.run(recipe, sheet, LIMIT, &first_readings, MOST_RECORDS).map(Ok)
 }
 
 /// Says what became of a sheet, and gives its exit status.
-fn report(name: &str, outcome: Result<Option<Run>, Refusal>) -> u8 {
+fn report(name: &str, outcome: Result<Result<Run, Cause>, Refusal>) -> u8 {
     match outcome {
-        Ok(Some(run)) => {
+        Ok(Ok(run)) => {
             println!("{name}: pass; {:?} after {} steps", run.end, run.steps);
             run.records.iter().for_each(|record| println!("  label {}: {}", record.label, record.value));
             0
         }
-        Ok(None) => {
-            println!("{name}: held");
+        Ok(Err(cause)) => {
+            println!("{name}: held {cause}");
             1
         }
         Err(refusal) => {

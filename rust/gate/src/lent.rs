@@ -1,19 +1,10 @@
 //! The calls over slices that the caller lends.
 
 use crate::library;
-use crate::{Choices, Refusal};
+use crate::{Cause, Choices, Refusal, Verdict};
 
 /// The least length of a condition output: no condition file is longer.
 pub const CONDITION: usize = 61_992;
-
-/// The gate's answer on a sheet.
-#[derive(Clone, Copy, Debug, PartialEq, Eq)]
-pub enum Verdict {
-    /// No choice of readings overflows at any step on the way to a site.
-    Pass,
-    /// Some choice does.
-    Held,
-}
 
 /// Why a run ended.
 #[derive(Clone, Copy, Debug, PartialEq, Eq)]
@@ -38,7 +29,7 @@ pub struct Ran {
     pub records: u64,
 }
 
-/// A run behind the gate: the sheet is held, or it passed and was run.
+/// A run behind the gate: the sheet is held, for a cause that [`check`] tells, or it passed and was run.
 #[derive(Clone, Copy, Debug, PartialEq, Eq)]
 pub enum Guarded {
     Held,
@@ -53,6 +44,15 @@ fn answer(word: u64) -> Result<u64, Refusal> {
     match word >> 32 {
         0 => Ok(word),
         number => Err(Refusal::numbered(number).expect("the library refuses with 1 to 15")),
+    }
+}
+
+/// The verdict of a check: 0, or 1 plus 256 times the cause.
+fn verdict(number: u64) -> Verdict {
+    match (number % 256, number / 256) {
+        (0, 0) => Verdict::Pass,
+        (1, cause) => Verdict::Held(Cause::numbered(cause).expect("the library holds for a cause from 1 to 3")),
+        _ => unreachable!("the library's verdict is 0 or 1"),
     }
 }
 
@@ -105,14 +105,14 @@ pub fn derive(recipe: &[u8], condition: &mut [u8], scratch: &mut [u64]) -> Resul
     answer(word).map(size)
 }
 
-/// Whether the sheet passes under the condition, which must be the recipe's own.
+/// Whether the sheet passes under the condition, which must be the recipe's own, and why not.
 ///
 /// # Errors
 /// The refusals 12 to 15, tested in the order 12, 13, 15, 14.
 pub fn check(condition: &[u8], sheet: &[u8]) -> Result<Verdict, Refusal> {
     // SAFETY: as above.
     let word = unsafe { library::gate_check(condition.as_ptr(), condition.len(), sheet.as_ptr(), sheet.len()) };
-    answer(word).map(|held| if held == 0 { Verdict::Pass } else { Verdict::Held })
+    answer(word).map(verdict)
 }
 
 /// Runs the recipe on the sheet for at most `limit` steps and writes its records to the start of `log`.

@@ -1,12 +1,12 @@
 //! The proved gate against integer overflow, for Rust.
 //!
 //! Each call goes to the function of `include/gate.h` with the same name, which is proved to equal its
-//! definition in document 01, with document 02's Card 1, for every input. [`Gate`] has memory of its own;
+//! definition in document 01, with document 02's Cards 1 and 2, for every input. [`Gate`] has memory of its own;
 //! [`derive()`], [`check`], [`run`] and [`guarded`] work on slices that the caller lends, and a refusal leaves
 //! each of them but `scratch` as it was. What is in `scratch` before and after a call does not matter.
 //!
 //! ```
-//! use gate::{check, Choices, Gate, Refusal, Verdict};
+//! use gate::{check, Cause, Choices, Gate, Refusal, Verdict};
 //!
 //! # fn main() -> Result<(), Refusal> {
 //! // field f u8; var x u8; x = read f; x = x + x; site x
@@ -21,7 +21,7 @@
 //! let mut gate = Gate::new();
 //! let condition = gate.derive(&recipe)?;
 //! assert_eq!(check(&condition, &passes)?, Verdict::Pass);
-//! assert_eq!(check(&condition, &held)?, Verdict::Held);
+//! assert_eq!(check(&condition, &held)?, Verdict::Held(Cause::TooBig));
 //! assert_eq!(check(&condition, &blank), Err(Refusal::Blank));
 //!
 //! let run = gate.guarded(&recipe, &passes, 100, &Choices::from([1]), 10)?.expect("it passes");
@@ -39,8 +39,10 @@ pub mod library;
 mod owned;
 mod record;
 mod refusal;
+mod verdict;
 
-pub use lent::{check, derive, guarded, run, scratch, scratch_words, End, Guarded, Ran, Verdict, CONDITION};
+pub use lent::{check, derive, guarded, run, scratch, scratch_words, End, Guarded, Ran, CONDITION};
 pub use owned::{Gate, Run};
 pub use record::{records, Choices, Record, RECORD};
 pub use refusal::Refusal;
+pub use verdict::{Cause, Verdict};

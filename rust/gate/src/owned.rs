@@ -57,7 +57,8 @@ impl Gate {
         Ok(Run::of(ran, &log))
     }
 
-    /// Runs the recipe as [`Gate::run`] does if the sheet passes under its condition; nothing if it is held.
+    /// Runs the recipe as [`Gate::run`] does if the sheet passes under its condition; nothing if it is held, for a
+    /// cause that [`check`](crate::check) tells.
     ///
     /// # Errors
     /// The refusals 2 to 11 and 13 to 15.

@@ -1,7 +1,8 @@
 //! The proved library beside an independent implementation on generated cases: answers, every output
 //! byte, and the untouched rest.
 //!
-//! CASES gives the number of cases, SEED the first one's seed; both are printed. A case is its seed.
+//! CASES gives the number of cases, SEED the first one's seed; both are printed, and how often the gate gave each
+//! answer. A case is its seed.
 
 #![allow(
     clippy::cast_possible_truncation,
@@ -10,12 +11,21 @@
     reason = "the numbers of a test are small, and values wrap to their types"
 )]
 
+mod told;
+
 use gate::{check, derive, guarded, library, records, run, scratch, scratch_words};
-use gate::{Choices, Guarded, Ran, Refusal, Verdict, CONDITION, RECORD};
+use gate::{Choices, Guarded, Ran, Refusal, CONDITION, RECORD};
 use gate_oracle::generate::{self, Rng};
+use gate_oracle::Verdict;
+use std::collections::BTreeMap;
 use std::sync::atomic::{AtomicU64, Ordering};
+use told::told;
 
 const MARK: u8 = 0xA5;
+
+/// The answers of the gate that must occur on derived conditions; on others 12 as well.
+const ANSWERS: [&str; 7] =
+    ["pass", "held too big", "held too small", "held no divisor", "refused 13", "refused 14", "refused 15"];
 
 fn setting(name: &str, usual: u64) -> u64 {
     std::env::var(name).map_or(usual, |text| text.parse().unwrap())
@@ -69,14 +79,18 @@ impl Inputs {
     }
 }
 
+/// How often the gate gave each answer.
+type Tally = BTreeMap<String, u64>;
+
 struct Bench {
     condition: Vec<u8>,
     scratch: Vec<u64>,
+    tally: Tally,
 }
 
 impl Bench {
     fn new() -> Bench {
-        Bench { condition: vec![MARK; CONDITION + 16], scratch: scratch() }
+        Bench { condition: vec![MARK; CONDITION + 16], scratch: scratch(), tally: Tally::new() }
     }
 
     /// The condition of a recipe: the same file or the same refusal, and nothing else touched.
@@ -102,7 +116,7 @@ impl Bench {
     /// Too little room is refused with 1, whatever the recipe, and nothing is touched.
     fn short(&mut self, rng: &mut Rng, recipe: &[u8]) {
         let (room, words) = (CONDITION - 1 - rng.below(3), scratch_words() - 1 - rng.below(3));
-        let Bench { condition, scratch } = self;
+        let Bench { condition, scratch, .. } = self;
         assert_eq!(derive(recipe, &mut condition[..room], scratch), Err(Refusal::Room));
         assert_eq!(derive(recipe, condition, &mut scratch[..words]), Err(Refusal::Room));
         let (to, work) = (condition.as_mut_ptr(), scratch.as_mut_ptr());
@@ -156,10 +170,16 @@ impl Bench {
         assert!(untouched(&log));
     }
 
-    fn check(condition: &[u8], sheet: &[u8]) -> Result<bool, u8> {
+    /// The verdict on a sheet, with its cause, or the refusal; it is counted under a name of the conditions.
+    fn check(&mut self, conditions: &str, condition: &[u8], sheet: &[u8]) -> Result<Verdict, u8> {
         let expected = gate_oracle::check(condition, sheet);
-        let answer = check(condition, sheet).map(|verdict| verdict == Verdict::Pass).map_err(Refusal::number);
-        assert_eq!(expected, answer);
+        let answer = check(condition, sheet);
+        assert_eq!(expected, told(answer));
+        let words = match answer {
+            Ok(verdict) => verdict.to_string(),
+            Err(refusal) => format!("refused {}", refusal.number()),
+        };
+        *self.tally.entry(format!("{conditions}: {words}")).or_default() += 1;
         expected
     }
 
@@ -178,7 +198,7 @@ impl Bench {
         inputs: &Inputs,
         length: usize,
         derived: &Result<Vec<u8>, u8>,
-        verdict: Option<Result<bool, u8>>,
+        verdict: Option<Result<Verdict, u8>>,
     ) {
         let mut log = vec![MARK; length];
         let Inputs { recipe, sheet, limit, choices } = inputs;
@@ -186,13 +206,13 @@ impl Bench {
         let expected = match (derived, verdict) {
             (Err(number), _) => Err(*number),
             (Ok(_), Some(Err(number))) => Err(number),
-            (Ok(_), Some(Ok(passes))) => Ok(passes),
+            (Ok(_), Some(Ok(verdict))) => Ok(verdict),
             (derived, verdict) => panic!("{derived:?}, {verdict:?}"),
         };
         match (expected, answer) {
             (Err(number), Err(refusal)) if number == refusal.number() => assert!(untouched(&log)),
-            (Ok(false), Ok(Guarded::Held)) => assert!(untouched(&log)),
-            (Ok(true), Ok(Guarded::Ran(ran))) => {
+            (Ok(Verdict::Held(_)), Ok(Guarded::Held)) => assert!(untouched(&log)),
+            (Ok(Verdict::Pass), Ok(Guarded::Ran(ran))) => {
                 let mut other = vec![MARK; length];
                 assert_eq!(Ok(numbers(ran)), inputs.expected(&mut other));
                 assert_eq!(log, other);
@@ -206,13 +226,13 @@ impl Bench {
         assert!(untouched(&self.condition));
     }
 
-    /// Compares a case, and tells whether its guarded run is refused with 15.
-    fn case(&mut self, seed: u64) -> bool {
+    /// Compares a case.
+    fn case(&mut self, seed: u64) {
         let rng = &mut Rng::new(seed);
         let inputs = Inputs::of(rng);
         let length = generate::log_length(rng);
         let derived = self.derive(rng, &inputs.recipe);
-        let verdict = derived.as_ref().ok().map(|condition| Self::check(condition, &inputs.sheet));
+        let verdict = derived.as_ref().ok().map(|condition| self.check("derived", condition, &inputs.sheet));
         self.run(&inputs, length);
         self.guarded(&inputs, length, &derived, verdict);
         if seed.is_multiple_of(64) {
@@ -229,9 +249,11 @@ impl Bench {
         if rng.chance(50) {
             generate::damage(rng, &mut condition);
         }
-        let sheet = generate::sheet(rng, &listed_types(&condition));
-        let _ = Self::check(&condition, &sheet);
-        verdict == Some(Err(15))
+        let mut sheet = generate::sheet(rng, &listed_types(&condition));
+        if rng.chance(3) {
+            generate::damage(rng, &mut sheet);
+        }
+        let _ = self.check("other", &condition, &sheet);
     }
 }
 
@@ -239,25 +261,31 @@ impl Bench {
 fn generated_cases() {
     let (first, cases) = (setting("SEED", 1), setting("CASES", 100_000));
     println!("SEED={first} CASES={cases}");
-    let (next, blank) = (AtomicU64::new(first), AtomicU64::new(0));
+    let next = AtomicU64::new(first);
+    let work = || {
+        let mut bench = Bench::new();
+        loop {
+            let seed = next.fetch_add(1, Ordering::Relaxed);
+            if seed >= first + cases {
+                return bench.tally;
+            }
+            let compared = std::panic::catch_unwind(std::panic::AssertUnwindSafe(|| bench.case(seed)));
+            compared.unwrap_or_else(|_| panic!("the case SEED={seed} CASES=1 differs"));
+        }
+    };
     let threads = std::thread::available_parallelism().map_or(1, std::num::NonZero::get);
+    let mut tally = Tally::new();
     std::thread::scope(|scope| {
-        for _ in 0..threads {
-            scope.spawn(|| {
-                let mut bench = Bench::new();
-                loop {
-                    let seed = next.fetch_add(1, Ordering::Relaxed);
-                    if seed >= first + cases {
-                        break;
-                    }
-                    let told = std::panic::catch_unwind(std::panic::AssertUnwindSafe(|| bench.case(seed)));
-                    let refused = told.unwrap_or_else(|_| panic!("the case SEED={seed} CASES=1 differs"));
-                    blank.fetch_add(u64::from(refused), Ordering::Relaxed);
-                }
-            });
+        let threads: Vec<_> = (0..threads).map(|_| scope.spawn(work)).collect();
+        for (answer, times) in threads.into_iter().flat_map(|thread| thread.join().unwrap()) {
+            *tally.entry(answer).or_default() += times;
         }
     });
-    let blank = blank.into_inner();
-    println!("{blank} guarded runs are refused with 15");
-    assert!(blank > 0 || cases < 1_000, "15 never occurs");
+    for (answer, times) in &tally {
+        println!("{times:7} on {answer}");
+    }
+    let kinds = ["derived", "other"].iter().flat_map(|kind| ANSWERS.map(|answer| format!("{kind}: {answer}")));
+    for answer in kinds.chain(["other: refused 12".to_string()]) {
+        assert!(tally.contains_key(&answer) || cases < 10_000, "{answer} never occurs");
+    }
 }

@@ -1,6 +1,7 @@
-//! The refusals mean the same here, in docs/REFUSALS.md and in include/gate.h, and the sizes are the header's.
+//! The refusals and causes mean the same here, in docs/REFUSALS.md and in include/gate.h, and the sizes are the
+//! header's.
 
-use gate::{scratch_words, Refusal, CONDITION, RECORD};
+use gate::{scratch_words, Cause, Refusal, CONDITION, RECORD};
 use std::fs;
 
 fn lines(name: &str) -> Vec<String> {
@@ -30,6 +31,19 @@ fn the_header_names_the_refusals() {
     };
     let names: Vec<(u8, String)> = lines("include/gate.h").iter().filter_map(refusal).collect();
     assert_eq!(names, meanings());
+}
+
+#[test]
+fn the_causes_have_their_words() {
+    let named =
+        |cause: Cause| format!("GATE_{} = {}", cause.to_string().to_uppercase().replace(' ', "_"), cause.number());
+    let header = lines("include/gate.h");
+    let page = lines("docs/REFUSALS.md");
+    for cause in Cause::ALL {
+        let (name, words) = (named(cause), format!("| `held {cause}` |"));
+        assert!(header.iter().any(|line| line.trim().starts_with(&name)), "the header has no {name}");
+        assert!(page.iter().any(|line| line.starts_with(&words)), "the page has no {words}");
+    }
 }
 
 #[test]

@@ -1,4 +1,7 @@
-//! Recipes and sheets by their parts, for tests and benchmarks.
+//! Recipes, conjuncts and sheets by their parts, for tests and benchmarks.
+
+use crate::condition::{node, READING};
+use crate::types::{ADD, CONSTANT, CONVERT, DIVIDE, MULTIPLY, SUBTRACT, TYPES};
 
 /// The recipe file of its four sections.
 #[must_use]
@@ -40,4 +43,35 @@ pub fn s(kind: u8, a: u8, b: u8, c: u8) -> [u8; 8] {
 pub fn constant(a: u8, value: i64) -> [u8; 8] {
     let v = (value as u32).to_le_bytes();
     [0, a, 0, 0, v[0], v[1], v[2], v[3]]
+}
+
+/// A conjunct from the words of its listing. A word without a type has the one given.
+///
+/// # Panics
+/// If a word is none of a listing's.
+#[must_use]
+pub fn conjunct(ty: u8, listed: &str) -> Vec<u64> {
+    listed.split_whitespace().map(|word| listed_node(ty, word).unwrap_or_else(|| panic!("{word}"))).collect()
+}
+
+fn listed_node(usual: u8, word: &str) -> Option<u64> {
+    let (word, ty) = match word.split_once(':') {
+        Some((word, name)) => (word, TYPES.iter().position(|ty| ty.name == name)? as u8),
+        None => (word, usual),
+    };
+    let operation = |kind: u8| node(kind, ty, 0, 0);
+    Some(match word {
+        "add" => operation(ADD),
+        "sub" => operation(SUBTRACT),
+        "mul" => operation(MULTIPLY),
+        "div" => operation(DIVIDE),
+        "to" => operation(CONVERT),
+        word => match word.strip_prefix('f') {
+            Some(atom) => {
+                let (field, n) = atom.strip_suffix('>')?.split_once('<')?;
+                node(READING, ty, field.parse().ok()?, n.parse().ok()?)
+            }
+            None => node(CONSTANT, ty, 0, word.parse::<i64>().ok()? as u32),
+        },
+    })
 }

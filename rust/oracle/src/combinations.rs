@@ -23,7 +23,7 @@ struct Fields {
     product: usize,
 }
 
-/// A conjunct of small numbers, so that most sheets pass; now and then a reading is large.
+/// A conjunct of small numbers, so that most sheets pass; now and then a reading is large, or a divisor may be 0.
 pub fn case(rng: &mut Rng) -> Case {
     let mut fields = Fields::new(rng);
     let mut nodes = Vec::new();
@@ -95,6 +95,8 @@ impl Fields {
             let minus = if is_signed(ty) { SUBTRACT } else { ADD };
             let kinds = if by_constant {
                 [ADD, ADD, DIVIDE, DIVIDE, MULTIPLY, minus]
+            } else if rng.chance(1) {
+                [DIVIDE; 6]
             } else {
                 [ADD, ADD, ADD, ADD, ADD, minus]
             };

@@ -1,9 +1,9 @@
-//! The survey gate of document 01 and of document 02's Card 1: recipe, condition,
-//! sheet, gate and run.
+//! The survey gate of document 01 and of document 02's Cards 1 and 2: recipe,
+//! condition, sheet, gate and run.
 //!
 //! An independent implementation, written from the documents for differential
 //! tests and benchmarks. A refusal is the number of its cause in document 01's
-//! table, which takes the card's 15. Cause 1 speaks of lent lengths and cannot
+//! table, which takes Card 1's 15. Cause 1 speaks of lent lengths and cannot
 //! arise here, since the library owns its outputs and scratch.
 
 #![allow(
@@ -21,6 +21,7 @@ pub mod build;
 pub mod columns;
 pub mod combinations;
 pub mod condition;
+pub mod failures;
 pub mod gate;
 pub mod generate;
 pub mod recipe;
@@ -31,7 +32,9 @@ pub mod vectors;
 pub mod whole;
 
 pub use bigint::BigInt;
+pub use gate::Verdict;
 pub use run::{run, Ran};
+pub use types::Cause;
 pub use whole::{whole_bits, whole_run, Noted};
 
 /// The condition file of a recipe, or the refusal 2 to 11.
@@ -41,10 +44,10 @@ pub fn derive(recipe: &[u8]) -> Result<Vec<u8>, u8> {
     Ok(condition::write(&recipe.fields, &conjuncts))
 }
 
-/// The gate: true for pass, false for held, or a refusal: 12, 13, 15 and 14 are
-/// tested in this order.
-pub fn check(condition: &[u8], sheet: &[u8]) -> Result<bool, u8> {
-    gate::check(condition, sheet, |conjunct, sheet| gate::Plan::new(conjunct, sheet).holds())
+/// The gate: pass, held with the cause of the first failure, or a refusal: 12, 13, 15
+/// and 14 are tested in this order.
+pub fn check(condition: &[u8], sheet: &[u8]) -> Result<Verdict, u8> {
+    gate::check(condition, sheet, |conjunct, sheet| gate::Plan::new(conjunct, sheet).first_failure())
 }
 
 /// What the listing program prints for a recipe.

@@ -62,6 +62,14 @@ pub fn width(ty: u8) -> usize {
     (TYPES[ty as usize].bits / 8) as usize
 }
 
+/// Why a step overflows: its result lies above the type's range or below it, or there is no divisor.
+#[derive(Clone, Copy, Debug, PartialEq, Eq)]
+pub enum Cause {
+    Above,
+    Below,
+    NoDivisor,
+}
+
 /// Keeps the low bits of a number that its type has, extended again.
 #[inline]
 #[must_use]
@@ -146,5 +154,33 @@ pub fn fits(from: u8, to: u8, value: u64) -> bool {
         range.lowest <= value as i64
     } else {
         value <= range.highest
+    }
+}
+
+/// A step of kind 2 to 6 in a type, on values of the type `from`: its result, or why it overflows. A conversion
+/// looks at its left operand alone.
+#[inline]
+pub fn step(kind: u8, ty: u8, from: u8, left: u64, right: u64) -> Result<u64, Cause> {
+    let result = match kind {
+        CONVERT => fits(from, ty, left).then_some(left),
+        _ => exact(kind, ty, left, right),
+    };
+    result.ok_or_else(|| cause(kind, number(from, left), number(from, right)))
+}
+
+/// Why a step overflows, where it does.
+fn cause(kind: u8, left: i128, right: i128) -> Cause {
+    let below = match kind {
+        ADD => left + right < 0,
+        SUBTRACT => left < right,
+        DIVIDE if right == 0 => return Cause::NoDivisor,
+        MULTIPLY | DIVIDE => (left < 0) != (right < 0),
+        _ => left < 0,
+    };
+    // Every type has 0, so that a result outside its range lies on the side of its sign.
+    if below {
+        Cause::Below
+    } else {
+        Cause::Above
     }
 }

@@ -1,46 +1,34 @@
 //! Card 1 of document 02: 15 where a field that some conjunct reads has no readings.
 
-use gate_oracle::build::{constant, recipe, s, sheet};
-use gate_oracle::condition::{node, write, READING};
-use gate_oracle::types::{ADD, CONSTANT, MULTIPLY};
+use gate_oracle::build::{conjunct, constant, recipe, s, sheet};
+use gate_oracle::condition::write;
 use gate_oracle::*;
 
 const U8: u8 = 0;
 const MANY: &[u8] = &[0; 128];
+const PASS: Result<Verdict, u8> = Ok(Verdict::Pass);
+const HELD: Result<Verdict, u8> = Ok(Verdict::Held(Cause::Above));
 
 /// What a row shows, its conjuncts as the listing has them but for the type u8, the readings of each field,
 /// and the gate's answer.
-type Row = (&'static str, &'static [&'static str], &'static [&'static [u8]], Result<bool, u8>);
+type Row = (&'static str, &'static [&'static str], &'static [&'static [u8]], Result<Verdict, u8>);
 
 const ROWS: [Row; 11] = [
     ("a blank field is read", &["f0<1> f1<1> mul"], &[&[1], &[]], Err(15)),
-    ("both are filled", &["f0<1> f1<1> mul"], &[&[1], &[1]], Ok(true)),
-    ("a blank field is not read", &["f0<1> f0<2> mul"], &[&[1], &[]], Ok(true)),
+    ("both are filled", &["f0<1> f1<1> mul"], &[&[1], &[1]], PASS),
+    ("a blank field is not read", &["f0<1> f0<2> mul"], &[&[1], &[]], PASS),
     ("a blank field, then too many", &["f1<1>", "f0<1> f0<2> add f0<3> add"], &[MANY, &[]], Err(15)),
     ("a filled field, then too many", &["f1<1>", "f0<1> f0<2> add f0<3> add"], &[MANY, &[0]], Err(14)),
     ("too many, then a blank field", &["f0<1> f0<2> add f0<3> add", "f1<1> 0 add 0 add"], &[MANY, &[]], Err(15)),
     ("too many in a conjunct with a blank field", &["f0<1> f0<2> add f0<3> add f1<1> add"], &[MANY, &[]], Err(15)),
     ("a blank field, then an overflow", &["f0<1>", "255 1 add"], &[&[]], Err(15)),
-    ("a filled field, then an overflow", &["f0<1>", "255 1 add"], &[&[0]], Ok(false)),
+    ("a filled field, then an overflow", &["f0<1>", "255 1 add"], &[&[0]], HELD),
     ("an overflow, then a blank field", &["255 1 add", "f0<1> 0 add"], &[&[]], Err(15)),
-    ("an overflow, and a blank field is not read", &["255 1 add"], &[&[]], Ok(false)),
+    ("an overflow, and a blank field is not read", &["255 1 add"], &[&[]], HELD),
 ];
 
-fn nodes(conjunct: &str) -> Vec<u64> {
-    let atom = |word: &str| {
-        let (field, n) = word.strip_prefix('f')?.strip_suffix('>')?.split_once('<')?;
-        Some(node(READING, U8, field.parse().ok()?, n.parse().ok()?))
-    };
-    let node = |word: &str| match word {
-        "add" => node(ADD, U8, 0, 0),
-        "mul" => node(MULTIPLY, U8, 0, 0),
-        word => atom(word).unwrap_or_else(|| node(CONSTANT, U8, 0, word.parse().unwrap())),
-    };
-    conjunct.split(' ').map(node).collect()
-}
-
 fn condition(fields: usize, conjuncts: &[&str]) -> Vec<u8> {
-    let conjuncts: Vec<Vec<u64>> = conjuncts.iter().map(|conjunct| nodes(conjunct)).collect();
+    let conjuncts: Vec<Vec<u64>> = conjuncts.iter().map(|listed| conjunct(U8, listed)).collect();
     write(&vec![U8; fields], &conjuncts)
 }
 
@@ -69,7 +57,7 @@ fn runs() {
     let in_a_branch = vec![s(11, 1, 0, 0), s(7, 0, 0, 0), s(12, 0, 0, 0), s(13, 0, 0, 0), s(10, 0, 0, 0)];
     let rows = [
         ("a conjunct reads the field", vec![s(7, 0, 0, 0), s(10, 0, 0, 0)], Err(15), ended(2, 0, 0)),
-        ("no conjunct does", vec![s(7, 0, 0, 0), constant(0, 1), s(10, 0, 0, 0)], Ok(true), ended(2, 0, 0)),
+        ("no conjunct does", vec![s(7, 0, 0, 0), constant(0, 1), s(10, 0, 0, 0)], PASS, ended(2, 0, 0)),
         ("a conjunct does, and the run does not", in_a_branch, Err(15), ended(0, 2, 1)),
     ];
     for (what, statements, answer, ran) in rows {

@@ -12,17 +12,18 @@ use gate_oracle::condition::{kind, node, write, Condition, READING};
 use gate_oracle::generate::{self, Rng};
 use gate_oracle::recipe::Recipe;
 use gate_oracle::types::{immediate, width, wrap, ADD, CONSTANT, CONVERT, DIVIDE, MULTIPLY, SUBTRACT, TYPES};
-use gate_oracle::{batched, check, columns, combinations, derive};
+use gate_oracle::{batched, check, columns, combinations, derive, failures, Cause, Verdict};
+use std::collections::BTreeMap;
 use std::fmt::Display;
 
 /// Both evaluators have this answer.
-fn answers(condition: &[u8], sheet: &[u8], answer: Result<bool, u8>, what: impl Display) {
+fn answers(condition: &[u8], sheet: &[u8], answer: Result<Verdict, u8>, what: impl Display) {
     assert_eq!(columns::check(condition, sheet), answer, "columns, {what}");
     assert_eq!(batched::check(condition, sheet), answer, "batched, {what}");
 }
 
 /// The answer of all.
-fn same(condition: &[u8], sheet: &[u8], what: impl Display) -> Result<bool, u8> {
+fn same(condition: &[u8], sheet: &[u8], what: impl Display) -> Result<Verdict, u8> {
     let answer = check(condition, sheet);
     answers(condition, sheet, answer, what);
     answer
@@ -46,6 +47,20 @@ fn many_combinations() {
         let case = combinations::case(&mut Rng::new(seed));
         let _ = same(&case.condition, &case.sheet, seed);
     }
+}
+
+/// Conditions whose first failure is known beforehand.
+#[test]
+fn known_failures() {
+    let mut tally: BTreeMap<String, usize> = BTreeMap::new();
+    for seed in 1..=20_000 {
+        let failures::Case { condition, sheet, verdict } = failures::case(&mut Rng::new(seed));
+        assert_eq!(same(&condition, &sheet, seed), Ok(verdict), "SEED={seed}");
+        *tally.entry(format!("{verdict:?}")).or_default() += 1;
+    }
+    println!("{tally:?}");
+    assert_eq!(tally.len(), 4, "a pass and three causes");
+    assert!(tally.values().all(|&times| times > 2_000));
 }
 
 /// Recipes, sheets and conditions, some of them damaged, as the proved library is compared on.
@@ -165,21 +180,19 @@ fn expression(rng: &mut Rng, fields: &[(u8, Vec<u64>)], ty: u8, size: usize, nod
 
 #[test]
 fn conjuncts_at_the_edges() {
-    let (mut passed, mut held) = (0, 0);
+    let mut tally: BTreeMap<String, usize> = BTreeMap::new();
     for seed in 1..=60_000 {
         let rng = &mut Rng::new(seed);
         let fields = fields_at_the_edges(rng);
         let mut nodes = Vec::new();
         let (ty, size) = (fields[0].0, rng.between(2, 9));
         expression(rng, &fields, ty, size, &mut nodes);
-        match same(&write(&types(&fields), &[nodes]), &sheet(&fields), seed) {
-            Ok(true) => passed += 1,
-            Ok(false) => held += 1,
-            Err(number) => panic!("SEED={seed} is refused with {number}"),
-        }
+        let verdict = same(&write(&types(&fields), &[nodes]), &sheet(&fields), seed);
+        *tally.entry(format!("{verdict:?}")).or_default() += 1;
     }
-    println!("{passed} passed, {held} held");
-    assert!(passed > 10_000 && held > 10_000);
+    println!("{tally:?}");
+    assert_eq!(tally.len(), 4, "a pass and three causes");
+    assert!(tally.values().all(|&times| times > 2_000));
 }
 
 /// Fields of u8 with one reading each that is not 0.
@@ -228,9 +241,9 @@ fn no_combination_is_passed_over() {
         let mut nodes = Vec::new();
         sum(rng, &leaves, &mut nodes);
         let (types, sheet) = (types(&fields), sheet(&fields));
-        answers(&write(&types, &[nodes.clone()]), &sheet, Ok(true), seed);
+        answers(&write(&types, &[nodes.clone()]), &sheet, Ok(Verdict::Pass), seed);
         let constant = nodes.iter_mut().find(|n| kind(**n) == CONSTANT).unwrap();
         *constant = node(CONSTANT, 0, 0, 256 - highest);
-        answers(&write(&types, &[nodes]), &sheet, Ok(false), seed);
+        answers(&write(&types, &[nodes]), &sheet, Ok(Verdict::Held(Cause::Above)), seed);
     }
 }

@@ -33,7 +33,7 @@ fn logged(recipe: &[u8], label: u16, bytes: &[u8]) -> BigInt {
 }
 
 /// The gate's answer on the conjuncts that read no blank field, or nothing if no field is blank.
-fn on_the_others(condition: &[u8], sheet: &[u8]) -> Option<Result<bool, u8>> {
+fn on_the_others(condition: &[u8], sheet: &[u8]) -> Option<Result<Verdict, u8>> {
     let Condition { types, mut conjuncts } = Condition::read(condition).ok()?;
     let read = Sheet::read(sheet, &types).ok()?;
     (0..types.len()).find(|&field| read.readings(field).is_empty())?;
@@ -53,15 +53,19 @@ fn told(condition: &[u8], sheet: &[u8]) -> Vec<String> {
 }
 
 /// The answers that must occur: 15 also where 14 would be met or the sheet held, and a pass with a blank field.
-const ANSWERS: [&str; 8] = [
-    "Ok(true)",
-    "Ok(false)",
+const ANSWERS: [&str; 12] = [
+    "Ok(Pass)",
+    "Ok(Held(Above))",
+    "Ok(Held(Below))",
+    "Ok(Held(NoDivisor))",
     "Err(13)",
     "Err(14)",
     "Err(15)",
     "Err(15) with a blank field, Err(14) on the other conjuncts",
-    "Err(15) with a blank field, Ok(false) on the other conjuncts",
-    "Ok(true) with a blank field, Ok(true) on the other conjuncts",
+    "Err(15) with a blank field, Ok(Held(Above)) on the other conjuncts",
+    "Err(15) with a blank field, Ok(Held(Below)) on the other conjuncts",
+    "Err(15) with a blank field, Ok(Held(NoDivisor)) on the other conjuncts",
+    "Ok(Pass) with a blank field, Ok(Pass) on the other conjuncts",
 ];
 
 #[test]
@@ -119,7 +123,7 @@ fn coherent() {
         };
         if bits.unwrap() > MOST_BITS {
             count("whole: too long to work out".to_string());
-            assert_ne!(verdict, Some(Ok(true)), "case {case}");
+            assert_ne!(verdict, Some(Ok(Verdict::Pass)), "case {case}");
             continue;
         }
         let notes = whole_run(&recipe, &sheet, limit, &choices, log.len()).unwrap();
@@ -134,7 +138,7 @@ fn coherent() {
             assert_eq!(record[2], u8::from(note.overflows > 0), "case {case}");
             let same = logged(&recipe, note.label, &record[4..]) == note.number;
             assert!(same || record[2] == 1, "case {case}");
-            if verdict == Some(Ok(true)) {
+            if verdict == Some(Ok(Verdict::Pass)) {
                 // Demand 3.
                 assert_eq!(record[2], 0, "case {case}: marked though the sheet passed");
                 assert!(same, "case {case}");

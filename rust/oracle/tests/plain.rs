@@ -1,6 +1,6 @@
 //! The quick forms of the library against plain ones: arithmetic in `i128`, the
 //! analysis on trees without any short cut, and the gate by counting through all
-//! combinations.
+//! combinations in order.
 
 #![allow(
     clippy::cast_possible_truncation,
@@ -24,20 +24,26 @@ fn range(ty: u8) -> (i128, i128) {
     }
 }
 
-/// A step in whole numbers, and whether it overflows.
-fn whole_step(kind: u8, ty: u8, left: i128, right: i128) -> (i128, bool) {
-    let (low, high) = range(ty);
-    let result = match kind {
-        ADD => left.checked_add(right),
-        SUBTRACT => left.checked_sub(right),
-        // Only u64 goes past an i128, and then it overflows.
-        MULTIPLY => left.checked_mul(right),
+/// A step in whole numbers, or nothing for a zero divisor.
+fn whole(kind: u8, left: i128, right: i128) -> Option<i128> {
+    match kind {
+        ADD => Some(left + right),
+        SUBTRACT => Some(left - right),
+        // Only u64 goes past an i128, and then it is above every type.
+        MULTIPLY => Some(left.saturating_mul(right)),
         DIVIDE => left.checked_div(right),
         _ => Some(left),
-    };
-    match result {
-        Some(result) => (result, result < low || high < result),
-        None => (0, true),
+    }
+}
+
+/// A step in whole numbers, or why it overflows.
+fn whole_step(kind: u8, ty: u8, left: i128, right: i128) -> Result<i128, Cause> {
+    let (low, high) = range(ty);
+    match whole(kind, left, right) {
+        None => Err(Cause::NoDivisor),
+        Some(result) if result > high => Err(Cause::Above),
+        Some(result) if result < low => Err(Cause::Below),
+        Some(result) => Ok(result),
     }
 }
 
@@ -63,17 +69,20 @@ fn arithmetic() {
             for to in 0..8u8 {
                 let (low, high) = range(to);
                 assert_eq!(fits(ty, to, x as u64), low <= x && x <= high);
+                let converted = step(CONVERT, to, ty, x as u64, x as u64);
+                assert_eq!(converted.map(|value| number(to, value)), whole_step(CONVERT, to, x, x));
                 let back = (x - low).rem_euclid(high - low + 1) + low;
                 assert_eq!(number(to, wrap(to, x as u64)), back);
             }
             for &y in &values {
                 for kind in ADD..=DIVIDE {
-                    let (result, over) = whole_step(kind, ty, x, y);
-                    assert_eq!(exact(kind, ty, x as u64, y as u64).is_none(), over);
+                    let result = step(kind, ty, ty, x as u64, y as u64);
+                    assert_eq!(result.map(|value| number(ty, value)), whole_step(kind, ty, x, y));
                     let (held, marked) = wrapping(kind, ty, x as u64, y as u64);
-                    assert_eq!(marked, over);
+                    assert_eq!(marked, result.is_err());
                     // u64 products past an i128 are left out here.
                     if kind != MULTIPLY || x.checked_mul(y).is_some() {
+                        let result = whole(kind, x, y).unwrap_or(0);
                         assert_eq!(number(ty, held), wrapped(result), "{kind} {ty} {x} {y}");
                     }
                 }
@@ -342,77 +351,147 @@ fn readings(types: &[u8], sheet: &[u8]) -> Vec<Vec<i128>> {
     types.iter().enumerate().map(of_field).collect()
 }
 
-/// The different atoms of a conjunct, and the number of readings of each.
-fn atoms(conjunct: &[u64], readings: &[Vec<i128>]) -> Vec<(u64, usize)> {
-    let atoms: BTreeSet<u64> = conjunct.iter().copied().filter(|&n| kind(n) == 1).collect();
-    atoms.into_iter().map(|n| (n, readings[field(n)].len())).collect()
+/// The different atoms of a conjunct by first appearance, and the number of readings of each.
+type Atoms = Vec<(u64, usize)>;
+
+fn atoms(conjunct: &[u64], readings: &[Vec<i128>]) -> Atoms {
+    let mut atoms = Atoms::new();
+    for &n in conjunct.iter().filter(|&&n| kind(n) == 1) {
+        if atoms.iter().all(|&(atom, _)| atom != n) {
+            atoms.push((n, readings[field(n)].len()));
+        }
+    }
+    atoms
 }
 
-/// Whether a conjunct overflows at no step, its atoms taking the values chosen.
-fn holds(conjunct: &[u64], chosen: &BTreeMap<u64, i128>) -> bool {
+/// The order in which failures are looked for: the right one, and wrong ones.
+#[derive(Clone, Copy, Debug, PartialEq, Eq)]
+enum Order {
+    Right,
+    RightOperandsFirst,
+    FirstAtomFastest,
+    ReadingsBackward,
+    ConjunctsBackward,
+}
+
+const WRONG_ORDERS: [Order; 4] =
+    [Order::RightOperandsFirst, Order::FirstAtomFastest, Order::ReadingsBackward, Order::ConjunctsBackward];
+
+/// The value of a node without operands, the atoms taking the values chosen.
+fn leaf(n: u64, chosen: &BTreeMap<u64, i128>) -> Option<i128> {
+    match kind(n) {
+        0 if ty(n) < 4 => Some(i128::from(rest(n))),
+        0 => Some(i128::from(rest(n) as i32)),
+        1 => Some(chosen[&n]),
+        _ => None,
+    }
+}
+
+/// Works the steps in postfix order.
+fn forward(conjunct: &[u64], chosen: &BTreeMap<u64, i128>) -> Result<(), Cause> {
     let mut stack: Vec<i128> = Vec::new();
     for &n in conjunct {
-        let value = match kind(n) {
-            0 if ty(n) < 4 => i128::from(rest(n)),
-            0 => i128::from(rest(n) as i32),
-            1 => chosen[&n],
-            kind => {
-                let right = stack.pop().unwrap();
-                let left = if kind == CONVERT { right } else { stack.pop().unwrap() };
-                let (result, over) = whole_step(kind, ty(n), left, right);
-                if over {
-                    return false;
-                }
-                result
-            }
+        let value = if let Some(value) = leaf(n, chosen) {
+            value
+        } else {
+            let right = stack.pop().unwrap();
+            let left = if kind(n) == CONVERT { right } else { stack.pop().unwrap() };
+            whole_step(kind(n), ty(n), left, right)?
         };
         stack.push(value);
     }
-    true
+    Ok(())
+}
+
+/// Works the last node's step, its right operand before its left one; wrong where both overflow.
+fn right_first(nodes: &mut dyn Iterator<Item = &u64>, chosen: &BTreeMap<u64, i128>) -> Result<i128, Cause> {
+    let &n = nodes.next().unwrap();
+    if let Some(value) = leaf(n, chosen) {
+        return Ok(value);
+    }
+    let right = right_first(nodes, chosen)?;
+    let left = if kind(n) == CONVERT { right } else { right_first(nodes, chosen)? };
+    whole_step(kind(n), ty(n), left, right)
+}
+
+/// The first failure of a conjunct: its combinations are counted through, and the last atom's reading is the last
+/// digit of the number.
+fn first_failure(conjunct: &[u64], atoms: &[(u64, usize)], readings: &[Vec<i128>], order: Order) -> Option<Cause> {
+    let total: usize = atoms.iter().map(|&(_, count)| count).product();
+    let mut fastest: Atoms = atoms.to_vec();
+    if order != Order::FirstAtomFastest {
+        fastest.reverse();
+    }
+    (0..total).find_map(|mut number| {
+        let mut chosen: BTreeMap<u64, i128> = BTreeMap::new();
+        for &(atom, count) in &fastest {
+            let place = if order == Order::ReadingsBackward { count - 1 - number % count } else { number % count };
+            chosen.insert(atom, readings[field(atom)][place]);
+            number /= count;
+        }
+        match order {
+            Order::RightOperandsFirst => right_first(&mut conjunct.iter().rev(), &chosen).err(),
+            _ => forward(conjunct, &chosen).err(),
+        }
+    })
 }
 
 /// The gate's answer by counting through all combinations, or nothing if these are many.
-fn plain_gate(condition: &Condition, sheet: &[u8]) -> Option<Result<bool, u8>> {
+fn plain_gate(condition: &Condition, sheet: &[u8], order: Order) -> Option<Result<Verdict, u8>> {
     let readings = readings(&condition.types, sheet);
-    let all_atoms: Vec<Vec<(u64, usize)>> = condition.conjuncts.iter().map(|c| atoms(c, &readings)).collect();
-    if all_atoms.iter().flatten().any(|&(_, count)| count == 0) {
+    let mut conjuncts: Vec<(&[u64], Atoms)> =
+        condition.conjuncts.iter().map(|conjunct| (&conjunct[..], atoms(conjunct, &readings))).collect();
+    if order == Order::ConjunctsBackward {
+        conjuncts.reverse();
+    }
+    if conjuncts.iter().any(|(_, atoms)| atoms.iter().any(|&(_, count)| count == 0)) {
         return Some(Err(15));
     }
-    let mut pass = true;
-    for (conjunct, atoms) in condition.conjuncts.iter().zip(&all_atoms) {
-        let total = atoms.iter().try_fold(1usize, |product, &(_, count)| product.checked_mul(count));
-        for combination in 0..total.filter(|&n| n <= 5_000)? {
-            let mut left = combination;
-            let mut chosen: BTreeMap<u64, i128> = BTreeMap::new();
-            for &(atom, count) in atoms {
-                chosen.insert(atom, readings[field(atom)][left % count]);
-                left /= count;
-            }
-            pass &= holds(conjunct, &chosen);
-        }
+    let total = |atoms: &[(u64, usize)]| atoms.iter().try_fold(1usize, |n, &(_, count)| n.checked_mul(count));
+    if !conjuncts.iter().all(|(_, atoms)| total(atoms).is_some_and(|n| n <= 5_000)) {
+        return None;
     }
-    Some(Ok(pass))
+    let cause = conjuncts.iter().find_map(|(nodes, atoms)| first_failure(nodes, atoms, &readings, order));
+    Some(Ok(cause.map_or(Verdict::Pass, Verdict::Held)))
 }
 
-#[test]
-fn gate() {
-    let mut compared = 0;
-    for case in 0..8_000 {
-        let rng = &mut Rng::new(9_000_000 + case);
-        let file = if rng.chance(50) {
-            generate::condition(rng)
-        } else {
-            match derive(&generate::recipe(rng)) {
-                Ok(file) => file,
-                Err(_) => continue,
-            }
-        };
-        let Ok(condition) = Condition::read(&file) else { continue };
-        let sheet = generate::sheet(rng, &condition.types);
-        if let Some(answer) = plain_gate(&condition, &sheet) {
-            assert_eq!(check(&file, &sheet), answer, "case {case}");
-            compared += 1;
+/// A condition, made up or derived, and a sheet, where there is one.
+fn files(rng: &mut Rng) -> Option<(Vec<u8>, Vec<u8>)> {
+    match rng.below(10) {
+        0 => {
+            let failures::Case { condition, sheet, .. } = failures::case(rng);
+            Some((condition, sheet))
+        }
+        place => {
+            let recipe = generate::recipe(rng);
+            let file = if place < 5 { Ok(generate::condition(rng)) } else { derive(&recipe) }.ok()?;
+            let sheet = generate::sheet(rng, &Condition::read(&file).ok()?.types);
+            Some((file, sheet))
         }
     }
-    assert!(compared > 4_000, "{compared}");
+}
+
+/// Beside the answers it is counted how often a wrong order would give another one.
+#[test]
+fn gate() {
+    let mut tally: BTreeMap<String, usize> = BTreeMap::new();
+    let mut count = |what: String| *tally.entry(what).or_default() += 1;
+    for case in 0..12_000 {
+        let Some((file, sheet)) = files(&mut Rng::new(9_000_000 + case)) else { continue };
+        let condition = Condition::read(&file).unwrap();
+        let Some(answer) = plain_gate(&condition, &sheet, Order::Right) else { continue };
+        assert_eq!(check(&file, &sheet), answer, "case {case}");
+        count(format!("{answer:?}"));
+        for order in WRONG_ORDERS {
+            if plain_gate(&condition, &sheet, order) != Some(answer) {
+                count(format!("{order:?} differs"));
+            }
+        }
+    }
+    println!("{tally:?}");
+    let answers = ["Ok(Pass)", "Ok(Held(Above))", "Ok(Held(Below))", "Ok(Held(NoDivisor))", "Err(15)"];
+    let differs = WRONG_ORDERS.map(|order| format!("{order:?} differs"));
+    for what in answers.into_iter().chain(differs.iter().map(String::as_str)) {
+        assert!(tally.get(what).is_some_and(|&times| times > 50), "{what} is rare");
+    }
 }

@@ -1,6 +1,8 @@
 //! The soundings of document 01.
 
 use gate_oracle::build::{constant, recipe, s};
+use gate_oracle::Cause::{Above, Below, NoDivisor};
+use gate_oracle::Verdict::{Held, Pass};
 use gate_oracle::*;
 
 const U16: u8 = 1;
@@ -8,37 +10,37 @@ const U32: u8 = 2;
 const I32: u8 = 6;
 
 /// The gate and the one record of: two constants, a step on them, a site.
-fn binary(ty: u8, kind: u8, left: i64, right: i64) -> (bool, u8, i64) {
+fn binary(ty: u8, kind: u8, left: i64, right: i64) -> (Verdict, u8, i64) {
     let statements = [constant(0, left), constant(1, right), s(kind, 2, 0, 1), s(10, 2, 0, 0)];
     judged(&recipe(&[], &[ty; 3], &[], &statements))
 }
 
-fn conversion(from: u8, to: u8, value: i64) -> (bool, u8, i64) {
+fn conversion(from: u8, to: u8, value: i64) -> (Verdict, u8, i64) {
     let statements = [constant(0, value), s(6, 1, 0, 0), s(10, 1, 0, 0)];
     judged(&recipe(&[], &[from, to], &[], &statements))
 }
 
-fn judged(recipe: &[u8]) -> (bool, u8, i64) {
+fn judged(recipe: &[u8]) -> (Verdict, u8, i64) {
     let mut log = [0xA5; 12];
     let ran = run(recipe, &[], 100, &[], &mut log).unwrap();
     assert_eq!((ran.end, ran.records), (0, 1));
-    let pass = check(&derive(recipe).unwrap(), &[]).unwrap();
-    (pass, log[2], i64::from_le_bytes(log[4..].try_into().unwrap()))
+    let verdict = check(&derive(recipe).unwrap(), &[]).unwrap();
+    (verdict, log[2], i64::from_le_bytes(log[4..].try_into().unwrap()))
 }
 
 #[test]
 fn arithmetic() {
-    assert_eq!(binary(I32, 4, 46_340, 46_340), (true, 0, 2_147_395_600));
-    assert!(!binary(I32, 4, 46_341, 46_341).0);
-    assert_eq!(binary(U32, 4, 65_535, 65_535), (true, 0, 4_294_836_225));
-    assert_eq!(binary(I32, 3, -2_147_483_648, 0), (true, 0, -2_147_483_648));
-    assert_eq!(binary(I32, 3, -2_147_483_648, 1), (false, 1, 2_147_483_647));
-    assert_eq!(binary(I32, 5, -2_147_483_648, -1), (false, 1, -2_147_483_648));
-    assert_eq!(binary(I32, 5, -7, 2), (true, 0, -3));
-    assert_eq!(binary(I32, 5, -7, 0), (false, 1, 0));
-    assert_eq!(conversion(U32, U16, 65_535), (true, 0, 65_535));
-    assert_eq!(conversion(U32, U16, 65_536), (false, 1, 0));
-    assert_eq!(conversion(I32, U32, -1), (false, 1, 4_294_967_295));
+    assert_eq!(binary(I32, 4, 46_340, 46_340), (Pass, 0, 2_147_395_600));
+    assert_eq!(binary(I32, 4, 46_341, 46_341).0, Held(Above));
+    assert_eq!(binary(U32, 4, 65_535, 65_535), (Pass, 0, 4_294_836_225));
+    assert_eq!(binary(I32, 3, -2_147_483_648, 0), (Pass, 0, -2_147_483_648));
+    assert_eq!(binary(I32, 3, -2_147_483_648, 1), (Held(Below), 1, 2_147_483_647));
+    assert_eq!(binary(I32, 5, -2_147_483_648, -1), (Held(Above), 1, -2_147_483_648));
+    assert_eq!(binary(I32, 5, -7, 2), (Pass, 0, -3));
+    assert_eq!(binary(I32, 5, -7, 0), (Held(NoDivisor), 1, 0));
+    assert_eq!(conversion(U32, U16, 65_535), (Pass, 0, 65_535));
+    assert_eq!(conversion(U32, U16, 65_536), (Held(Above), 1, 0));
+    assert_eq!(conversion(I32, U32, -1), (Held(Below), 1, 4_294_967_295));
 }
 
 #[test]
@@ -60,7 +62,7 @@ fn combinations() {
     // One field with 128 readings of 1.
     let mut sheet = vec![8, 0, 0, 0, 128, 0, 0, 0];
     sheet.extend([1; 128]);
-    for (atoms, answer) in [(2, Ok(true)), (3, Err(14))] {
+    for (atoms, answer) in [(2, Ok(Pass)), (3, Err(14))] {
         let mut statements: Vec<[u8; 8]> = (0..atoms).map(|v| s(7, v, 0, 0)).collect();
         statements.extend((1..atoms).map(|v| s(4, 0, 0, v)));
         statements.push(s(10, 0, 0, 0));
@@ -80,7 +82,7 @@ fn two_reads() {
 fn empty_files() {
     let empty = recipe(&[], &[], &[], &[]);
     assert_eq!(derive(&empty), Ok(vec![0; 8]));
-    assert_eq!(check(&[0; 8], &[]), Ok(true));
+    assert_eq!(check(&[0; 8], &[]), Ok(Pass));
     assert_eq!(run(&empty, &[], 0, &[], &mut []), Ok(Ran { end: 0, steps: 0, records: 0 }));
     assert_eq!(derive(&empty[..31]), Err(2));
     assert_eq!(check(&[0; 7], &[]), Err(12));

@@ -1,6 +1,7 @@
 -- `arith::checked_step` meets its contract.
 -- Assumes nothing.
-use mathlib.Core.Path.{sym, _∙_}
+use mathlib.Core.Path.{sym, ap, _∙_}
+use Rattle.arith.specs.Step.{overflow}
 use Rattle.arith.specs.Whole.{valueOf}
 use Rattle.arith.proofs.Held.{fits-low}
 use Rattle.arith.proofs.StepLaws.{step-fits}
@@ -14,8 +15,14 @@ exact-requires c κs = search needs
 overflowed-requires : tie.Need-overflowed-requires
 overflowed-requires c κs = search needs
 
+cause-of-requires : tie.Need-cause-of-requires
+cause-of-requires c κs = search needs
+
 returns : tie.Need-returns
-returns c = λ ty row. rw (← c .before .overflowed .ensures ty _ row (c .before .before .exact .ensures), c .if1 .taken)
+returns c = λ ty row.
+    let h = c .before .before .before .exact .ensures in
+    let e = sym (c .before .before .overflowed .ensures ty _ row h) ∙ c .before .if1 .taken in
+    rw e (ap overflow (c .cause-of .ensures ty _ h e))
 
 returns-2 : tie.Need-returns-2
 returns-2 c = λ ty row.
@@ -25,4 +32,4 @@ returns-2 c = λ ty row.
     rw (e, fits-low ty _ h (step-fits (a .op) ty (valueOf (a .a)) (valueOf (a .b)) e))
 
 pub checked-step-spec : {M : Type 1} → statement M
-checked-step-spec = tie.close (tie.spec exact-requires overflowed-requires returns returns-2)
+checked-step-spec = tie.close (tie.spec exact-requires overflowed-requires cause-of-requires returns returns-2)

@@ -1,13 +1,15 @@
 -- `filter::judge` meets its contract: what the numbers of combinations tell decides, or lets the evaluations decide.
 -- Assumes nothing.
-use mathlib.Core.Path.{_≡_, sym, subst, _∙_}
-use mathlib.Core.Bool.{true, false}
+use mathlib.Core.Path.{_≡_, sym, ap, subst, _∙_}
 use borrow.Author.Needs.{needs}
+use Rattle.model.specs.Refusals.{ok}
 use Rattle.model.specs.Conjunct.{Conjuncts}
 use Rattle.model.specs.Input.{Input}
 use Rattle.condition.specs.Answers.{conjunctsOf}
-use Rattle.plan.specs.Readings.{Counted}
-use Rattle.filter.specs.Verdict.{Told}
+use Rattle.plan.specs.Readings.{Counted, Decoded}
+use Rattle.evaluator.specs.Answer.{answerOf}
+use Rattle.evaluator.specs.declared.Answer.{Answer}
+use Rattle.filter.specs.Verdict.{Told, judged}
 use Rattle.filter.specs.declared.Combinations.{Combinations}
 use Rattle.filter.specs.declared.Combinations.the-variants.{Blank, TooMany, Within}
 use Rattle.filter.proofs.Verdicts.{judged-blank, judged-too-many, judged-within, none-blank}
@@ -44,11 +46,24 @@ enum-told-2 c = search needs
 enum-told-3 : tie.Need-enum-told-3
 enum-told-3 c = search needs
 
-all-hold-requires : tie.Need-all-hold-requires
-all-hold-requires c κs =
+try-all-requires : tie.Need-try-all-requires
+try-all-requires c κs =
     let after = c .before .before in
     let s = start after in
     (s .pre .0, s .pre .1, none-blank (s .args .counts .now) (conjuncts after) (λ I n. told-within c I n .0))
+
+enum-told-4 : tie.Need-enum-told-4
+enum-told-4 c = search needs
+
+enum-known-cause : tie.Need-enum-known-cause
+enum-known-cause c = search needs
+
+-- the verdict by the evaluations' answer r
+evaluated : (c : tie.After-try-all) (r : Answer) → c .try-all .result ≡ r → (I : Input)
+    → Decoded I (start (c .before .before .before) .args .counts .now) (start (c .before .before .before) .args .mags .now) (start (c .before .before .before) .args .negs .now)
+    → ok (answerOf r) ≡ judged I (conjuncts (c .before .before .before))
+evaluated c r e I d =
+    judged-within I (conjuncts (c .before .before .before)) (told-within (c .before) I (d .number)) (answerOf r) (sym (ap answerOf e) ∙ c .try-all .ensures I d)
 
 returns : tie.Need-returns
 returns c = λ I d. let after = c .before .before in sym (judged-blank I (conjuncts after) (told after Blank (c .enum-told .given .1) I (d .number)))
@@ -57,14 +72,10 @@ returns-2 : tie.Need-returns-2
 returns-2 c = λ I d. let after = c .before .before in sym (judged-too-many I (conjuncts after) (told after TooMany (c .enum-told2 .given .1) I (d .number)))
 
 returns-3 : tie.Need-returns-3
-returns-3 c = λ I d.
-    let arm = c .before .before in
-    sym (judged-within I (conjuncts (arm .before .before)) (told-within arm I (d .number)) true (sym (c .before .all-hold .ensures I d) ∙ c .if1 .taken))
+returns-3 c = λ I d. evaluated (c .before .before) _ (c .enum-told4 .given .1) I d
 
 returns-4 : tie.Need-returns-4
-returns-4 c = λ I d.
-    let arm = c .before .before in
-    sym (judged-within I (conjuncts (arm .before .before)) (told-within arm I (d .number)) false (sym (c .before .all-hold .ensures I d) ∙ c .if1 .left))
+returns-4 c = λ I d. evaluated (c .before .before .before) _ (c .before .cause .given .1) I d
 
 pub judge-spec : {M : Type 1} → statement M
 judge-spec =
@@ -74,7 +85,9 @@ judge-spec =
     enum-told
     enum-told-2
     enum-told-3
-    all-hold-requires
+    try-all-requires
+    enum-told-4
+    enum-known-cause
     returns
     returns-2
     returns-3

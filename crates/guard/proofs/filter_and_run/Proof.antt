@@ -5,9 +5,12 @@ use Prim.Native.Nat.{ℕ}
 use lib.ListN.{take}
 use borrow.Author.Needs.{needs}
 use Rattle.model.specs.Filter.{filterInput}
+use Rattle.model.specs.Failure.{answerNumber, verdict}
+use Rattle.model.proofs.Verdicts.{verdict-answer}
 use Rattle.filter.specs.Verdict.{verdictOf}
+use Rattle.filter.specs.declared.Verdict.{Verdict}
 use Rattle.model.specs.Guarded.{guarded}
-use Rattle.model.specs.Refusals.{wrongBlocks}
+use Rattle.model.specs.Refusals.{mapped, wrongBlocks}
 use Rattle.model.proofs.Lent.{scratch-as-it-was}
 use Rattle.analysis.specs.Deriving.{analysisWords}
 use Rattle.guard.proofs.Behind.{guards-refused, guards-held, not-filtered, is-held, part-first}
@@ -24,10 +27,12 @@ abbrev start : tie.After-check → tie.Start
 start c = c .before .before .before .before .before .before .before .before .before
 
 -- the verdict is on the condition that was derived
-filtered : (c : tie.After-check) → verdictOf (c .check .result) ≡ filterInput (take (start c .args .n) (start c .args .file .now)) (start c .args .input .now)
-filtered c =
+filtered : (c : tie.After-check) (v : Verdict) → c .check .result ≡ v
+    → filterInput (take (start c .args .n) (start c .args .file .now)) (start c .args .input .now) ≡ mapped answerNumber (verdictOf v)
+filtered c v e =
     let a = start c .args in
-    c .check .ensures ∙ ap (λ (C : List ℕ). filterInput C (a .input .now)) (part-first (a .file .now) (a .n))
+    let C = take (a .n) (a .file .now) in
+    verdict-answer C (a .input .now) (verdictOf v) (sym (ap verdictOf e) ∙ c .check .ensures ∙ ap (λ (D : List ℕ). verdict D (a .input .now)) (part-first (a .file .now) (a .n)))
 
 -- ---- the answers
 
@@ -56,7 +61,7 @@ run-passed-requires : tie.Need-run-passed-requires
 run-passed-requires c κs =
     let told = c .before .before .before in
     let k = told .before .before in
-    (start k .pre, sym (ap verdictOf (told .enum-told2 .given .1)) ∙ filtered k)
+    (start k .pre, filtered k _ (told .enum-told2 .given .1))
 
 returns : tie.Need-returns
 returns c =
@@ -67,7 +72,7 @@ returns c =
     let s = a .scratch .now in
     let n = c .before .verdict .given .0 .0 in
     let o = guarded program input (a .limit) (a .choices .now) (a .log .now) in
-    let f = sym (filtered k) ∙ ap verdictOf (c .before .verdict .given .1) in
+    let f = filtered k _ (c .before .verdict .given .1) in
     let not = not-filtered program input (a .limit) (a .choices .now) (a .log .now) (take (a .n) (a .file .now)) (start k .pre .derived) n f in
     guards-refused program input (a .limit) (a .choices .now) o (a .condition .now) (a .log .now) s n (a .log .now) s not refl
     (scratch-as-it-was analysisWords wrongBlocks o s)
@@ -80,7 +85,7 @@ returns-2 c =
     let input = a .input .now in
     let s = a .scratch .now in
     let o = guarded program input (a .limit) (a .choices .now) (a .log .now) in
-    let f = sym (filtered k) ∙ ap verdictOf (c .enum-told .given .1) in
+    let f = filtered k _ (c .enum-told .given .1) in
     let is = is-held program input (a .limit) (a .choices .now) (a .log .now) (take (a .n) (a .file .now)) (start k .pre .derived) f in
     guards-held program input (a .limit) (a .choices .now) o (a .condition .now) (a .log .now) s s is (scratch-as-it-was analysisWords wrongBlocks o s)
 

@@ -75,7 +75,7 @@ returns c =
     let r = ran-lent (length (a .scratch .now)) program input (a .limit) (a .choices .now) (a .log .now) (refused n) (pre .0 .words)
     (sym (ap (λ x. runAnswer x log′) told) ∙ k .run .ensures .answer) in
     guards-refused program input (a .limit) (a .choices .now) o (a .condition .now) (a .log .now) (a .scratch .now) n log′ (k .run .last .1 .1 .1 .1 .1 .0)
-    (not-run program input (a .limit) (a .choices .now) (a .log .now) C (pre .0 .derived) n (sym (pre .1)) r)
+    (not-run program input (a .limit) (a .choices .now) (a .log .now) C (pre .0 .derived) n (pre .1) r)
     (subst (λ x. Kept x (a .log .now) log′) told (k .run .ensures .log)) (scratch-left k)
 
 same-length-3 : tie.Need-same-length-3
@@ -105,9 +105,9 @@ returns-2 c =
     let r = ran-lent (length (a .scratch .now)) program input (a .limit) (a .choices .now) (a .log .now) (ok R) (pre .0 .words)
     (sym (ap (λ x. runAnswer x log′) told) ∙ k .run .ensures .answer) in
     guards-ended program input (a .limit) (a .choices .now) o (a .condition .now) (a .log .now) (a .scratch .now) C R (put .put-bytes .last .0)
-    (k .run .last .1 .1 .1 .1 .1 .0) (is-run program input (a .limit) (a .choices .now) (a .log .now) C (pre .0 .derived) R (sym (pre .1)) r)
+    (k .run .last .1 .1 .1 .1 .1 .0) (is-run program input (a .limit) (a .choices .now) (a .log .now) C (pre .0 .derived) R (pre .1) r)
     (put .put-bytes .ensures)
-    (demand3 program C input (a .limit) (a .choices .now) (a .log .now) R (pre .0 .derived) (sym (pre .1)) r) (scratch-left k)
+    (demand3 program C input (a .limit) (a .choices .now) (a .log .now) R (pre .0 .derived) (pre .1) r) (scratch-left k)
 
 pub run-passed-spec : {M : Type 1} → statement M
 run-passed-spec =

@@ -7,7 +7,7 @@ use Rattle.read_cases.proofs.main.Tie as tie
 
 -- how many cases are stored
 abbrev caseCount : ℕ
-caseCount = 184
+caseCount = 287
 
 abbrev Inv-loop : tie.InvT-loop
 Inv-loop i₀ i = i ≤ caseCount

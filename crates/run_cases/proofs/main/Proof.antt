@@ -7,7 +7,7 @@ use Rattle.run_cases.proofs.main.Tie as tie
 
 -- how many cases are stored
 abbrev caseCount : ℕ
-caseCount = 190
+caseCount = 293
 
 abbrev Inv-loop : tie.InvT-loop
 Inv-loop i₀ i = i ≤ caseCount

@@ -3,18 +3,19 @@
 use gate_oracle::build;
 use gate_oracle::condition::{node, write, READING};
 use gate_oracle::types::{width, ADD, CONSTANT, CONVERT, DIVIDE, MULTIPLY, SUBTRACT};
+use gate_oracle::{Cause, Verdict};
 
 const U32: u8 = 2;
 const U64: u8 = 3;
 const I32: u8 = 6;
 const I64: u8 = 7;
 
-/// A line of a table: what it shows, the files, and whether the sheet passes.
+/// A line of a table: what it shows, the files, and the verdict.
 pub struct Case {
     pub name: &'static str,
     pub condition: Vec<u8>,
     pub sheet: Vec<u8>,
-    pub passes: bool,
+    pub verdict: Verdict,
 }
 
 /// A sheet that passes, of fields of one type.
@@ -23,7 +24,7 @@ fn case(name: &'static str, ty: u8, conjuncts: &[Vec<u64>], fields: &[Vec<i64>])
         readings.iter().flat_map(|reading| reading.to_le_bytes()[..width(ty)].to_vec()).collect()
     };
     let sheet = build::of_parts(&fields.iter().map(bytes).collect::<Vec<_>>());
-    Case { name, condition: write(&vec![ty; fields.len()], conjuncts), sheet, passes: true }
+    Case { name, condition: write(&vec![ty; fields.len()], conjuncts), sheet, verdict: Verdict::Pass }
 }
 
 /// One conjunct of a field with 32 readings.
@@ -164,10 +165,20 @@ fn filled(name: &'static str, fields: usize, readings: i64, conjuncts: &[Vec<u64
     case(name, U32, conjuncts, &vec![(1..=readings).collect(); fields])
 }
 
-/// A sheet that one combination holds: that of 4 times the same reading.
+/// Additions on the sum of 4 atoms of one field, of whose readings one is large.
+fn with_large(name: &'static str, place: i64, large: i64) -> Case {
+    let reading = |i: i64| if i == place { large } else { 1 + i };
+    usual(name, U32, sum(U32, 4, &by(U32, &[(ADD, 1)])), reading)
+}
+
+/// A sheet that one combination holds: that of 4 times the large reading.
 fn held(name: &'static str, place: i64) -> Case {
-    let reading = |i: i64| if i == place { 1 << 30 } else { 1 + i };
-    Case { passes: false, ..usual(name, U32, sum(U32, 4, &by(U32, &[(ADD, 1)])), reading) }
+    Case { verdict: Verdict::Held(Cause::Above), ..with_large(name, place, 1 << 30) }
+}
+
+/// The same conjunct on a sheet that just passes: the large reading is 15 less, and 56 is added to 4 times it.
+fn just_passes(name: &'static str, place: i64) -> Case {
+    with_large(name, place, (1 << 30) - 15)
 }
 
 /// The product of the first atoms of fields, and additions up to so many nodes.
@@ -196,6 +207,7 @@ pub fn sheets() -> Vec<Case> {
         held("119 nodes, held by the first of 1,048,576 combinations", 0),
         held("the same, held in the middle", 16),
         held("the same, held by the last", 31),
+        just_passes("the same with a last reading that just passes", 31),
     ]
 }
 

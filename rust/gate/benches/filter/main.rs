@@ -16,20 +16,22 @@
 
 mod cases;
 mod stack;
+#[path = "../../tests/told/mod.rs"]
+mod told;
 
 use cases::Case;
-use gate::{check, Verdict};
-use gate_oracle::{batched, columns};
+use gate_oracle::{batched, columns, Verdict};
 use std::hint::black_box;
+use told::told;
 
-type Evaluator = fn(&[u8], &[u8]) -> bool;
+type Evaluator = fn(&[u8], &[u8]) -> Result<Verdict, u8>;
 
 /// The proved gate first.
 const EVALUATORS: [(&str, Evaluator); 4] = [
-    ("proved", |condition, sheet| check(condition, sheet) == Ok(Verdict::Pass)),
-    ("independent", |condition, sheet| gate_oracle::check(condition, sheet) == Ok(true)),
-    ("columns", |condition, sheet| columns::check(condition, sheet) == Ok(true)),
-    ("batched", |condition, sheet| batched::check(condition, sheet) == Ok(true)),
+    ("proved", |condition, sheet| told(gate::check(condition, sheet))),
+    ("independent", gate_oracle::check),
+    ("columns", columns::check),
+    ("batched", batched::check),
 ];
 
 const ROUNDS: usize = 7;
@@ -57,7 +59,7 @@ fn now() -> f64 {
 fn timed(evaluator: Evaluator, case: &Case, turns: u32) -> f64 {
     let start = now();
     for _ in 0..turns {
-        black_box(evaluator(black_box(&case.condition), &case.sheet));
+        let _ = black_box(evaluator(black_box(&case.condition), &case.sheet));
     }
     (now() - start) / f64::from(turns)
 }
@@ -65,7 +67,7 @@ fn timed(evaluator: Evaluator, case: &Case, turns: u32) -> f64 {
 /// The seconds of a check by each evaluator, the least of rounds taken in turn.
 fn times(case: &Case) -> [f64; EVALUATORS.len()] {
     let turns = EVALUATORS.map(|(name, evaluator)| {
-        assert_eq!(evaluator(&case.condition, &case.sheet), case.passes, "{}: {name}", case.name);
+        assert_eq!(evaluator(&case.condition, &case.sheet), Ok(case.verdict), "{}: {name}", case.name);
         (ROUND / timed(evaluator, case, 1)).ceil() as u32
     });
     let mut least = [f64::MAX; EVALUATORS.len()];

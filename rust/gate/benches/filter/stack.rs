@@ -2,6 +2,7 @@
 
 use crate::cases::deepest;
 use crate::EVALUATORS;
+use gate_oracle::Verdict;
 
 const BYTES: usize = 262_144;
 
@@ -11,5 +12,6 @@ pub fn run() {
     let evaluator = EVALUATORS[0].1;
     let run = move || evaluator(&case.condition, &case.sheet);
     let answer = std::thread::Builder::new().stack_size(BYTES).spawn(run).unwrap().join().unwrap();
-    println!("\n20 atoms on a stack of {BYTES} bytes: {}", if answer { "pass" } else { "not passed" });
+    let passes = answer == Ok(Verdict::Pass);
+    println!("\n20 atoms on a stack of {BYTES} bytes: {}", if passes { "pass" } else { "not passed" });
 }
