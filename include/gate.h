@@ -1,6 +1,6 @@
 /* The survey gate: from a recipe to its condition, from a condition and a sheet to a verdict, and a
  * recipe's run. Each function is proved to equal its definition in document 01, with document 02's
- * Cards 1 and 2, for every input. docs/FORMATS.md has the files byte by byte, docs/REFUSALS.md the
+ * Cards 1 to 3, for every input. docs/FORMATS.md has the files byte by byte, docs/REFUSALS.md the
  * refusals and the causes of holds, examples/gate.c a program.
  *
  * Slices. A slice is a pointer and a number of elements. With a length of 0 the pointer may be NULL,

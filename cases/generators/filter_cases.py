@@ -3,16 +3,16 @@
 
 The verdicts come from the vectors' answers; a condition whose answer is empty is left out. In the first cases, which are of sets
 without causes, a hold is `held` alone. The cases beside the vectors follow: document 01's example of one field with 128
-readings, here a u32 in which nothing overflows; blank fields, whose refusal 15 stands between 13 and 14; and holds, with the
-cause of the first failure, as worked out by hand."""
+readings, here a u32 in which nothing overflows; blank fields, whose refusal 15 stands between 13 and 14; holds, with the cause
+of the first failure, as worked out by hand; and sheets with wrong pairs, under a condition that has fields alone."""
 import sys
-from typing import List, NamedTuple, Sequence
+from typing import List, NamedTuple, Sequence, Tuple
 
 from stored import Stored, four
 from vectors import cases
 
 TYPES = ("u8", "u16", "u32", "u64", "i8", "i16", "i32", "i64")
-U8, U32, U64, I8, I32 = (TYPES.index(name) for name in ("u8", "u32", "u64", "i8", "i32"))
+U8, U16, U32, U64, I8, I32 = (TYPES.index(name) for name in ("u8", "u16", "u32", "u64", "i8", "i32"))
 CONSTANT, READING = 0, 1
 OPERATIONS = {"add": 2, "sub": 3, "mul": 4, "div": 5, "to": 6}
 
@@ -124,6 +124,32 @@ def first_failures() -> List[Beside]:
     ]
 
 
+def paired(what: str, answer: str, types: Sequence[int], size: int, *pairs: Tuple[int, int]) -> Beside:
+    """A sheet of this size with these pairs of offset and length, under the condition of such fields without a conjunct."""
+    table = b"".join(four(offset) + four(length) for offset, length in pairs)
+    return Beside(what, condition(types), table.ljust(size, bytes([7])), answer)
+
+
+def wrong_pairs() -> List[Beside]:
+    """Sheets whose pairs are wrong in one way or another, and some that are right beside them."""
+    three, wrong = [U8, U8, U8], "refused 13"
+    return [
+        paired("the second pair is too long and ends past the file, the third begins elsewhere", wrong, three, 26, (24, 1), (25, 200), (9, 0)),
+        paired("the second pair ends past the file, the third begins elsewhere", wrong, three, 26, (24, 1), (25, 100), (9, 0)),
+        paired("the second pair is blank and a byte late, the third ends the file", wrong, three, 26, (24, 1), (26, 0), (25, 1)),
+        paired("the second pair leaves a byte out, the third ends the file", wrong, three, 28, (24, 1), (26, 1), (27, 1)),
+        paired("the third pair ends a byte past the file", wrong, three, 26, (24, 1), (25, 0), (25, 2)),
+        paired("no pair is wrong, and a byte is left over", wrong, three, 27, (24, 1), (25, 0), (25, 1)),
+        paired("the same without that byte", "pass", three, 26, (24, 1), (25, 0), (25, 1)),
+        paired("the file is shorter than its table", wrong, three, 23, (24, 0), (24, 0)),
+        paired("no fields, and a byte", wrong, [], 1),
+        paired("no fields, and no byte", "pass", [], 0),
+        paired("one and a half readings", wrong, [U16], 11, (8, 3)),
+        paired("129 readings", wrong, [U16], 266, (8, 258)),
+        paired("128 readings", "pass", [U16], 264, (8, 256)),
+    ]
+
+
 def quotient(number: int) -> str:
     """What has no divisor in the combination with this number, from 0, and is small in all others."""
     return f"1 {less(number)} div"
@@ -148,6 +174,7 @@ def beside() -> List[Beside]:
         Beside("the same with three atoms, 2,097,152 combinations", condition([U32], three), full, "refused 14"),
         *blank_fields(),
         *first_failures(),
+        *wrong_pairs(),
     ]
 
 

@@ -93,6 +93,14 @@ def sheet_place(case, types):
     return place(lambda: readings_of(case.content("sheet"), types, names_of(types)))
 
 
+def pair_place(one):
+    """Where the sheet of a case beside the vectors is wrong."""
+    if one.answer != "refused 13":
+        return ""
+    types = Condition.from_bytes(one.condition).types
+    return place(lambda: readings_of(one.sheet, types, names_of(types)))
+
+
 def verdict_told(case, kind, answer):
     """The gate's answer on a condition of the case, with the place of a refusal."""
     if not answer:
@@ -143,7 +151,7 @@ def sets_told(outside):
 
 def beside_told(first):
     """The rows of the cases beside the vectors, whose numbers start with this one."""
-    rows = [("filter_cases", k, f"{one.what}: {one.answer}") for k, one in enumerate(filter_cases.beside(), first)]
+    rows = [("filter_cases", k, f"{one.what}: {told(one.answer, pair_place(one))}") for k, one in enumerate(filter_cases.beside(), first)]
     rows += [("run_cases", k, one.what) for k, one in enumerate(run_cases.beside(), first)]
     return "".join(f"| `{program}` | {number:03d} | {what} |\n" for program, number, what in rows)
 

@@ -38,7 +38,7 @@ class Sheet:
 
     @classmethod
     def from_bytes(cls, data: bytes, recipe: Recipe) -> "Sheet":
-        """The sheet of a file; raises Refused with 13 and the wrong entry."""
+        """The sheet of a file; raises Refused with 13 and the first field whose pair is wrong."""
         return cls(recipe.types, readings_of(data, recipe.types, [part.name for part in recipe.fields]))
 
     @classmethod
@@ -54,7 +54,10 @@ class Sheet:
         if not data.strip():
             raise Trouble(f"{shown(name)}: empty; the first line of a table names the fields")
         if b"\0" in data and data[:2] not in files.UTF_16_MARKS:
-            raise Trouble(f"{shown(name)}: neither a table of readings nor a sheet's file")
+            try:
+                return cls.from_bytes(data, recipe)
+            except Refused as refused:
+                raise Trouble(f"{shown(name)}: no table of readings, for its zero bytes, and no sheet's file: {refused.place}") from None
         text, _ = files.decoded(data, name)
         return cls.from_csv(text, recipe, name)
 
@@ -90,10 +93,10 @@ def packed(types: Sequence[int], columns: Sequence[Sequence[int]]) -> bytes:
 
 
 def readings_of(data: bytes, types: Sequence[int], names: Sequence[str]) -> List[List[int]]:
-    """The readings of a file, or Refused with 13 and the entry."""
+    """The readings of a file, or Refused with 13: the first field whose pair is wrong, or that the file goes on."""
     at, columns = PAIR * len(types), []
     if len(data) < at:
-        raise Refused(13, f"it has {count(len(data))} bytes, and the table for {len(types)} fields takes {at}")
+        raise Refused(13, f"{names[0]}'s readings are to start at byte {at}, behind the table, and the file ends at {len(data)}")
     for number, (code, name) in enumerate(zip(types, names)):
         offset, length = struct.unpack_from("<II", data, PAIR * number)
         if offset != at:

@@ -1,7 +1,9 @@
 """Sheets: every stored one goes to its table and back; tables as spreadsheets write them; every mistake is told."""
 
 import os
+import struct
 import unittest
+from itertools import product
 
 from support import SAMPLES, Folder, cases, gate, load, stored
 
@@ -12,6 +14,24 @@ RECIPE = Recipe.from_text("field f u8\nfield g i16\nvar a u8\na = read f\nsite a
 
 def sheet(text):
     return Sheet.from_csv(text, RECIPE, "T")
+
+
+def named(data):
+    """The field that a refusal of this file names, `end` if it names none, None if the file is read."""
+    try:
+        Sheet.from_bytes(data, RECIPE)
+    except Refused as refused:
+        return next((name for name in ("f", "g") if refused.place.startswith((f"{name}'s ", f"{name} has "))), "end")
+    return None
+
+
+def first_wrong(data, pairs):
+    """The same by the rule, pair by pair, for a u8 and an i16: each by itself and the end of the one before."""
+    starts = [16] + [sum(pair) for pair in pairs]
+    for name, (offset, length), start, width in zip("fg", pairs, starts, (1, 2)):
+        if len(data) < 16 or offset != start or length % width or length > 128 * width or offset + length > len(data):
+            return name
+    return None if starts[-1] == len(data) else "end"
 
 
 class Files(unittest.TestCase):
@@ -41,6 +61,16 @@ class Files(unittest.TestCase):
                 except Refused as refused:
                     self.assertEqual((case.run, refused.number), ("refused 13", 13), case)
                     self.assertTrue(refused.place)
+
+    def test_refusal_13_names_the_first_field_whose_pair_is_wrong(self):
+        seen = {}
+        for pairs in product(product((15, 16, 17, 18, 19), (0, 1, 2, 3)), repeat=2):
+            for size in (0, 15, 16, 17, 18, 19, 20):
+                data = b"".join(struct.pack("<II", *pair) for pair in pairs).ljust(size, b"\7")[:size]
+                found = named(data)
+                self.assertEqual(found, first_wrong(data, pairs), (pairs, size))
+                seen[found] = seen.get(found, 0) + 1
+        self.assertEqual(set(seen), {"f", "g", "end", None})
 
     def test_make_and_show(self):
         folder = Folder(self)

@@ -2,6 +2,7 @@
 
 import itertools
 import os
+import struct
 import unittest
 
 from support import SAMPLES, Folder, cases, gate, refusal
@@ -142,7 +143,7 @@ class Places(unittest.TestCase):
                     call(recipe, Sheet(recipe.types, columns))
                 self.assertEqual((raised.exception.number, raised.exception.place), (15, place))
 
-    def test_13_names_the_entry(self):
+    def test_13_names_the_field(self):
         folder = Folder(self)
         recipe = folder.put("r.txt", self.RECIPE)
         good = Sheet.from_csv("f\n1\n", Recipe.read(recipe)).to_bytes()
@@ -151,6 +152,29 @@ class Places(unittest.TestCase):
             (good[:4] + b"\x02\0\0\0" + good[8:], "f's readings end at byte 10, and the file at 9"),
             (bytes([16, 0, 0, 0, 1, 0, 0, 0, 17, 0, 0, 0, 0, 0, 0, 0, 5]), "f's readings start at byte 16 by the table, and at 8"),
         ):
+            status, out, _ = gate("check", recipe, folder.put("s.sheet", data))
+            self.assertEqual(status, 2)
+            self.assertIn(f"refused 13: the sheet is damaged, or belongs to another recipe: {place}", out)
+        for data, place in (
+            (b"\x09" + good[1:], "f's readings start at byte 9 by the table, and at 8 by what is before"),
+            (good[:5], "f's readings are to start at byte 8, behind the table, and the file ends at 5"),
+        ):
+            path = folder.put("s.sheet", data)
+            status, out, err = gate("check", recipe, path)
+            self.assertEqual((status, out), (3, ""))
+            self.assertEqual(err, f"{path}: no table of readings, for its zero bytes, and no sheet's file: {place}\n")
+
+    def test_13_names_the_first_field_whose_pair_is_wrong(self):
+        folder = Folder(self)
+        recipe = folder.put("r.txt", "field f u8\nfield g u8\nfield h u8\nvar a u8\na = read f\nsite a\n")
+        for pairs, place in (
+            ([(24, 1), (25, 200), (9, 0)], "g has 200 readings, and a field has at most 128"),
+            ([(24, 1), (25, 100), (9, 0)], "g's readings end at byte 125, and the file at 26"),
+            ([(24, 1), (26, 0), (25, 1)], "g's readings start at byte 26 by the table, and at 25 by what is before"),
+            ([(24, 1), (25, 0), (25, 2)], "h's readings end at byte 27, and the file at 26"),
+            ([(24, 1), (25, 0)], "f's readings are to start at byte 24, behind the table, and the file ends at 18"),
+        ):
+            data = b"".join(struct.pack("<II", *pair) for pair in pairs) + b"\7\7"
             status, out, _ = gate("check", recipe, folder.put("s.sheet", data))
             self.assertEqual(status, 2)
             self.assertIn(f"refused 13: the sheet is damaged, or belongs to another recipe: {place}", out)

@@ -1,26 +1,26 @@
 -- The fields of an input that is read: how wide their readings are, where their parts stand, and which readings they hold.
 -- Assumes nothing.
-use mathlib.Core.Path.{_≡_, refl, sym, _∙_, ap, subst}
-use mathlib.Core.Bool.{true, _&&_, cond}
+use mathlib.Core.Path.{_≡_, refl, sym, _∙_, ap}
+use mathlib.Core.Bool.{_&&_, cond}
 use mathlib.Core.List.{List, [], _∷_}
 use Prim.Native.Nat.{ℕ, zero, suc, _+_, _*_, _/_, _%_, _^_, _-_, _≤_, _<_}
 use native.Mathlib.Nat.{mul-comm, div-mul-le-self, add-zero, div-le-of-le-mul}
 use native.Mathlib.Omega.{arith}
-use lib.Dec.{leb, eqb, ltb}
+use lib.Dec.{ltb}
 use lib.IntN.{pos}
 use lib.ListN.{length, getD, take, drop}
-use borrow.Author.Tests.{lt-ltb, leb-true}
+use borrow.Author.Tests.{lt-ltb}
 use Rattle.arith.specs.declared.Range.{Range}
 use Rattle.arith.specs.Types.{bits, Row}
 use Rattle.arith.specs.Step.{wrap}
 use Rattle.model.specs.Refusals.{ok, mapped, wrongInput}
-use Rattle.model.specs.Bytes.{u16At, part, Pair, pairAt, entries, pairsAt, chained}
+use Rattle.model.specs.Bytes.{u16At, part, pairAt, entries, pairsAt, chained}
 use Rattle.model.specs.Input.{Input, width, bitsAt, readingAt, readingsOf, lengthsRight, readInput}
-use Rattle.model.proofs.Tests.{and-left, and-right}
 use Rattle.model.proofs.Results.{check-ok}
-use Rattle.model.proofs.Parts.{length-entries, entries-getD, chained-inside, length-part, Narrow, byte-narrow, u16-narrow, u32-narrow, u64-narrow, entries-part}
+use Rattle.model.proofs.Parts.{length-entries, length-part, Narrow, byte-narrow, u16-narrow, u32-narrow, u64-narrow, entries-part}
 use Rattle.input.specs.Answers.{InputIsRead, fieldPart, fieldReadings}
-use Rattle.input.proofs.Links.{inputRight, read-check}
+use Rattle.input.specs.FirstWrong.{RightBefore}
+use Rattle.input.proofs.Pass.{inputRight, read-check, all-right}
 
 -- ---- one reading
 
@@ -106,29 +106,9 @@ module _ (t : ℕ) (r : Range) (row : Row t r) where
 
 -- ---- an input that is read
 
-module _ (types s : List ℕ) (read : InputIsRead types s) where
-  right : inputRight types s ≡ true
-  right = check-ok (inputRight types s) wrongInput (ok (tt {0})) (tt {0}) (sym (read-check types s) ∙ read) .0
-
-  chain : chained (8 * length types) (pairsAt s 0 (length types)) (length s) ≡ true
-  unfolding inputRight
-  chain = and-left (chained (8 * length types) (pairsAt s 0 (length types)) (length s)) (lengthsRight types (pairsAt s 0 (length types))) right
-
-  lengths : lengthsRight types (pairsAt s 0 (length types)) ≡ true
-  unfolding inputRight
-  lengths = and-right (chained (8 * length types) (pairsAt s 0 (length types)) (length s)) (lengthsRight types (pairsAt s 0 (length types))) right
-
--- the length of a field's part
-lengths-at : (types : List ℕ) (ps : List Pair) (i : ℕ) (d : Pair) → lengthsRight types ps ≡ true → i < length types → i < length ps
-    → getD ps i d .len ≤ 128 * width (getD types i 0)
-unfolding lengthsRight
-lengths-at [] ps i d h k l = absurd (omega arith)
-lengths-at (ty ∷ types) [] i d h k l = absurd (omega arith)
-lengths-at (ty ∷ types) (p ∷ ps) zero d h k l =
-    let m = eqb (p .len % width ty) 0 in
-    leb-true (p .len) (128 * width ty) (and-right m (leb (p .len) (128 * width ty)) (and-left (m && leb (p .len) (128 * width ty)) (lengthsRight types ps) h))
-lengths-at (ty ∷ types) (p ∷ ps) (suc i) d h k l =
-    lengths-at types ps i d (and-right (eqb (p .len % width ty) 0 && leb (p .len) (128 * width ty)) (lengthsRight types ps) h) (omega arith) (omega arith)
+-- every pair of it is right
+pairs-right : (types s : List ℕ) → InputIsRead types s → RightBefore types s (length types)
+pairs-right types s read = all-right types s (check-ok (inputRight types s) wrongInput (ok (tt {0})) (tt {0}) (sym (read-check types s) ∙ read) .0)
 
 pub record Placed (types s : List ℕ) (f : ℕ) : Type 0 where
   pub pair : 8 * f + 8 ≤ length s
@@ -138,18 +118,12 @@ pub record Placed (types s : List ℕ) (f : ℕ) : Type 0 where
 -- where a field's part stands
 pub placed : (types s : List ℕ) (f : ℕ) → InputIsRead types s → f < length types → Placed types s f
 placed types s f read h =
-    let ps = pairsAt s 0 (length types) in
-    let d = pairAt s 0 in
-    let n = length-entries pairAt 8 s (length types) 0 in
-    let at : getD ps f d ≡ pairAt s (0 + 8 * f) = entries-getD pairAt 8 s (length types) 0 f d h in
-    let e : 0 + 8 * f ≡ 8 * f = omega arith in
-    let p : getD ps f d ≡ pairAt s (8 * f) = at ∙ ap (pairAt s) e in
-    let within = chained-inside ps (8 * length types) (length s) (chain types s read) f d (omega arith) in
-    let short = lengths-at types ps f d (lengths types s read) h (omega arith) in
+    let r = pairs-right types s read in
+    let w = width (getD types f 0) in
     record {
-      pair = omega (arith, within .0, within .1);
-      inside = subst (λ (q : Pair). q .offset + q .len ≤ length s) p (within .1);
-      few = div-le-of-le-mul (width (getD types f 0)) (subst (λ (q : Pair). q .len ≤ width (getD types f 0) * 128) p (omega (arith, short, mul-comm 128 (width (getD types f 0)))));
+      pair = omega (arith, r 0 (omega arith) .begins, r 0 (omega arith) .inside);
+      inside = r f h .inside;
+      few = div-le-of-le-mul w (omega (arith, r f h .few, mul-comm 128 w));
     }
 
 -- ---- its readings

@@ -1,2 +1,4 @@
-pub mod Links
+pub mod Pass
+pub mod Search
 pub mod Fields
+mod Examples

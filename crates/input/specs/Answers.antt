@@ -1,33 +1,20 @@
 -- What the answers of the input's reader stand for, and the places of a field in an input that is read.
 -- Assumes nothing.
 use mathlib.Core.Path.{_≡_}
-use mathlib.Core.Bool.{_&&_}
 use mathlib.Core.List.{List}
-use Prim.Native.Nat.{ℕ, _+_, _*_, _%_}
-use lib.Dec.{leb, eqb}
+use Prim.Native.Nat.{ℕ, _*_}
 use lib.IntN.{ℤ}
 use lib.ListN.{getD}
-use Rattle.model.specs.Refusals.{Out, ok, refused, mapped, check, wrongInput}
-use Rattle.model.specs.Bytes.{part, Pair, pairAt}
-use Rattle.model.specs.Input.{width, readingsOf, readInput}
+use Rattle.model.specs.Refusals.{Out, ok, refused, mapped}
+use Rattle.model.specs.Bytes.{part, pairAt}
+use Rattle.model.specs.Input.{readingsOf, readInput}
 use Rattle.input.specs.declared.InputRead.{InputRead}
 use Rattle.input.specs.declared.InputRead.the-variants.{Yes, Refused}
-use Rattle.input.specs.declared.PartRead.{PartRead}
-use Rattle.input.specs.declared.PartRead.the-variants.{Ends, Refused as Wrong}
 
 -- read, or the number of the refusal
 abbrev pub inputAnswer : InputRead → Out (Unit {0})
 inputAnswer Yes = ok tt
 inputAnswer (Refused n) = refused n
-
-abbrev pub linkedOut : PartRead → Out ℕ
-linkedOut (Ends e) = ok e
-linkedOut (Wrong n) = refused n
-
--- one part: it begins at a place, and is whole readings of its type, at most 128; where it ends
-unfoldable pub linkOf : ℕ → Pair → ℕ → Out ℕ
-linkOf ty p start =
-    check (eqb (p .offset) start && eqb (p .len % width ty) 0 && leb (p .len) (128 * width ty)) wrongInput (ok (start + p .len))
 
 -- the input is in its form
 abbrev pub InputIsRead : List ℕ → List ℕ → Type 0

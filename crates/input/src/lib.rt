@@ -6,10 +6,11 @@ ghost use Prim.Native.Nat.{ℕ, _+_, _*_, _/_, _≤_, _<_};
 ghost use lib.ListN.{length};
 ghost use Rattle.arith.specs.Types.{Row, IsRow};
 ghost use Rattle.arith.specs.Whole.{valueOf};
-ghost use Rattle.model.specs.Refusals.{refused, mapped};
+ghost use Rattle.model.specs.Refusals.{mapped};
 ghost use Rattle.model.specs.Bytes.{pairAt};
 ghost use Rattle.model.specs.Input.{width, bitsAt, readingAt, readInput};
-ghost use Rattle.input.specs.Answers.{inputAnswer, linkedOut, linkOf, InputIsRead, fieldPart, fieldReadings};
+ghost use Rattle.input.specs.Answers.{inputAnswer, InputIsRead, fieldPart, fieldReadings};
+ghost use Rattle.input.specs.FirstWrong.{PartIs, PairsAre};
 use arith::Range;
 
 // The input is in its form, or the number of the refusal.
@@ -18,10 +19,16 @@ pub enum InputRead {
     Refused(u8),
 }
 
-// Where a field's part ends, or the number of the refusal.
+// Where the part of a pair ends, or that the pair is wrong.
 enum PartRead {
     Ends(usize),
-    Refused(u8),
+    Wrong,
+}
+
+// Where the last part ends, or the number of the first pair that is wrong.
+enum Pairs {
+    AllRight(usize),
+    FirstWrong(usize),
 }
 
 // How many bytes a reading of a type has; a type's code counts modulo 8.
@@ -32,55 +39,67 @@ fn width_of(ty: u8) -> usize
     (range.bits / 8) as usize
 }
 
-// The part of the pair at a place: it begins at next, and is whole readings, at most 128.
+// The pair at a place: it begins at next, is whole readings, at most 128, and stays inside the file.
 fn part_end(ty: u8, input: &[u8], at: usize, next: usize) -> PartRead
     requires { ⌜ at + 8 ≤ length (now input) ⌝ }
-    ensures { λ r. ⌜ linkedOut r ≡ linkOf ty (pairAt (now (input .entry)) at) next ⌝ }
+    ensures { λ r. ⌜ PartIs ty (pairAt (now (input .entry)) at) next (length (now (input .entry))) r ⌝ }
 {
     let offset = bytes_le::u32_at(input, at) as usize;
     let len = bytes_le::u32_at(input, at + 4) as usize;
     let w = width_of(ty);
     if offset != next {
-        return PartRead::Refused(13);
+        return PartRead::Wrong;
     }
     if len % w != 0 {
-        return PartRead::Refused(13);
+        return PartRead::Wrong;
     }
     if 128 * w < len {
-        return PartRead::Refused(13);
+        return PartRead::Wrong;
+    }
+    if input.len() < offset + len {
+        return PartRead::Wrong;
     }
     PartRead::Ends(offset + len)
 }
 
-// The number that the answer for a part holds, where it is a refusal.
-fn part_refusal(read: PartRead) -> u8
-    ensures { λ r. ⌜ ((n : ℕ) → linkedOut read ≡ refused n → r ≡ n) ⌝ }
+// The first pair that is wrong: a pair has all its tests before the next is looked at, and the search
+// goes on only while none is found. `wrong` is the number of pairs until then.
+fn first_wrong(types: &[u8], input: &[u8]) -> Pairs
+    ensures { λ r. ⌜ PairsAre (now (types .entry)) (now (input .entry)) r ⌝ }
 {
-    match read {
-        PartRead::Ends(_) => 0,
-        PartRead::Refused(n) => n,
+    let fields = types.len();
+    if input.len() / 8 < fields {
+        return Pairs::FirstWrong(0);
     }
+    let mut next = 8 * fields;
+    let mut wrong = fields;
+    let mut f: usize = 0;
+    while f < wrong {
+        match part_end(types[f], input, 8 * f, next) {
+            PartRead::Ends(end) => {
+                next = end;
+                f += 1;
+            }
+            PartRead::Wrong => {
+                wrong = f;
+                f += 1;
+            }
+        }
+    }
+    if wrong < fields {
+        return Pairs::FirstWrong(wrong);
+    }
+    Pairs::AllRight(next)
 }
 
 // Whether the input has its form, for fields of these types.
 pub fn read(types: &[u8], input: &[u8]) -> InputRead
     ensures { λ r. ⌜ inputAnswer r ≡ mapped (λ I. tt {0}) (readInput (now (types .entry)) (now (input .entry))) ⌝ }
 {
-    let fields = types.len();
-    if input.len() / 8 < fields {
+    let Pairs::AllRight(end) = first_wrong(types, input) else {
         return InputRead::Refused(13);
-    }
-    let mut next = 8 * fields;
-    let mut f: usize = 0;
-    while f < fields {
-        let r = part_end(types[f], input, 8 * f, next);
-        let PartRead::Ends(end) = r else {
-            return InputRead::Refused(part_refusal(r));
-        };
-        next = end;
-        f += 1;
-    }
-    if next != input.len() {
+    };
+    if end != input.len() {
         return InputRead::Refused(13);
     }
     InputRead::Yes

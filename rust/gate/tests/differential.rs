@@ -2,7 +2,8 @@
 //! byte, and the untouched rest.
 //!
 //! CASES gives the number of cases, SEED the first one's seed; both are printed, and how often the gate gave each
-//! answer. A case is its seed.
+//! answer and a run the refusal 13. The refusals 13 are told apart by the first wrong pair, which the independent
+//! implementation gives and the library does not. A case is its seed.
 
 #![allow(
     clippy::cast_possible_truncation,
@@ -16,6 +17,7 @@ mod told;
 use gate::{check, derive, guarded, library, records, run, scratch, scratch_words};
 use gate::{Choices, Guarded, Ran, Refusal, CONDITION, RECORD};
 use gate_oracle::generate::{self, Rng};
+use gate_oracle::sheet::first_wrong;
 use gate_oracle::Verdict;
 use std::collections::BTreeMap;
 use std::sync::atomic::{AtomicU64, Ordering};
@@ -23,9 +25,12 @@ use told::told;
 
 const MARK: u8 = 0xA5;
 
-/// The answers of the gate that must occur on derived conditions; on others 12 as well.
-const ANSWERS: [&str; 7] =
-    ["pass", "held too big", "held too small", "held no divisor", "refused 13", "refused 14", "refused 15"];
+/// The answers of the gate that must occur on derived conditions, beside the refusals 13; on others 12 as well.
+const ANSWERS: [&str; 6] = ["pass", "held too big", "held too small", "held no divisor", "refused 14", "refused 15"];
+
+/// The refusals 13 that must occur on all conditions and in runs.
+const REFUSALS_OF_SHEETS: [&str; 3] =
+    ["refused 13 at the first pair", "refused 13 at a later pair", "refused 13 at the file's end alone"];
 
 fn setting(name: &str, usual: u64) -> u64 {
     std::env::var(name).map_or(usual, |text| text.parse().unwrap())
@@ -39,6 +44,26 @@ fn field_types(recipe: &[u8]) -> Vec<u8> {
 /// The types that a condition lists, or else some types.
 fn listed_types(condition: &[u8]) -> Vec<u8> {
     gate_oracle::condition::Condition::read(condition).map_or_else(|_| vec![2], |condition| condition.types)
+}
+
+/// A sheet for some types; at times it is damaged, in any way or in its pairs.
+fn some_sheet(rng: &mut Rng, types: &[u8]) -> Vec<u8> {
+    let mut sheet = generate::sheet(rng, types);
+    match rng.below(100) {
+        0..=2 => generate::damage(rng, &mut sheet),
+        3..=7 => generate::damage_pairs(rng, &mut sheet, types),
+        _ => {}
+    }
+    sheet
+}
+
+/// The refusal 13 of a sheet for some types, with the place of what is wrong first.
+fn refused_sheet(sheet: &[u8], types: &[u8]) -> &'static str {
+    REFUSALS_OF_SHEETS[match first_wrong(sheet, types) {
+        Some(0) => 0,
+        Some(_) => 1,
+        None => 2,
+    }]
 }
 
 fn untouched(bytes: &[u8]) -> bool {
@@ -64,10 +89,7 @@ impl Inputs {
         if rng.chance(15) {
             generate::damage(rng, &mut recipe);
         }
-        let mut sheet = generate::sheet(rng, &field_types(&recipe));
-        if rng.chance(3) {
-            generate::damage(rng, &mut sheet);
-        }
+        let sheet = some_sheet(rng, &field_types(&recipe));
         let (limit, choices) = (generate::limit(rng), Choices::of_bytes(generate::choices(rng)));
         Inputs { recipe, sheet, limit, choices }
     }
@@ -79,7 +101,7 @@ impl Inputs {
     }
 }
 
-/// How often the gate gave each answer.
+/// How often the gate gave each answer, and a run the refusal 13.
 type Tally = BTreeMap<String, u64>;
 
 struct Bench {
@@ -177,19 +199,26 @@ impl Bench {
         assert_eq!(expected, told(answer));
         let words = match answer {
             Ok(verdict) => verdict.to_string(),
+            Err(Refusal::Sheet) => refused_sheet(sheet, &listed_types(condition)).to_string(),
             Err(refusal) => format!("refused {}", refusal.number()),
         };
-        *self.tally.entry(format!("{conditions}: {words}")).or_default() += 1;
+        self.count(conditions, &words);
         expected
     }
 
-    fn run(&mut self, inputs: &Inputs, length: usize) {
+    fn count(&mut self, kind: &str, answer: &str) {
+        *self.tally.entry(format!("{kind}: {answer}")).or_default() += 1;
+    }
+
+    /// The run with a log of some length: the same numbers and the same log, or the same refusal.
+    fn run(&mut self, inputs: &Inputs, length: usize) -> Result<Ran, Refusal> {
         let (mut log, mut other) = (vec![MARK; length], vec![MARK; length]);
         let expected = inputs.expected(&mut other);
         let Inputs { recipe, sheet, limit, choices } = inputs;
         let answer = run(recipe, sheet, *limit, choices, &mut log, &mut self.scratch);
         assert_eq!(expected, answer.map(numbers).map_err(Refusal::number));
         assert_eq!(log, other);
+        answer
     }
 
     /// The run behind the gate, from the answers of the three apart.
@@ -233,12 +262,14 @@ impl Bench {
         let length = generate::log_length(rng);
         let derived = self.derive(rng, &inputs.recipe);
         let verdict = derived.as_ref().ok().map(|condition| self.check("derived", condition, &inputs.sheet));
-        self.run(&inputs, length);
+        if self.run(&inputs, length) == Err(Refusal::Sheet) {
+            self.count("runs", refused_sheet(&inputs.sheet, &field_types(&inputs.recipe)));
+        }
         self.guarded(&inputs, length, &derived, verdict);
         if seed.is_multiple_of(64) {
             self.short(rng, &inputs.recipe);
             for length in 0..3 * RECORD + 2 {
-                self.run(&inputs, length);
+                let _ = self.run(&inputs, length);
             }
         }
 
@@ -249,10 +280,7 @@ impl Bench {
         if rng.chance(50) {
             generate::damage(rng, &mut condition);
         }
-        let mut sheet = generate::sheet(rng, &listed_types(&condition));
-        if rng.chance(3) {
-            generate::damage(rng, &mut sheet);
-        }
+        let sheet = some_sheet(rng, &listed_types(&condition));
         let _ = self.check("other", &condition, &sheet);
     }
 }
@@ -284,8 +312,10 @@ fn generated_cases() {
     for (answer, times) in &tally {
         println!("{times:7} on {answer}");
     }
-    let kinds = ["derived", "other"].iter().flat_map(|kind| ANSWERS.map(|answer| format!("{kind}: {answer}")));
-    for answer in kinds.chain(["other: refused 12".to_string()]) {
+    let answers = ["derived", "other"].iter().flat_map(|kind| ANSWERS.map(|answer| format!("{kind}: {answer}")));
+    let sheets = ["derived", "other", "runs"];
+    let sheets = sheets.iter().flat_map(|kind| REFUSALS_OF_SHEETS.map(|answer| format!("{kind}: {answer}")));
+    for answer in answers.chain(sheets).chain(["other: refused 12".to_string()]) {
         assert!(tally.contains_key(&answer) || cases < 10_000, "{answer} never occurs");
     }
 }

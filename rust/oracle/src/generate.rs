@@ -3,6 +3,7 @@
 use crate::build::{self, of_parts, s};
 use crate::condition::{self, file_order, node, MOST_NODES, READING};
 use crate::recipe::{word, MOST_STATEMENTS};
+use crate::sheet::MOST_READINGS;
 use crate::types::{
     immediate, is_signed, width, wrap, ADD, CONSTANT, CONVERT, COPY, DIVIDE, ELSE, END, IF, LOAD, MULTIPLY, READ, SITE,
     STORE, SUBTRACT, TYPES, WHILE,
@@ -666,6 +667,92 @@ pub fn sheet(rng: &mut Rng, types: &[u8]) -> Vec<u8> {
         fields.push(readings);
     }
     of_parts(&fields)
+}
+
+/// Damages a sheet for fields of the given types in one or two ways, each in a pair at any place or at the file's
+/// end. At times everything else follows, so that nothing but this pair is wrong.
+pub fn damage_pairs(rng: &mut Rng, bytes: &mut Vec<u8>, types: &[u8]) {
+    for _ in 0..rng.pick(&[1, 1, 1, 2]) {
+        let pairs = types.len();
+        if pairs == 0 || bytes.len() < 8 * pairs || rng.chance(25) {
+            damage_end(rng, bytes, pairs);
+            continue;
+        }
+        let any = rng.below(pairs);
+        let i = rng.pick(&[0, any, any, pairs - 1]);
+        match rng.below(8) {
+            0..=2 => damage_offset(rng, bytes, pairs, i),
+            3 if pairs > 1 => exchange_pairs(bytes, i, (i + 1) % pairs),
+            _ => damage_length(rng, bytes, types, i),
+        }
+    }
+}
+
+/// Cuts a sheet inside its pairs, inside its last part or anywhere, or puts bytes too many at its end.
+fn damage_end(rng: &mut Rng, bytes: &mut Vec<u8>, pairs: usize) {
+    let length = bytes.len();
+    match rng.below(4) {
+        0 if pairs > 0 => bytes.truncate(rng.below(8 * pairs)),
+        1 if pairs > 0 => bytes.truncate(length.saturating_sub(rng.between(1, 8))),
+        2 if length > 0 => bytes.truncate(rng.below(length)),
+        _ => bytes.resize(length + rng.pick(&[1, 1, 1, 2, 8]), 0),
+    }
+}
+
+/// Moves the offset of a pair: far off, by little, or by little with all pairs after it and the file's end.
+fn damage_offset(rng: &mut Rng, bytes: &mut Vec<u8>, pairs: usize, i: usize) {
+    if rng.chance(15) {
+        let far = rng.pick(&[0, bytes.len() as u32, 1 << 31, u32::MAX - 7, u32::MAX]);
+        bytes[8 * i..8 * i + 4].copy_from_slice(&far.to_le_bytes());
+        return;
+    }
+    let by = rng.pick(&[1, 2, 8, -1, -2, -8]);
+    if rng.chance(60) {
+        add(bytes, 8 * i, by);
+    } else {
+        (i..pairs).for_each(|later| add(bytes, 8 * later, by));
+        move_end(bytes, by);
+    }
+}
+
+/// Puts two pairs into each other's place.
+fn exchange_pairs(bytes: &mut [u8], i: usize, j: usize) {
+    (0..8).for_each(|k| bytes.swap(8 * i + k, 8 * j + k));
+}
+
+/// Gives a pair another length: no whole number of readings, too many of them, one that runs past the file, a reading
+/// more or less, or a very long one. The pairs after it stay, or begin where it then ends. The file may then have as
+/// many bytes, unless it would become right or very long.
+fn damage_length(rng: &mut Rng, bytes: &mut Vec<u8>, types: &[u8], i: usize) {
+    let (offset, before) = (word(bytes, 8 * i) as usize, word(bytes, 8 * i + 4) as usize);
+    let width = width(types[i]);
+    let past = bytes.len().saturating_sub(offset) / width + 1;
+    let (length, file_may_follow) = match rng.below(8) {
+        0..=2 if width > 1 => (width * rng.below(MOST_READINGS + 1) + rng.between(1, width - 1), true),
+        0..=3 => (width * rng.pick(&[129, 129, 130, 256, 1_000]), true),
+        4 | 5 => (width * rng.pick(&[past, past.max(MOST_READINGS)]), false),
+        6 => (before ^ width, false),
+        _ => (rng.pick(&[1 << 31, u32::MAX as usize - 7, u32::MAX as usize]), false),
+    };
+    let by = length as i64 - before as i64;
+    add(bytes, 8 * i + 4, by);
+    if rng.chance(60) {
+        (i + 1..types.len()).for_each(|later| add(bytes, 8 * later, by));
+        if file_may_follow && rng.chance(70) {
+            move_end(bytes, by);
+        }
+    }
+}
+
+/// Adds to the 4-byte number at a place, wrapping.
+fn add(bytes: &mut [u8], at: usize, by: i64) {
+    let sum = i64::from(word(bytes, at)) + by;
+    bytes[at..at + 4].copy_from_slice(&(sum as u32).to_le_bytes());
+}
+
+/// Cuts a file by some bytes, or extends it.
+fn move_end(bytes: &mut Vec<u8>, by: i64) {
+    bytes.resize((bytes.len() as i64 + by).max(0) as usize, 0);
 }
 
 /// A made-up condition in form over any types; one in five is damaged.

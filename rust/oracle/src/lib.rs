@@ -1,4 +1,4 @@
-//! The survey gate of document 01 and of document 02's Cards 1 and 2: recipe,
+//! The survey gate of document 01 and of document 02's Cards 1 to 3: recipe,
 //! condition, sheet, gate and run.
 //!
 //! An independent implementation, written from the documents for differential

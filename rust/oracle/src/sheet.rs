@@ -1,4 +1,4 @@
-//! The sheet reader.
+//! The sheet reader, and the first wrong pair of a sheet.
 
 use crate::recipe::word;
 use crate::types::{width, wrap};
@@ -59,4 +59,48 @@ fn read(bytes: &[u8], types: &[u8]) -> Option<Sheet> {
         start += length;
     }
     (start == bytes.len()).then_some(sheet)
+}
+
+/// The first wrong pair of a sheet for fields of the given types, as in document 02's Card 3, or nothing if all are
+/// right. The sheet is refused with 13 all the same if the last part does not end the file. Missing bytes count as 0,
+/// so that pair 0 of a file shorter than its pairs is wrong: it begins elsewhere, or runs past the file.
+#[must_use]
+pub fn first_wrong(bytes: &[u8], types: &[u8]) -> Option<usize> {
+    (0..types.len())
+        .find(|&i| begins_elsewhere(bytes, types, i) || wrong_length(bytes, types, i) || runs_past(bytes, i))
+}
+
+/// Whether a pair does not begin where the one before ends, or pair 0 not where the pairs end.
+fn begins_elsewhere(bytes: &[u8], types: &[u8], i: usize) -> bool {
+    let due = if i == 0 { 8 * types.len() as u64 } else { end(bytes, i - 1) };
+    offset(bytes, i) != due
+}
+
+/// Whether a pair's length is no whole number of readings of its field, or more than there may be.
+fn wrong_length(bytes: &[u8], types: &[u8], i: usize) -> bool {
+    let width = width(types[i]) as u64;
+    !length(bytes, i).is_multiple_of(width) || length(bytes, i) > width * MOST_READINGS as u64
+}
+
+/// Whether a pair's part does not end within the file.
+fn runs_past(bytes: &[u8], i: usize) -> bool {
+    end(bytes, i) > bytes.len() as u64
+}
+
+/// Where a pair's part ends, by what the pair says.
+fn end(bytes: &[u8], i: usize) -> u64 {
+    offset(bytes, i) + length(bytes, i)
+}
+
+fn offset(bytes: &[u8], i: usize) -> u64 {
+    number_at(bytes, 8 * i)
+}
+
+fn length(bytes: &[u8], i: usize) -> u64 {
+    number_at(bytes, 8 * i + 4)
+}
+
+/// The number of 4 bytes at a place; bytes that the file does not have count as 0.
+fn number_at(bytes: &[u8], at: usize) -> u64 {
+    (at..at + 4).rev().fold(0, |number, place| number << 8 | u64::from(bytes.get(place).copied().unwrap_or(0)))
 }

@@ -7,7 +7,7 @@ use Rattle.filter_cases.proofs.main.Tie as tie
 
 -- how many cases are stored
 abbrev caseCount : ℕ
-caseCount = 316
+caseCount = 329
 
 abbrev Inv-loop : tie.InvT-loop
 Inv-loop i₀ i = i ≤ caseCount

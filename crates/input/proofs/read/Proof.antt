@@ -1,110 +1,46 @@
--- `input::read` meets its contract. What is left of the pass from a field on gives the answer of the whole.
+-- `input::read` meets its contract.
 -- Assumes nothing.
-use mathlib.Core.Path.{_≡_, refl, sym, ap, _∙_}
-use Prim.Native.Nat.{_*_, _-_, _≤_}
+use mathlib.Core.Path.{_≡_, sym, subst}
 use native.Mathlib.Omega.{arith}
 use borrow.Author.Needs.{needs}
-use borrow.Author.Tests.{eq-eqb, ne-eqb}
-use lib.ListN.{length, drop}
-use Rattle.model.specs.Refusals.{refused}
-use Rattle.input.specs.Answers.{linkedOut}
-use Rattle.input.proofs.Links.{linked, read-linked, read-short, linked-on, linked-off, linked-end}
+use Rattle.input.specs.FirstWrong.{PairsAre}
+use Rattle.input.specs.declared.Pairs.{Pairs}
+use Rattle.input.proofs.Pass.{one-wrong, ends-elsewhere, ends-the-file}
 use Rattle.input.proofs.read.Statement.{statement}
 use Rattle.input.proofs.read.Tie as tie
 
-abbrev Inv-loop : tie.InvT-loop
-Inv-loop types input fields next₀ f₀ next f =
-    (f ≤ length types) × (fields ≡ length types) × (8 * fields ≤ length input) × (linked input types 0 (8 * length types) ≡ linked input (drop f types) (8 * f) next)
+abbrev start : tie.After-first-wrong → tie.Start
+start c = c .before .before .before
 
-abbrev μ-loop : tie.MeasureT-loop
-μ-loop types input fields next₀ f₀ next f = length types - f
+-- what is said of the pairs
+said : (c : tie.After-first-wrong) (r : Pairs) → c .first-wrong .result ≡ r → PairsAre (start c .args .types .now) (start c .args .input .now) r
+said c r e = subst (PairsAre (start c .args .types .now) (start c .args .input .now)) e (c .first-wrong .ensures)
 
-returns : tie.Need-returns Inv-loop μ-loop
-returns c = sym (read-short _ _ (c .if1 .taken))
+first-wrong-requires : tie.Need-first-wrong-requires
+first-wrong-requires c κs = search needs
 
-mul-next : tie.Need-mul-next Inv-loop μ-loop
-mul-next c = search needs
+enum-known-end : tie.Need-enum-known-end
+enum-known-end c = search needs
 
-loop-holds : tie.Need-loop-holds Inv-loop μ-loop
-loop-holds c = (omega arith, refl, omega arith, refl)
-
-shared-slice-read-part-end : tie.Need-shared-slice-read-part-end Inv-loop μ-loop
-shared-slice-read-part-end c = search needs
-
-mul-part-end : tie.Need-mul-part-end Inv-loop μ-loop
-mul-part-end c = search needs
-
-part-end-requires : tie.Need-part-end-requires Inv-loop μ-loop
-part-end-requires c κs = search needs
-
-enum-known-r : tie.Need-enum-known-r Inv-loop μ-loop
-enum-known-r c = search needs
-
-enum-told : tie.Need-enum-told Inv-loop μ-loop
+enum-told : tie.Need-enum-told
 enum-told c = search needs
 
-part-refusal-requires : tie.Need-part-refusal-requires Inv-loop μ-loop
-part-refusal-requires c κs = search needs
+returns : tie.Need-returns
+returns c = let g = start (c .before .before) .args in sym (one-wrong (g .types .now) (g .input .now) _ (said (c .before .before) _ (c .enum-told .given .1)))
 
-returns-2 : tie.Need-returns-2 Inv-loop μ-loop
+returns-2 : tie.Need-returns-2
 returns-2 c =
-    let p = c .before .before .before in
-    let a = p .before .before .before in
-    let g = a .before .before .before .before .args in
-    let e = c .before .enum-told .given in
-    let off = linked-off (g .input .now) (g .types .now) (a .loop .f) (a .loop .next) (omega arith) (p .part-end .result) (p .part-end .ensures) (e .0 .0) (e .1) in
-    ap refused (c .part-refusal .ensures (e .0 .0) (ap linkedOut (e .1))) ∙ sym (read-linked (g .types .now) (g .input .now) ∙ a .loop .inv .3 ∙ off)
+    let p = c .before .before .before .before in
+    let g = start p .args in
+    let n = c .before .before .end .given in
+    sym (ends-elsewhere (g .types .now) (g .input .now) (n .0 .0) (said p _ (n .1)) (λ q. absurd (omega (arith, q, c .if1 .taken))))
 
-add-f : tie.Need-add-f Inv-loop μ-loop
-add-f c = search needs
-
-loop-less : tie.Need-loop-less Inv-loop μ-loop
-loop-less c = search needs
-
-loop-again : tie.Need-loop-again Inv-loop μ-loop
-loop-again c =
-    let a = c .before .before .before .before .before .before in
-    let g = a .before .before .before .before .args in (
-      omega arith,
-      omega arith,
-      omega arith,
-      a .loop .inv .3 ∙ linked-on (g .input .now) (g .types .now) (a .loop .f) (a .loop .next) (omega arith) (c .before .before .before .part-end .result) (c .before .before .before .part-end .ensures) _ (c .before .r .given .1),
-    )
-
-returns-3 : tie.Need-returns-3 Inv-loop μ-loop
+returns-3 : tie.Need-returns-3
 returns-3 c =
-    let a = c .before .before in
-    let g = a .before .before .before .before .args in
-    sym (read-linked (g .types .now) (g .input .now) ∙ a .loop .inv .3
-    ∙ linked-end (g .input .now) (g .types .now) (a .loop .f) (8 * a .loop .f) (a .loop .next) (omega arith) (a .loop .inv .0)
-    ∙ rw (ne-eqb _ _ (c .if2 .taken)))
-
-returns-4 : tie.Need-returns-4 Inv-loop μ-loop
-returns-4 c =
-    let a = c .before .before in
-    let g = a .before .before .before .before .args in
-    sym (read-linked (g .types .now) (g .input .now) ∙ a .loop .inv .3
-    ∙ linked-end (g .input .now) (g .types .now) (a .loop .f) (8 * a .loop .f) (a .loop .next) (omega arith) (a .loop .inv .0)
-    ∙ rw (eq-eqb _ _ (c .if2 .left)))
+    let p = c .before .before .before .before in
+    let g = start p .args in
+    let n = c .before .before .end .given in
+    sym (ends-the-file (g .types .now) (g .input .now) (n .0 .0) (said p _ (n .1)) (omega (arith, c .if1 .left)))
 
 pub read-spec : {M : Type 1} → statement M
-read-spec =
-    tie.close
-    (tie.spec
-    Inv-loop
-    μ-loop
-    returns
-    mul-next
-    loop-holds
-    shared-slice-read-part-end
-    mul-part-end
-    part-end-requires
-    enum-known-r
-    enum-told
-    part-refusal-requires
-    returns-2
-    add-f
-    loop-less
-    loop-again
-    returns-3
-    returns-4)
+read-spec = tie.close (tie.spec first-wrong-requires enum-known-end enum-told returns returns-2 returns-3)
