@@ -118,7 +118,15 @@ module _ (types s : List ℕ) where
       read-check types s
       ∙ case (inputRight types s) (λ z. check z wrongInput (ok tt) ≡ refused 13) (λ e. absurd (w .1 (all-right e f (w .0)))) (λ e. refl)
 
+  -- where all before a field are right, the next one is to begin inside the file
+  start-inside : (n : ℕ) → RightBefore types s n → startOf n s n ≤ length s
+  start-inside zero r = omega arith
+  start-inside (suc n) r = r n (omega arith) .inside
+
   module _ (e : ℕ) (r : PairsAre types s (AllRight e)) where
+    pub ends-inside : e ≤ length s
+    ends-inside = omega (arith, r .1, start-inside (length types) (r .0))
+
     by-end : mapped (λ I. tt {0}) (readInput types s) ≡ check (eqb e (length s)) wrongInput (ok tt)
     by-end = read-check types s ∙ ap (λ z. check z wrongInput (ok tt)) (end-decides (r .0) ∙ ap (λ a. eqb a (length s)) (sym (r .1)))
 

@@ -9,8 +9,12 @@ use Rattle.model.specs.Input.{width}
 use Rattle.input.proofs.part_end.Statement.{statement}
 use Rattle.input.proofs.part_end.Tie as tie
 
+abbrev start : tie.After-width-of → tie.Start
+start c = c .before .before .before .before
+
 -- the length that was read, and the width, are the pair's and the type's
-remainder : (c : tie.After-width-of) → (c .before .u32-at2 .result % c .width-of .result) ≡ (pairAt (c .before .before .before .before .args .input .now) (c .before .before .before .before .args .at) .len % width (c .before .before .before .before .args .ty))
+remainder : (c : tie.After-width-of)
+    → (c .before .u32-at2 .result % c .width-of .result) ≡ (pairAt (start c .args .input .now) (start c .args .at) .len % width (start c .args .ty))
 remainder c = ap₂ (λ (l w : ℕ). l % w) (c .before .u32-at2 .ensures .0) (c .width-of .ensures .0)
 
 u32-at-requires : tie.Need-u32-at-requires

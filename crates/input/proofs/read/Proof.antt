@@ -5,7 +5,7 @@ use native.Mathlib.Omega.{arith}
 use borrow.Author.Needs.{needs}
 use Rattle.input.specs.FirstWrong.{PairsAre}
 use Rattle.input.specs.declared.Pairs.{Pairs}
-use Rattle.input.proofs.Pass.{one-wrong, ends-elsewhere, ends-the-file}
+use Rattle.input.proofs.Pass.{one-wrong, ends-inside, ends-elsewhere, ends-the-file}
 use Rattle.input.proofs.read.Statement.{statement}
 use Rattle.input.proofs.read.Tie as tie
 
@@ -40,7 +40,7 @@ returns-3 c =
     let p = c .before .before .before .before in
     let g = start p .args in
     let n = c .before .before .end .given in
-    sym (ends-the-file (g .types .now) (g .input .now) (n .0 .0) (said p _ (n .1)) (omega (arith, c .if1 .left)))
+    sym (ends-the-file (g .types .now) (g .input .now) (n .0 .0) (said p _ (n .1)) (omega (arith, c .if1 .left, ends-inside (g .types .now) (g .input .now) (n .0 .0) (said p _ (n .1)))))
 
 pub read-spec : {M : Type 1} → statement M
 read-spec = tie.close (tie.spec first-wrong-requires enum-known-end enum-told returns returns-2 returns-3)
