@@ -32,7 +32,7 @@ extern "C" {
 #endif
 
 /* Sizes. */
-#define GATE_SCRATCH_WORDS 85195u /* words of scratch that serve every call: gate_scratch() */
+#define GATE_SCRATCH_WORDS 88270u /* words of scratch that serve every call: gate_scratch() */
 #define GATE_CONDITION_BYTES 61992u /* the least bytes of a condition output; no condition is longer */
 #define GATE_RECIPE_BYTES 8384u /* the longest recipe */
 #define GATE_SHEET_BYTES 33024u /* the longest sheet */

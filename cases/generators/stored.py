@@ -1,8 +1,12 @@
 """The stored files of a program: CRATE/data and CRATE/stdout, written afresh."""
 import os
 import shutil
+from typing import Iterable
 
 from vectors import Case
+
+# What a case asks, as the bits of a byte; crates/cases/src/stored.rt says what each is.
+READING, ANALYSING, MADE_UP, DERIVED, CAUSE, RUNNING, NOTES, ZERO_LIMIT = (1 << place for place in range(8))
 
 
 def four(n: int) -> bytes:
@@ -28,9 +32,13 @@ class Stored:
         for kind in kinds:
             self.put(case.number, kind, case.content(kind))
 
-    def say(self, line: str) -> None:
-        """A line that the program is to print."""
-        self.lines.append(line)
+    def ask(self, number: str, room: int, asks: int) -> None:
+        """What a case asks, and the length of the log that its run is lent."""
+        self.put(number, "case", four(room) + bytes([asks]))
+
+    def say(self, lines: Iterable[str]) -> None:
+        """Lines that the program is to print."""
+        self.lines.extend(lines)
 
     def write_stdout(self) -> None:
         """All the lines."""

@@ -11,8 +11,7 @@ HERE = os.path.dirname(os.path.abspath(__file__))
 ROOT = os.path.dirname(os.path.dirname(HERE))
 sys.path[:0] = [HERE, os.path.join(ROOT, "python")]
 
-import filter_cases  # noqa: E402
-import run_cases  # noqa: E402
+from cases import gate_cases, run_cases  # noqa: E402
 from vectors import cases  # noqa: E402
 
 from survey_gate.condition import Condition  # noqa: E402
@@ -28,10 +27,10 @@ What each stored case is there for. `rt check` and `.ci/run` run the programs be
 
 | program | cases | what it shows |
 |---|---|---|
-| `read_cases` | 000 to %(last)s | the three readers: counts of what is read, refusals 2 to 8 of recipes, 12 of conditions, 13 of sheets, each sheet read for the recipe and for the condition |
-| `derive_cases` | 000 to %(last)s | the analysis: the condition byte for byte and its listing, or refusals 2 to 11 |
-| `filter_cases` | 000 to %(filter)s | the gate on the made-up condition and on the derived one: pass, held with the cause of the first failure, refusals 12 to 15 |
-| `run_cases` | 000 to %(run)s | the run: end, steps and every byte of the records; where the derived condition passes, the numbers of the whole-number run, unmarked |
+| `cases`, reading | 000 to %(last)s | the three readers: counts of what is read, refusals 2 to 8 of recipes, 12 of conditions, 13 of sheets, each sheet read for the recipe and for the condition |
+| `cases`, analysing | 000 to %(last)s | the analysis: the condition byte for byte and its listing, or refusals 2 to 11 |
+| `cases`, filtering | 000 to %(filter)s | the gate on the made-up condition and on the derived one: pass, held with the cause of the first failure, refusals 12 to 15 |
+| `cases`, running | 000 to %(last)s, %(first_run)s to %(run)s | the run: end, steps and every byte of the records; where the derived condition passes, the numbers of the whole-number run, unmarked |
 | `list` | one, on standard input | document 01's example of a listing: two reads of one field are two atoms |
 | `derive` | one | document 01's loop `x = x + 1` before a site: refused 11, and nothing is written |
 | `gate` | one | the files of 000: the made-up condition passes |
@@ -41,12 +40,12 @@ The same vectors go through the library in C's form by `rust/gate/tests/vectors.
 
 ## Beside the vectors
 
-| program | case | what it is there for |
+| part | case | what it is there for |
 |---|---|---|
 %(beside)s
 ## The vectors
 
-A recipe that is accepted, or refused with 9 to 11, shows its whiles, ifs, loads, stores and sites. `Made up` is the condition that comes with the case, put to the case's sheet; `derived` is the recipe's own. Where Card 1 has moved an answer of the gate and the vectors leave it empty, the table says `not compared`. The sets `base` and `card-01` were made before Card 2 and say `held` alone; there the cause is not compared, and `filter_cases` does not print it. A run that is refused as the recipe is says `the same`. Labels and entries count from 0.
+A recipe that is accepted, or refused with 9 to 11, shows its whiles, ifs, loads, stores and sites. `Made up` is the condition that comes with the case, put to the case's sheet; `derived` is the recipe's own. Where Card 1 has moved an answer of the gate and the vectors leave it empty, the table says `not compared`. The sets `base` and `card-01` were made before Card 2 and say `held` alone; there the cause is not compared, and `cases` does not print it. A run that is refused as the recipe is says `the same`. Labels and entries count from 0.
 
 %(sets)s
 
@@ -149,20 +148,18 @@ def sets_told(outside):
     return "; ".join(parts) + "."
 
 
-def beside_told(first):
-    """The rows of the cases beside the vectors, whose numbers start with this one."""
-    rows = [("filter_cases", k, f"{one.what}: {told(one.answer, pair_place(one))}") for k, one in enumerate(filter_cases.beside(), first)]
-    rows += [("run_cases", k, one.what) for k, one in enumerate(run_cases.beside(), first)]
-    return "".join(f"| `{program}` | {number:03d} | {what} |\n" for program, number, what in rows)
+def beside_told():
+    """The rows of the cases beside the vectors."""
+    rows = [("filtering", number, f"{one.what}: {told(one.answer, pair_place(one))}") for number, one in gate_cases()]
+    rows += [("running", number, one.what) for number, one in run_cases()]
+    return "".join(f"| {part} | {number} | {what} |\n" for part, number, what in rows)
 
 
 def table():
     """The whole of CASES.md."""
-    outside = cases()
-    first = len(outside)
-    lasts = {"last": first, "filter": first + len(filter_cases.beside()), "run": first + len(run_cases.beside())}
-    numbers = {name: f"{after - 1:03d}" for name, after in lasts.items()}
-    head = HEAD % {"beside": beside_told(first), "sets": sets_told(outside), **numbers}
+    outside, of_gate, of_run = cases(), gate_cases(), run_cases()
+    numbers = {"last": outside[-1].number, "filter": of_gate[-1][0], "first_run": of_run[0][0], "run": of_run[-1][0]}
+    head = HEAD % {"beside": beside_told(), "sets": sets_told(outside), **numbers}
     return head + "".join(row(case) for case in outside)
 
 

@@ -7,7 +7,7 @@ import unittest
 
 from support import LAUNCHER, SAMPLES, Folder, cases, gate, is_answer
 
-from filter_cases import beside
+from filtering import beside
 from survey_gate import Condition, Recipe, Refused, Sheet, check, run
 from survey_gate.library import load
 

@@ -1,5 +1,4 @@
 -- The answers of a derivation, from what the reader, the sites and the writer answer.
--- Assumes nothing.
 use mathlib.Core.Bool.{true, false, _&&_, true≢false}
 use mathlib.Core.List.{List, _++_}
 use mathlib.Core.Path.{_≡_, refl, sym, ap, subst, _∙_}
@@ -14,11 +13,12 @@ use Rattle.model.specs.Conjunct.{Conjuncts}
 use Rattle.model.specs.Lists.{All}
 use Rattle.model.specs.Program.{Program, Tables, layoutOf, readProgram}
 use Rattle.model.specs.Refusals.{Out, ok, refused, _>>=_, mapped, wrongBlocks}
+use Rattle.model.proofs.Results.{mapped-refused}
 use Rattle.model.specs.Demands.{AnalysisRefusal, Demand1}
 use Rattle.model.specs.Walk.{derived}
+use Rattle.model.specs.Formed.{Formed}
 use Rattle.model.proofs.Demand1.{lent-answer, demand1}
 use Rattle.model.proofs.Derives.{derived-formed}
-use Rattle.model.proofs.Formed.{Formed}
 use Rattle.model.proofs.Lent.{scratch-as-it-was, scratch-worked}
 use Rattle.model.proofs.RefusalNumbers.{read-refusals-analysis}
 use Rattle.bytes_le.specs.Overlay.{overlay}
@@ -66,15 +66,11 @@ module _ (s : List ℕ) (P : Program) (e : readProgram s ≡ ok P) where
 
 -- ---- a program that is not read
 
-not-read : {A B : Type 0} (f : A → B) (o : Out A) (k : ℕ) → refused k ≡ mapped f o → o ≡ refused k
-not-read f (ok a) k e = let z : true ≡ false = cc in absurd (true≢false z)
-not-read f (refused m) k e = cc
-
 unread-refusal : (s : List ℕ) (r : ProgramRead) (k : ℕ) → programAnswer r ≡ mapped (λ P. layoutOf s) (readProgram s) → r ≡ NotRead k
     → analysis s ≡ refused k
 unfolding analysis
 unread-refusal s r k h e =
-    let n = not-read (λ P. layoutOf s) (readProgram s) k (sym (ap programAnswer e) ∙ h) in
+    let n = mapped-refused (λ P. layoutOf s) (readProgram s) k (sym (ap programAnswer e) ∙ h) in
     ap (λ o. o >>= λ Q. derived (Q .code) >>= λ S. ok (encode (Q .tables .fields) S)) n
 
 -- ---- what is lent

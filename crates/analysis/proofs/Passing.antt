@@ -1,26 +1,33 @@
 -- The sites by rising label: each label is a site, or leaves what the sites come to as it was.
--- Assumes nothing.
 use mathlib.Core.List.{List, [], _∷_, _++_, map}
 use mathlib.Core.Path.{_≡_, refl, sym, ap, subst, _∙_}
-use Prim.Native.Nat.{ℕ, zero, suc, _+_, _<_}
+use Prim.Native.Nat.{ℕ, suc, _+_, _≤_, _<_}
+use lib.ListN.{length}
 use native.Mathlib.Numerals.{add-one}
 use native.Mathlib.Omega.{arith}
 use Rattle.model.specs.Code.{site, Code, Stmt, plain, if, else, end, while}
 use Rattle.model.specs.Conjunct.{Conjuncts, unionOf, long, limits, var}
-use Rattle.model.specs.Program.{Tables, Statement, variableType, stmtOf}
+use Rattle.model.specs.Kinds.{Kind, aNumber, aCopy, anOperation, aConversion, aRead, aLoad, aStore, aSite, anIf, anElse, anEnd, aWhile, noKind, kindOf}
+use Rattle.model.specs.Placement.{Laid}
+use Rattle.model.specs.Sizes.{mostNested}
 use Rattle.model.specs.Refusals.{Out, ok, refused, _>>=_}
 use Rattle.model.specs.Walk.{here, sites, start, join, derived}
-use Rattle.model.proofs.Depth.{Nested}
+use Rattle.model.specs.Nesting.{Nested}
+use Rattle.model.specs.TidySets.{Tidy}
+use Rattle.model.specs.Enclosing.{walkOut, From}
 use Rattle.model.proofs.Results.{bind-assoc}
-use Rattle.model.proofs.TidySets.{Tidy}
-use Rattle.model.proofs.Rising.{walkOut, From, from-start, from-end, Next, statement, bare, from-next}
-use Rattle.program.specs.Reading.{tablesOf, stmtAt, statementOf}
-use Rattle.program.proofs.Statements.{stmt-at}
-use Rattle.rules.specs.Answers.{answered}
+use Rattle.model.proofs.Rising.{from-start, from-end, Next, statement, bare, from-next}
+use Rattle.model.proofs.KindNumbers.{IsNumber, kind-number}
+use Rattle.code_table.specs.declared.Decoded.{Decoded}
+use Rattle.code_table.specs.Statements.{stmtFor, stmtFrom}
+use Rattle.code_table.specs.Table.{tableOf, rowIn, stmtIn, mateIn, KnownBelow}
+use Rattle.sets.specs.Region.{setOf}
+use Rattle.walk.proofs.Regions.{below-table}
+use Rattle.rules.specs.Answers.{answered, Below}
 use Rattle.rules.specs.declared.Answer.{Answer}
 use Rattle.rules.specs.declared.Answer.the-variants.{Done, Refused}
-use Rattle.walk.specs.Piece.{Lies}
-use Rattle.enclosing.specs.Enclosing.{mateIn, walkedOut, Enclosed}
+use Rattle.enclosing.specs.Enclosing.{walkedOut, Enclosed}
+use Rattle.analysis.specs.Deriving.{unionAt, analysisWords}
 use Rattle.analysis.specs.Joining.{SitesFrom, Sited, PassedLabel}
 
 -- ---- which statements are sites
@@ -33,32 +40,29 @@ begins else = []
 begins end = []
 begins (while v) = []
 
-module _ (T : Tables) (q : Statement) where
-  is-site : q .kind ≡ 10 → stmtOf T q ≡ plain (site (q .a) (variableType T (q .a)))
-  unfolding stmtOf
+module _ (d : Decoded) where
+  is-site : d .kind ≡ 10 → stmtFrom d ≡ plain (site (d .a) (d .ty))
+  unfolding stmtFrom kindOf
   is-site e = rw e
 
-  no-site : (q .kind ≡ 10 → ⊥) → begins (stmtOf T q) ≡ []
-  unfolding stmtOf here
-  no-site = go (q .kind)
+  no-site : (d .kind ≡ 10 → ⊥) → begins (stmtFrom d) ≡ []
+  unfolding stmtFrom here
+  no-site other = go (kindOf (d .kind)) (kind-number (d .kind))
     where
-      go : (k : ℕ) → (k ≡ 10 → ⊥) → begins (stmtOf T (record { kind = k; a = q .a; b = q .b; c = q .c; imm = q .imm })) ≡ []
-      go zero h = refl
-      go (suc zero) h = refl
-      go (suc (suc zero)) h = refl
-      go (suc (suc (suc zero))) h = refl
-      go (suc (suc (suc (suc zero)))) h = refl
-      go (suc (suc (suc (suc (suc zero))))) h = refl
-      go (suc (suc (suc (suc (suc (suc zero)))))) h = refl
-      go (suc (suc (suc (suc (suc (suc (suc zero))))))) h = refl
-      go (suc (suc (suc (suc (suc (suc (suc (suc zero)))))))) h = refl
-      go (suc (suc (suc (suc (suc (suc (suc (suc (suc zero))))))))) h = refl
-      go (suc (suc (suc (suc (suc (suc (suc (suc (suc (suc zero)))))))))) h = absurd (h refl)
-      go (suc (suc (suc (suc (suc (suc (suc (suc (suc (suc (suc zero))))))))))) h = refl
-      go (suc (suc (suc (suc (suc (suc (suc (suc (suc (suc (suc (suc zero)))))))))))) h = refl
-      go (suc (suc (suc (suc (suc (suc (suc (suc (suc (suc (suc (suc (suc zero))))))))))))) h = refl
-      go (suc (suc (suc (suc (suc (suc (suc (suc (suc (suc (suc (suc (suc (suc zero)))))))))))))) h = refl
-      go (suc (suc (suc (suc (suc (suc (suc (suc (suc (suc (suc (suc (suc (suc (suc k))))))))))))))) h = refl
+      go : (k : Kind) → IsNumber k (d .kind) → begins (stmtFor k d) ≡ []
+      go aNumber n = refl
+      go aCopy n = refl
+      go (anOperation o) n = refl
+      go aConversion n = refl
+      go aRead n = refl
+      go aLoad n = refl
+      go aStore n = refl
+      go aSite n = absurd (other n)
+      go anIf n = refl
+      go anElse n = refl
+      go anEnd n = refl
+      go aWhile n = refl
+      go noKind n = refl
 
 -- ---- one label
 
@@ -66,55 +70,48 @@ regroup : (o : Out Conjuncts) (f g h : Conjuncts → Out Conjuncts) → (o >>= f
 regroup (ok S) f g h = sym (bind-assoc (f S) g h)
 regroup (refused k) f g h = refl
 
-module _ (program table : List ℕ) (n i : ℕ) where
-  abbrev T : Tables
-  T = tablesOf program
+module _ (k : List ℕ) (n i : ℕ) where
+  abbrev row : Decoded
+  row = rowIn k i
 
-  next : i < n → (L : List (Out Conjuncts)) → SitesFrom program table n i L → Next (stmtAt T) (mateIn table) n i L
-  next b L f = from-next (stmtAt T) (mateIn table) n i L b f
+  next : i < n → (L : List (Out Conjuncts)) → SitesFrom k n i L → Next (stmtIn k) (mateIn k) n i L
+  next b L f = from-next (stmtIn k) (mateIn k) n i L b f
 
   -- the label after it, as code has it
-  onto : (M : List (Out Conjuncts)) → From (stmtAt T) (mateIn table) n (suc i) M → SitesFrom program table n (i + 1) M
-  onto M f = subst (λ z. SitesFrom program table n z M) (sym (add-one i)) f
+  onto : (M : List (Out Conjuncts)) → From (stmtIn k) (mateIn k) n (suc i) M → SitesFrom k n (i + 1) M
+  onto M f = subst (λ z. SitesFrom k n z M) (sym (add-one i)) f
 
   module _ (b : i < n) (R : Conjuncts) where
     -- a site
 
-    module _ (k : statementOf T i .kind ≡ 10) where
-      at-site : stmtAt T i ≡ plain (site (statementOf T i .a) (variableType T (statementOf T i .a)))
-      at-site = stmt-at T i ∙ is-site T (statementOf T i) k
-
-      pub site-leads : (L : List (Out Conjuncts)) → SitesFrom program table n i L → Enclosed program table n i
-      site-leads L f = go (next b L f)
+    module _ (kind : row .kind ≡ 10) where
+      pub site-leads : KnownBelow n k → (L : List (Out Conjuncts)) → SitesFrom k n i L → Enclosed k n i
+      site-leads h L f = go (next b L f)
         where
-          go : Next (stmtAt T) (mateIn table) n i L → Enclosed program table n i
-          go (statement x q w M p c e g) = (q, w, c)
-          go (bare p g) = absurd (p (site (statementOf T i .a) (variableType T (statementOf T i .a))) at-site)
+          go : Next (stmtIn k) (mateIn k) n i L → Enclosed k n i
+          go (statement x q w M p c e g) = record { known = h; end = q; blocks = w; inside = c }
+          go (bare p g) = absurd (p (site (row .a) (row .ty)) (is-site row kind))
 
-      at-label : (a : Answer) (Q : Conjuncts) → Sited program table n i (statementOf T i .a) (variableType T (statementOf T i .a)) R a Q → PassedLabel program table n i R a Q
+      pub pass-site : (a : Answer) (Q : Conjuncts) → Sited k n i (row .a) (row .ty) R a Q → PassedLabel k n i R a Q
       unfolding here join
-      at-label a Q h L f = go (next b L f)
+      pass-site a Q h L f = go (next b L f)
         where
-          go : Next (stmtAt T) (mateIn table) n i L → (M : List (Out Conjuncts)) × SitesFrom program table n (i + 1) M × (join R L ≡ (answered a Q >>= λ U. join U M))
+          go : Next (stmtIn k) (mateIn k) n i L → (M : List (Out Conjuncts)) × SitesFrom k n (i + 1) M × (join R L ≡ (answered a Q >>= λ U. join U M))
           go (statement y q w M p c e g) =
-              let same : here y ≡ here (site (statementOf T i .a) (variableType T (statementOf T i .a))) = ap begins (sym p ∙ at-site) in
-              let o = walkedOut program table n i q w ((var (statementOf T i .a) (variableType T (statementOf T i .a)) ∷ []) ∷ []) in
-              let first : L ≡ o ∷ M = e ∙ ap (λ os. map (_>>= walkOut (stmtAt T) (mateIn table) n w) os ++ M) same in
+              let same : here y ≡ here (site (row .a) (row .ty)) = ap begins (sym p ∙ is-site row kind) in
+              let o = walkedOut k n i q w ((var (row .a) (row .ty) ∷ []) ∷ []) in
+              let first : L ≡ o ∷ M = e ∙ ap (λ os. map (_>>= walkOut (stmtIn k) (mateIn k) n w) os ++ M) same in
               (M, onto M g, ap (join R) first ∙ regroup o start (λ Z. limits (unionOf R Z)) (λ U. join U M) ∙ ap (_>>= λ U. join U M) (h q w c))
-          go (bare p g) = absurd (p (site (statementOf T i .a) (variableType T (statementOf T i .a))) at-site)
-
-      pub pass-site : (x ty : ℕ) (a : Answer) (Q : Conjuncts) → x ≡ statementOf T i .a → ty ≡ variableType T x → Sited program table n i x ty R a Q → PassedLabel program table n i R a Q
-      pass-site x ty a Q e d h =
-          at-label a Q (subst (λ z. Sited program table n i z (variableType T z) R a Q) e (subst (λ z. Sited program table n i x z R a Q) d h))
+          go (bare p g) = absurd (p (site (row .a) (row .ty)) (is-site row kind))
 
     -- any other statement
-    pub pass-other : (statementOf T i .kind ≡ 10 → ⊥) → PassedLabel program table n i R Done R
-    pass-other k L f = go (next b L f)
+    pub pass-other : (row .kind ≡ 10 → ⊥) → PassedLabel k n i R Done R
+    pass-other other L f = go (next b L f)
       where
-        go : Next (stmtAt T) (mateIn table) n i L → (M : List (Out Conjuncts)) × SitesFrom program table n (i + 1) M × (join R L ≡ join R M)
+        go : Next (stmtIn k) (mateIn k) n i L → (M : List (Out Conjuncts)) × SitesFrom k n (i + 1) M × (join R L ≡ join R M)
         go (statement x q w M p c e g) =
-            let none : here x ≡ [] = ap begins (sym p ∙ stmt-at T i) ∙ no-site T (statementOf T i) k in
-            (M, onto M g, ap (join R) (e ∙ ap (λ o. map (_>>= walkOut (stmtAt T) (mateIn table) n w) o ++ M) none))
+            let none : here x ≡ [] = ap begins (sym p) ∙ no-site row other in
+            (M, onto M g, ap (join R) (e ∙ ap (λ o. map (_>>= walkOut (stmtIn k) (mateIn k) n w) o ++ M) none))
         go (bare p g) = (L, onto L g, refl)
 
 -- ---- all labels
@@ -123,31 +120,61 @@ pub empty-tidy : (R : Conjuncts) → R ≡ [] → Tidy R
 unfolding long
 empty-tidy R e = subst Tidy (sym e) (record { canon = tt; numbered = tt; fine = record { short = refl; few = omega arith } })
 
-module _ (program table : List ℕ) (n : ℕ) where
+module _ (k : List ℕ) (n : ℕ) where
   -- what is left of the sites from the label i on, joined to the union R, is all that the analysis derives
   abbrev pub Left : ℕ → Conjuncts → Type 0
-  Left i R = (c : Code) → Lies program table c 0 n → Nested 4 c → (L : List (Out Conjuncts)) × SitesFrom program table n i L × (derived c ≡ join R L)
+  Left i R = (c : Code) → Laid (stmtIn k) (mateIn k) c 0 n → Nested mostNested c → (L : List (Out Conjuncts)) × SitesFrom k n i L × (derived c ≡ join R L)
 
   pub left-all : (R : Conjuncts) → R ≡ [] → Left 0 R
   unfolding derived
-  left-all R e c l k = (sites c, from-start (stmtAt (tablesOf program)) (mateIn table) n c l k, ap (λ S. join S (sites c)) (sym e))
+  left-all R e c l d = (sites c, from-start (stmtIn k) (mateIn k) n c l d, ap (λ S. join S (sites c)) (sym e))
 
-  pub left-none : (i : ℕ) → i ≡ n → (R : Conjuncts) → Left i R → (c : Code) → Lies program table c 0 n → Nested 4 c → derived c ≡ ok R
+  pub left-none : (i : ℕ) → i ≡ n → (R : Conjuncts) → Left i R → (c : Code) → Laid (stmtIn k) (mateIn k) c 0 n → Nested mostNested c → derived c ≡ ok R
   unfolding join
-  left-none i e R f c l k =
-      let g = f c l k in
-      let at-end = subst (λ z. SitesFrom program table n z (g .0)) e (g .1) in
-      g .2 ∙ ap (join R) (from-end (stmtAt (tablesOf program)) (mateIn table) n (g .0) at-end)
+  left-none i e R f c l d =
+      let g = f c l d in
+      let at-end = subst (λ z. SitesFrom k n z (g .0)) e (g .1) in
+      g .2 ∙ ap (join R) (from-end (stmtIn k) (mateIn k) n (g .0) at-end)
 
-  module _ (i : ℕ) (R Q : Conjuncts) (a : Answer) (f : Left i R) (h : PassedLabel program table n i R a Q) where
-    pub left-refused : (m : ℕ) → a ≡ Refused m → (c : Code) → Lies program table c 0 n → Nested 4 c → derived c ≡ refused m
-    left-refused m e c l k =
-        let g = f c l k in
+  module _ (i : ℕ) (R Q : Conjuncts) (a : Answer) (f : Left i R) (h : PassedLabel k n i R a Q) where
+    pub left-refused : (m : ℕ) → a ≡ Refused m → (c : Code) → Laid (stmtIn k) (mateIn k) c 0 n → Nested mostNested c → derived c ≡ refused m
+    left-refused m e c l d =
+        let g = f c l d in
         let p = h (g .0) (g .1) in
         g .2 ∙ p .2 ∙ ap (λ x. answered x Q >>= λ U. join U (p .0)) e
 
     pub left-next : a ≡ Done → Left (i + 1) Q
-    left-next e c l k =
-        let g = f c l k in
+    left-next e c l d =
+        let g = f c l d in
         let p = h (g .0) (g .1) in
         (p .0, p .1, g .2 ∙ p .2 ∙ ap (λ x. answered x Q >>= λ U. join U (p .0)) e)
+
+-- ---- the words
+
+module _ (s₀ : List ℕ) (n : ℕ) where
+  -- all labels before i are passed, from the words s₀ to s
+  pub record Passed (s : List ℕ) (i : ℕ) : Type 0 where
+    pub same-length : length s ≡ length s₀
+    pub most : i ≤ n
+    pub tidy : Tidy (setOf s unionAt)
+    pub table : tableOf 0 s ≡ tableOf 0 s₀
+    pub left : Left (tableOf 0 s₀) n i (setOf s unionAt)
+
+  -- the label i is passed with the answer a, from s to t
+  module _ (s : List ℕ) (i : ℕ) (g : Passed s i) (t : List ℕ) (a : Answer) (more : i < n)
+      (does : (m : ℕ) → i < m → PassedLabel (tableOf 0 s) m i (setOf s unionAt) a (setOf t unionAt)) where
+    here-passed : PassedLabel (tableOf 0 s₀) n i (setOf s unionAt) a (setOf t unionAt)
+    here-passed = subst (λ k. PassedLabel k n i (setOf s unionAt) a (setOf t unionAt)) (g .table) (does n more)
+
+    pub passed-refused : (m : ℕ) → a ≡ Refused m → (c : Code) → Laid (stmtIn (tableOf 0 s₀)) (mateIn (tableOf 0 s₀)) c 0 n → Nested mostNested c
+        → derived c ≡ refused m
+    passed-refused = left-refused (tableOf 0 s₀) n i (setOf s unionAt) (setOf t unionAt) a (g .left) here-passed
+
+    pub passed-next : a ≡ Done → analysisWords ≤ length s₀ → length t ≡ length s → Tidy (setOf t unionAt) → Below unionAt s t → Passed t (i + 1)
+    passed-next e room same-t tidy below = record {
+      same-length = same-t ∙ g .same-length;
+      most = omega arith;
+      tidy = tidy;
+      table = below-table unionAt s t (omega arith) (omega (arith, g .same-length)) same-t below ∙ g .table;
+      left = left-next (tableOf 0 s₀) n i (setOf s unionAt) (setOf t unionAt) a (g .left) here-passed e;
+    }

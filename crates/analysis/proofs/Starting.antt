@@ -1,5 +1,4 @@
 -- The rule at the program's start, conjunct by conjunct from the last to the first: it never refuses a set that a region holds.
--- Assumes nothing.
 use mathlib.Core.Bool.{Bool, true, false}
 use mathlib.Core.List.{List, [], _∷_, map}
 use mathlib.Core.Logic.{inr}
@@ -12,45 +11,22 @@ use borrow.Author.Tests.{le-ltb}
 use Rattle.model.specs.Conjunct.{Conj, Conjuncts, withConjunct, unionOf, long, atom, atoms, renamed, onAtom, renumber}
 use Rattle.model.specs.Lists.{All}
 use Rattle.model.specs.Refusals.{ok}
+use Rattle.model.specs.Sizes.{mostNodes}
 use Rattle.model.specs.Walk.{zeroed, gather, start}
+use Rattle.model.specs.TidySets.{Fine}
 use Rattle.model.proofs.Canonical.{insert-length}
 use Rattle.model.proofs.Gather.{gather-every}
 use Rattle.model.proofs.Limits.{fine-limits}
-use Rattle.model.proofs.TidySets.{Fine}
-use Rattle.node.specs.Word.{nodeOf, nodesOf}
-use Rattle.sets.specs.Region.{few, slotAt, rowsFrom, rowsOf, setOf, Within, Inserted}
-use Rattle.sets.proofs.Rows.{few-most, set-length, take-short, frame}
+use Rattle.conjunct.specs.Word.{nodeOf, nodesOf}
+use Rattle.sets.specs.Region.{regionWords, few, slotAt, rowsFrom, rowsOf, setOf, Within, Inserted}
+use Rattle.sets.proofs.Rows.{set-few, frame}
+use Rattle.rules.proofs.Limiting.{all-short, set-short}
 
 -- ---- sets within the limits
 
--- no conjunct over 120 nodes
+-- no conjunct of more nodes than a condition may have
 abbrev pub Short : Conj → Type 0
-Short e = length e ≤ 120
-
-pub short-long : (S : Conjuncts) → All Short S → long S ≡ false
-unfolding long
-short-long [] h = refl
-short-long (e ∷ S) h = rw (le-ltb 120 (length e) (h .0)) (short-long S (h .1))
-
-take-most : (n : ℕ) (l : List ℕ) → length (take n l) ≤ n
-take-most zero l = omega arith
-take-most (suc n) [] = omega arith
-take-most (suc n) (x ∷ l) = omega (arith, take-most n l)
-
-rows-short : (n : ℕ) (s : List ℕ) (a : ℕ) → All Short (map nodesOf (rowsFrom s a n))
-unfolding rowsFrom slotAt
-rows-short zero s a = tt
-rows-short (suc n) s a =
-    let room = take 120 (drop (a + 1) s) in
-    (omega (arith, length-map (take (getD s a 0) room) nodeOf, take-short (getD s a 0) room, take-most 120 (drop (a + 1) s)), rows-short n s (a + 121))
-
--- what a region holds
-pub region-short : (s : List ℕ) (b : ℕ) → All Short (setOf s b)
-unfolding setOf rowsOf
-region-short s b = rows-short (few (getD s b 0)) s (b + 1)
-
-pub region-few : (s : List ℕ) (b : ℕ) → length (setOf s b) ≤ 64
-region-few s b = omega (arith, set-length s b, few-most (getD s b 0))
+Short e = length e ≤ mostNodes
 
 -- ---- the rule
 
@@ -86,14 +62,14 @@ unfolding start
 start-fits s b =
     let S = setOf s b in
     let fine : Fine (started S) = record {
-      short = short-long (started S) (gather-every Short atStart Short one-short S (region-short s b));
-      few = omega (arith, started-length S, region-few s b);
+      short = all-short (started S) (gather-every Short atStart Short one-short S (set-short s b));
+      few = omega (arith, started-length S, set-few s b);
     } in
     fine-limits (started S) fine
 
 -- ---- in a region, with a room behind it
 
-module _ (s₀ : List ℕ) (b room : ℕ) (fit : b + 7745 ≤ room) (inside : room + 7745 ≤ length s₀) where
+module _ (s₀ : List ℕ) (b room : ℕ) (fit : b + regionWords ≤ room) (inside : room + regionWords ≤ length s₀) where
   -- the set stays while the room changes
   pub kept : (s : List ℕ) → length s ≡ length s₀ → Within room s₀ s → setOf s b ≡ setOf s₀ b
   kept s len within = frame s₀ s room b len (omega arith) (inr fit) within
@@ -110,7 +86,7 @@ module _ (s₀ : List ℕ) (b room : ℕ) (fit : b + 7745 ≤ room) (inside : ro
       go : (q : Bool) → Inserted q room d s t → setOf t room ≡ started (drop j (setOf s₀ b))
       go true i = i ∙ next
       go false i =
-          absurd (omega (arith, i .1, insert-length d (setOf s room), ap length so, started-length (drop k (setOf s₀ b)), length-drop k (setOf s₀ b), region-few s₀ b))
+          absurd (omega (arith, i .1, insert-length d (setOf s room), ap length so, started-length (drop k (setOf s₀ b)), length-drop k (setOf s₀ b), set-few s₀ b))
 
 pub start-done : (s₀ : List ℕ) (b : ℕ) (s : List ℕ) (room k : ℕ) → k ≡ 0 → setOf s room ≡ started (drop k (setOf s₀ b)) → start (setOf s₀ b) ≡ ok (setOf s room)
 start-done s₀ b s room k z so = start-fits s₀ b ∙ ap (λ T. ok T) (sym (so ∙ ap (λ j. started (drop j (setOf s₀ b))) z))

@@ -1,9 +1,8 @@
 -- What the answer of a derivation stands for, and what it leaves in the output and in scratch.
--- Assumes nothing.
 use mathlib.Core.Bool.{_&&_}
 use mathlib.Core.List.{List}
 use mathlib.Core.Path.{_≡_}
-use Prim.Native.Nat.{ℕ, _≤_}
+use Prim.Native.Nat.{ℕ, _+_, _*_, _≤_}
 use lib.Dec.{leb}
 use lib.ListN.{length, take}
 use Rattle.model.specs.Condition.{conditionBytes, analysis}
@@ -11,12 +10,22 @@ use Rattle.model.specs.Refusals.{Out, ok, refused, check, lentTooShort, wrongBl
 use Rattle.model.specs.Demands.{ResultOrRefusal, OrLent, AnalysisRefusal}
 use Rattle.model.specs.Lent.{ScratchLeft}
 use Rattle.bytes_le.specs.Overlay.{overlay}
+use Rattle.code_table.specs.Table.{tableWords}
+use Rattle.sets.specs.Region.{regionWords}
 use Rattle.analysis.specs.declared.Derived.{Derived}
 use Rattle.analysis.specs.declared.Derived.the-variants.{Written, Refused}
 
--- the words of scratch: the union so far, and ten regions for the walk
+-- where the union so far stands: the first region, behind the code table
+abbrev pub unionAt : ℕ
+unionAt = tableWords
+
+-- where a site's set stands: the region after it
+abbrev pub siteAt : ℕ
+siteAt = unionAt + regionWords
+
+-- the words of scratch: the code table, the union so far, and ten regions for the walk
 abbrev pub analysisWords : ℕ
-analysisWords = 85195
+analysisWords = siteAt + 10 * regionWords
 
 -- the condition file of a program's bytes, where the output has room for the longest one and scratch has its words
 unfoldable pub derivation : (output scratch : ℕ) → List ℕ → Out (List ℕ)

@@ -1,36 +1,44 @@
 // The analysis: from a program's bytes to the condition file that it needs, or a numbered refusal.
-// Assumes nothing.
 ghost use mathlib.Core.Path.{_≡_};
 ghost use mathlib.Core.List.{List, [], _∷_};
-ghost use Prim.Native.Nat.{_+_, _≤_, _<_};
+ghost use Prim.Native.Nat.{ℕ, _+_, _*_, _≤_, _<_};
 ghost use lib.ListN.{length};
 ghost use Rattle.model.specs.Code.{Code};
-ghost use Rattle.model.specs.Conjunct.{Conjuncts};
-ghost use Rattle.model.specs.Refusals.{Out, ok};
-ghost use Rattle.model.specs.Walk.{start, derived};
 ghost use Rattle.model.specs.Condition.{conditionBytes, encode, analysis};
+ghost use Rattle.model.specs.Conjunct.{Conjuncts};
+ghost use Rattle.model.specs.Formed.{Formed};
 ghost use Rattle.model.specs.Lists.{All};
-ghost use Rattle.model.proofs.Depth.{Nested};
-ghost use Rattle.model.proofs.Formed.{Formed};
-ghost use Rattle.model.proofs.TidySets.{Tidy};
+ghost use Rattle.model.specs.Nesting.{Nested};
+ghost use Rattle.model.specs.Refusals.{Out, ok};
+ghost use Rattle.model.specs.Sizes.{mostNodes, mostNested};
+ghost use Rattle.model.specs.TidySets.{Tidy};
+ghost use Rattle.model.specs.Walk.{start, derived};
 ghost use Rattle.program.specs.Reading.{ProgramIsRead, tablesOf};
-ghost use Rattle.node.specs.Word.{nodeOf};
-ghost use Rattle.sets.specs.Region.{setOf, Within};
+ghost use Rattle.code_table.specs.Statements.{variableNumbers};
+ghost use Rattle.code_table.specs.Table.{tableOf, KnownBelow};
+ghost use Rattle.conjunct.specs.Word.{nodeOf};
+ghost use Rattle.sets.specs.Region.{setOf, Within, regionWords};
 ghost use Rattle.rules.specs.Answers.{answered, Below};
 ghost use Rattle.rules.specs.declared.Answer.the-variants.{Done};
 ghost use Rattle.walk.specs.Piece.{Lies, Piece};
-ghost use Rattle.enclosing.specs.Enclosing.{Enclosed};
-ghost use Rattle.analysis.specs.Deriving.{analysisWords, derivation, Filed, FileGiven, Derives};
-ghost use Rattle.analysis.specs.Joining.{joinedTo, SitesFrom, Sited, PassedLabel};
+ghost use Rattle.enclosing.specs.Enclosing.{Enclosed, Moved};
+ghost use Rattle.analysis.specs.Deriving.{unionAt, siteAt, analysisWords, derivation, Filed, FileGiven, Derives};
+ghost use Rattle.analysis.specs.Joining.{joinedTo, SitesFrom, Sited, PassedLabel, Uniting};
 use program::Layout;
 use program::ProgramRead;
 use rules::Answer;
+
+// Where the union so far stands: the first region, behind the code table.
+const UNION: usize = 3075;
+
+// Where a site's set stands: the region after it.
+const SITE: usize = 10820;
 
 // ---- one site
 
 // The set of one conjunct, whose only node is the word w.
 fn single(s: &mut [u64], b: usize, w: u64)
-    requires { ⌜ b + 7745 ≤ length (now s) ⌝ }
+    requires { ⌜ b + regionWords ≤ length (now s) ⌝ }
     ensures { λ _. ⌜ (setOf (now (s .exit)) b ≡ (nodeOf w ∷ []) ∷ []) × Within b (now (s .entry)) (now (s .exit)) ⌝ }
 {
     let words: [u64; 1] = [w];
@@ -41,7 +49,7 @@ fn single(s: &mut [u64], b: usize, w: u64)
 // What the conjuncts of the region at b come to at the program's start, gathered in the empty room
 // from the last to the first. `e` and `seen` are room to work in.
 fn gather_start(s: &mut [u64], b: usize, room: usize, e: &mut [u64], seen: &mut [u64])
-    requires { ⌜ (b + 7745 ≤ room) × (room + 7745 ≤ length (now s)) × (setOf (now s) room ≡ []) × (120 ≤ length (now e)) × (120 ≤ length (now seen)) ⌝ }
+    requires { ⌜ (b + regionWords ≤ room) × (room + regionWords ≤ length (now s)) × (setOf (now s) room ≡ []) × (mostNodes ≤ length (now e)) × (mostNodes ≤ length (now seen)) ⌝ }
     ensures { λ _. ⌜ (start (setOf (now (s .entry)) b) ≡ ok (setOf (now (s .exit)) room)) × Within room (now (s .entry)) (now (s .exit)) ⌝ }
 {
     let mut k = sets::size(s, b);
@@ -49,18 +57,18 @@ fn gather_start(s: &mut [u64], b: usize, room: usize, e: &mut [u64], seen: &mut 
         k -= 1;
         let n = sets::get(s, b, k, e);
         conjunct::at_start(e, n);
-        numbering::renumber(e, n, seen);
+        conjunct::numbering::renumber(e, n, seen);
         sets::insert(s, room, e, n);
     }
 }
 
-// The rule at the program's start on the set of the region at b. The region after it, at b + 7745,
+// The rule at the program's start on the set of the region at b. The region after it, at b + sets::REGION,
 // is room to work in.
 fn start_set(s: &mut [u64], b: usize)
-    requires { ⌜ b + 15490 ≤ length (now s) ⌝ }
+    requires { ⌜ b + 2 * regionWords ≤ length (now s) ⌝ }
     ensures { λ _. ⌜ (start (setOf (now (s .entry)) b) ≡ ok (setOf (now (s .exit)) b)) × Below b (now (s .entry)) (now (s .exit)) ⌝ }
 {
-    let room = b + 7745;
+    let room = b + sets::REGION;
     sets::clear(s, room);
     let mut e: [u64; 120] = [0; 120];
     let mut seen: [u64; 120] = [0; 120];
@@ -70,11 +78,11 @@ fn start_set(s: &mut [u64], b: usize)
 
 // The set of the region after b, at the program's start, joined to the union so far at b.
 fn join_next(s: &mut [u64], b: usize) -> Answer
-    requires { ⌜ (b + 23235 ≤ length (now s)) × Tidy (setOf (now s) b) ⌝ }
-    ensures { λ a. ⌜ (joinedTo (setOf (now (s .entry)) b) (setOf (now (s .entry)) (b + 7745)) ≡ answered a (setOf (now (s .exit)) b))
+    requires { ⌜ (b + 3 * regionWords ≤ length (now s)) × Tidy (setOf (now s) b) ⌝ }
+    ensures { λ a. ⌜ (joinedTo (setOf (now (s .entry)) b) (setOf (now (s .entry)) (b + regionWords)) ≡ answered a (setOf (now (s .exit)) b))
         × (a ≡ Done → Tidy (setOf (now (s .exit)) b)) × Below b (now (s .entry)) (now (s .exit)) ⌝ }
 {
-    let next = b + 7745;
+    let next = b + sets::REGION;
     start_set(s, next);
     let fits = sets::union(s, next, b);
     if !fits {
@@ -85,62 +93,53 @@ fn join_next(s: &mut [u64], b: usize) -> Answer
 }
 
 // One site, on the variable x of type ty: its set at the program's start, joined to the union so far.
-// Region 0 holds that union, and from the next region on there is room to work in.
-fn site(
-    program: &[u8],
-    layout: Layout,
-    table: &[u64],
-    s: &mut [u64],
-    i: usize,
-    x: u8,
-    ty: u8,
-) -> Answer
-    requires { ⌜ ProgramIsRead (now program) layout × (layout .statements ≤ length (now table)) × (analysisWords ≤ length (now s))
-        × Tidy (setOf (now s) 0) × Enclosed (now program) (now table) (layout .statements) i ⌝ }
-    ensures { λ a. ⌜ Sited (now (program .entry)) (now (table .entry)) (layout .statements) i x ty (setOf (now (s .entry)) 0) a
-        (setOf (now (s .exit)) 0) × (a ≡ Done → Tidy (setOf (now (s .exit)) 0)) ⌝ }
+// The first region behind the table holds that union, and from the next one on there is room to work in.
+fn site(s: &mut [u64], i: usize, x: usize, ty: u8) -> Answer
+    requires { ⌜ Uniting (now s) × ((x < variableNumbers) × (ty < 8)) × ((n : ℕ) × Enclosed (tableOf 0 (now s)) n i) ⌝ }
+    ensures { λ a. ⌜
+        Moved ((n : ℕ) → Sited (tableOf 0 (now (s .entry))) n i x ty (setOf (now (s .entry)) unionAt) a (setOf (now (s .exit)) unionAt))
+        a unionAt (now (s .entry)) (now (s .exit))
+        ⌝ }
 {
-    let w = node::variable(x as u64, ty as u64);
-    single(s, 7745, w);
-    let a = enclosing::walk_out(program, layout, table, s, 7745, i);
+    let w = conjunct::node::variable(x as u64, ty as u64);
+    single(s, SITE, w);
+    let a = enclosing::walk_out(s, SITE, i);
     match a {
         Answer::Refused(n) => Answer::Refused(n),
-        Answer::Done => join_next(s, 0),
+        Answer::Done => join_next(s, UNION),
     }
 }
 
 // ---- the sites by rising label
 
 // The statement with the label i, if it is a site.
-fn pass(program: &[u8], layout: Layout, table: &[u64], s: &mut [u64], i: usize) -> Answer
-    requires { ⌜ ProgramIsRead (now program) layout × (layout .statements ≤ length (now table)) × (analysisWords ≤ length (now s))
-        × Tidy (setOf (now s) 0) × (i < layout .statements) × ((L : List (Out Conjuncts))
-        × SitesFrom (now program) (now table) (layout .statements) i L) ⌝ }
-    ensures { λ a. ⌜ PassedLabel (now (program .entry)) (now (table .entry)) (layout .statements) i (setOf (now (s .entry)) 0) a
-        (setOf (now (s .exit)) 0) × (a ≡ Done → Tidy (setOf (now (s .exit)) 0)) ⌝ }
+fn pass(s: &mut [u64], i: usize) -> Answer
+    requires { ⌜
+        Uniting (now s)
+        × ((n : ℕ) × KnownBelow n (tableOf 0 (now s)) × (i < n) × ((L : List (Out Conjuncts)) × SitesFrom (tableOf 0 (now s)) n i L))
+        ⌝ }
+    ensures { λ a. ⌜
+        Moved ((n : ℕ) → i < n → PassedLabel (tableOf 0 (now (s .entry))) n i (setOf (now (s .entry)) unionAt) a (setOf (now (s .exit)) unionAt))
+        a unionAt (now (s .entry)) (now (s .exit))
+        ⌝ }
 {
-    let q = program::statement(program, layout, i);
-    let kind = q.kind;
+    let d = code_table::fetch(s, 0, i);
+    let kind = d.kind;
     if kind != 10 {
         return Answer::Done;
     }
-    let x = q.a;
-    let ty = program::variable_type(program, layout, x as usize);
-    site(program, layout, table, s, i, x, ty)
+    site(s, i, d.a, d.ty)
 }
 
-// The set that the analysis derives from the program, in region 0.
-fn sites(program: &[u8], layout: Layout, table: &[u64], s: &mut [u64]) -> Answer
-    requires { ⌜ ProgramIsRead (now program) layout × (layout .statements ≤ length (now table)) × (analysisWords ≤ length (now s))
-        × Piece (now program) (now table) 4 0 (layout .statements) ⌝ }
-    ensures { λ a. ⌜ ((c : Code) → Lies (now (program .entry)) (now (table .entry)) c 0 (layout .statements) → Nested 4 c → derived c ≡ answered a
-        (setOf (now (s .exit)) 0)) ⌝ }
+// The set that the analysis derives from the n statements of the table, in the first region.
+fn sites(s: &mut [u64], n: usize) -> Answer
+    requires { ⌜ (analysisWords ≤ length (now s)) × KnownBelow n (tableOf 0 (now s)) × Piece (now s) mostNested 0 n ⌝ }
+    ensures { λ a. ⌜ ((c : Code) → Lies (now (s .entry)) c 0 n → Nested mostNested c → derived c ≡ answered a (setOf (now (s .exit)) unionAt)) ⌝ }
 {
-    sets::clear(s, 0);
-    let n = layout.statements;
+    sets::clear(s, UNION);
     let mut i: usize = 0;
     while i < n {
-        let a = pass(program, layout, table, s, i);
+        let a = pass(s, i);
         match a {
             Answer::Refused(k) => return Answer::Refused(k),
             Answer::Done => {}
@@ -152,8 +151,9 @@ fn sites(program: &[u8], layout: Layout, table: &[u64], s: &mut [u64]) -> Answer
 
 // ---- the whole
 
-// The words of scratch that a call of `derive` needs: the union so far, and ten regions for the walk.
-pub const SCRATCH: usize = 85195;
+// The words of scratch that a call of `derive` needs: the code table, the union so far, and ten
+// regions for the walk.
+pub const SCRATCH: usize = 88270;
 
 // The bytes of output that it needs: the length of the longest condition file.
 pub const CONDITION: usize = 61992;
@@ -165,14 +165,17 @@ pub enum Derived {
     Refused(u8),
 }
 
-// The file of the set in region 0, at the start of the output.
+// The file of the union, at the start of the output.
 fn write_file(program: &[u8], layout: Layout, s: &[u64], condition: &mut [u8]) -> Derived
-    requires { ⌜ ProgramIsRead (now program) layout × (7745 ≤ length (now s)) × (conditionBytes ≤ length (now condition))
-        × All (Formed (tablesOf (now program) .fields)) (setOf (now s) 0) ⌝ }
-    ensures { λ r. ⌜ Filed (encode (tablesOf (now (program .entry)) .fields) (setOf (now (s .entry)) 0)) r (now (condition .entry))
-        (now (condition .exit)) ⌝ }
+    requires { ⌜
+        ProgramIsRead (now program) layout × ((siteAt ≤ length (now s)) × (conditionBytes ≤ length (now condition)))
+        × All (Formed (tablesOf (now program) .fields)) (setOf (now s) unionAt)
+        ⌝ }
+    ensures { λ r. ⌜
+        Filed (encode (tablesOf (now (program .entry)) .fields) (setOf (now (s .entry)) unionAt)) r (now (condition .entry)) (now (condition .exit))
+        ⌝ }
 {
-    let n = writer::write(program, layout, s, 0, condition);
+    let n = writer::write(program, layout, s, UNION, condition);
     Derived::Written(n)
 }
 
@@ -181,9 +184,8 @@ fn derive_read(program: &[u8], layout: Layout, condition: &mut [u8], scratch: &m
     requires { ⌜ ProgramIsRead (now program) layout × (conditionBytes ≤ length (now condition)) × (analysisWords ≤ length (now scratch)) ⌝ }
     ensures { λ r. ⌜ FileGiven (analysis (now (program .entry))) r (now (condition .entry)) (now (condition .exit)) ⌝ }
 {
-    let mut table: [u64; 1024] = [0; 1024];
-    program::ends(program, layout, &mut table);
-    let a = sites(program, layout, &table, scratch);
+    code_table::load(program, layout, scratch, 0);
+    let a = sites(scratch, layout.statements);
     match a {
         Answer::Refused(n) => Derived::Refused(n),
         Answer::Done => write_file(program, layout, scratch, condition),

@@ -1,6 +1,5 @@
 -- A number of a given sign and magnitude against the range of a type: one bound on the magnitude, the limit on the
 -- side of the sign, decides whether the number fits and how it wraps.
--- Assumes nothing.
 use mathlib.Core.Path.{_≡_, refl, sym, _∙_}
 use mathlib.Core.Bool.{Bool, true, false, not, cond, _&&_, and-true}
 use Prim.Native.Nat.{ℕ, zero, suc, _-_, _%_, _^_, _≤_, _<_}
@@ -68,9 +67,11 @@ module _ (t m x : ℕ) (e : x ≡ m % 2 ^ bits t) where
       go zero p k = let q : M - 0 ≡ M = omega arith in rw (q, mod-self) (sym (down-in M (height t) 0 (omega arith)))
       go (suc y) p k =
           let q : M - (M - suc y) ≡ suc y = omega (arith, rest-lt) in
-          rw (mod-eq-of-lt {n = M - suc y} {m = M} (omega (arith, rest-lt))) (sym (rw q at (down-out M (height t) (M - suc y) (omega (arith, span t)) (omega (arith, rest-lt)))))
+          rw (mod-eq-of-lt {n = M - suc y} {m = M} (omega (arith, rest-lt)))
+          (sym (rw q at (down-out M (height t) (M - suc y) (omega (arith, span t)) (omega (arith, rest-lt)))))
 
   pub wrap-out : (n : Bool) → limitOf t n < x → ofSign (not n) (2 ^ bits t - x) ≡ wrap t (ofSign n m)
   wrap-out false h = rw (← e) (sym (down-out (2 ^ bits t) (height t) x h rest-lt))
   wrap-out true h =
-      rw (residue-neg, ← e, mod-eq-of-lt {n = 2 ^ bits t - x} {m = 2 ^ bits t} (omega (arith, rest-lt))) (sym (down-in (2 ^ bits t) (height t) (2 ^ bits t - x) (omega (arith, span t))))
+      rw (residue-neg, ← e, mod-eq-of-lt {n = 2 ^ bits t - x} {m = 2 ^ bits t} (omega (arith, rest-lt)))
+      (sym (down-in (2 ^ bits t) (height t) (2 ^ bits t - x) (omega (arith, span t))))

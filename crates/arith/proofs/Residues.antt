@@ -1,5 +1,4 @@
 -- Remainders by M: of a sum, of what takes a number to a multiple of M, and of a whole number.
--- Assumes nothing.
 use mathlib.Core.Path.{_≡_, refl, sym, ap, _∙_}
 use mathlib.Core.Bool.{Bool, true, false}
 use Prim.Native.Nat.{ℕ, zero, suc, _+_, _-_, _%_, _≤_, _<_}

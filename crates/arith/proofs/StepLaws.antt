@@ -1,6 +1,5 @@
 -- The step that has a value or overflows and the step that wraps agree: the one has a value exactly where the other
 -- does not overflow, and then the same; and a division by zero gives zero.
--- Assumes nothing.
 use mathlib.Core.Path.{_≡_, refl}
 use mathlib.Core.Bool.{Bool, true, false, not, cond, true≢false, _||_}
 use Prim.Native.Nat.{ℕ}

@@ -1,5 +1,4 @@
 -- The word of a wrapped number, from the word of the number; and the number of a word of 64 bits.
--- Assumes nothing.
 use mathlib.Core.Path.{_≡_, refl, sym, ap, _∙_}
 use mathlib.Core.Bool.{Bool, true, false}
 use Prim.Native.Nat.{ℕ, suc, _+_, _-_, _%_, _^_, _≤_, _<_}
@@ -22,7 +21,9 @@ use Rattle.arith.proofs.Residues.{past-mod, opposite-mod, residue-neg}
 -- the lowest bits of a number's word are its remainder
 pub residue-low : (t : ℕ) (z : ℤ) → residue (2 ^ 64) z % 2 ^ bits t ≡ residue (2 ^ bits t) z
 residue-low t (pos n) = low-bits t n
-residue-low t (negsuc n) = opposite-mod (2 ^ bits t) (pow-pos (bits t)) x (suc n) (sym (low-bits t (x + suc n)) ∙ ap (λ (k : ℕ). k % 2 ^ bits t) whole ∙ zero-mod (2 ^ bits t))
+residue-low t (negsuc n) =
+    opposite-mod (2 ^ bits t) (pow-pos (bits t)) x (suc n)
+    (sym (low-bits t (x + suc n)) ∙ ap (λ (k : ℕ). k % 2 ^ bits t) whole ∙ zero-mod (2 ^ bits t))
   where
     x : ℕ
     x = (2 ^ 64 - suc n % 2 ^ 64) % 2 ^ 64
@@ -38,7 +39,8 @@ word-held w {z} h = rw (h .is, h .low) (go (w .neg) (h .mag))
     go false m = mod-mod m (2 ^ 64)
     go true m = rw (residue-neg, residue-neg) (ap (λ (x : ℕ). (2 ^ 64 - x) % 2 ^ 64) (mod-mod m (2 ^ 64)))
 
-module _ (t : ℕ) (z : ℤ) (u r : ℕ) (u-is : u ≡ (residue (2 ^ 64) z + depth t) % 2 ^ 64 % 2 ^ bits t) (fit : r < 2 ^ 64) (r-is : (r + depth t) % 2 ^ 64 ≡ u) where
+module _ (t : ℕ) (z : ℤ) (u r : ℕ) (u-is : u ≡ (residue (2 ^ 64) z + depth t) % 2 ^ 64 % 2 ^ bits t) (fit : r < 2 ^ 64)
+    (r-is : (r + depth t) % 2 ^ 64 ≡ u) where
   R : ℕ
   R = residue (2 ^ bits t) z
 

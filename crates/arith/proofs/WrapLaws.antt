@@ -1,6 +1,5 @@
 -- Wrapping: a number that fits its type wraps to itself, and what any number wraps to fits; and a number that fits is
 -- what its word holds.
--- Assumes nothing.
 use mathlib.Core.Path.{_≡_, refl, sym, ap, _∙_}
 use mathlib.Core.Bool.{Bool, true, false, not, cond}
 use Prim.Native.Nat.{ℕ, suc, _-_, _%_, _^_, _≤_, _<_}

@@ -1,5 +1,4 @@
 -- One step of arithmetic: its whole-number result, what comes of it in a type, and how it wraps.
--- Assumes nothing.
 use mathlib.Core.Bool.{Bool, true, false, not, cond, _&&_, _||_}
 use Prim.Native.Nat.{ℕ, suc, _-_, _%_, _^_}
 use lib.Dec.{eqb}

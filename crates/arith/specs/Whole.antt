@@ -1,5 +1,4 @@
 -- Whole numbers as the code holds them: by sign and magnitude.
--- Assumes nothing.
 use mathlib.Core.Path.{_≡_}
 use mathlib.Core.Bool.{Bool, true, false}
 use Prim.Native.Nat.{ℕ, _%_, _^_}

@@ -1,6 +1,5 @@
 -- Values as words: two's complement of 64 bits, sign extended for a signed type and zero extended for the others;
 -- and immediates of 32 bits.
--- Assumes nothing.
 use mathlib.Core.Bool.{cond}
 use Prim.Native.Nat.{ℕ, _^_}
 use lib.IntN.{ℤ, pos}

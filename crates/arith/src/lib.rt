@@ -1,5 +1,5 @@
 // One step of arithmetic on the eight integer types, in whole numbers: its value, or why it
-// overflows; and wrapped to the type, with whether it overflowed. Assumes nothing.
+// overflows; and wrapped to the type, with whether it overflowed.
 ghost use mathlib.Core.Path.{_≡_};
 ghost use mathlib.Core.Bool.{Bool, true, not, cond, _||_};
 ghost use Prim.Native.Nat.{ℕ, _+_, _*_, _%_, _^_, _<_};

@@ -1,5 +1,4 @@
 -- The laws of `overlay`, for every caller.
--- Assumes nothing.
 use mathlib.Core.Path.{_≡_, refl, sym, ap, _∙_}
 use mathlib.Core.List.{List, [], _∷_, _++_, append-assoc}
 use Prim.Native.Nat.{ℕ, zero, suc, _+_, _-_, _/_, _%_, _≤_, _<_}
@@ -29,10 +28,13 @@ overlay-none l i = refl
 pub overlay-append : (xs l : List ℕ) (i : ℕ) (ys : List ℕ) → overlay l i (xs ++ ys) ≡ overlay (overlay l i xs) (i + length xs) ys
 unfolding overlay
 overlay-append [] l i ys = rw add-zero
-overlay-append (x ∷ xs) l i ys = let e : i + suc (length xs) ≡ suc i + length xs = omega arith in rw e (overlay-append xs (set l i x) (suc i) ys)
+overlay-append (x ∷ xs) l i ys =
+    let e : i + suc (length xs) ≡ suc i + length xs = omega arith in
+    rw e (overlay-append xs (set l i x) (suc i) ys)
 
 -- a copy, one element more
-pub overlay-more : (d : List ℕ) (b : ℕ) (s : List ℕ) (i : ℕ) → i < length s → set (overlay d b (take i s)) (b + i) (getD s i 0) ≡ overlay d b (take (i + 1) s)
+pub overlay-more : (d : List ℕ) (b : ℕ) (s : List ℕ) (i : ℕ) → i < length s
+    → set (overlay d b (take i s)) (b + i) (getD s i 0) ≡ overlay d b (take (i + 1) s)
 unfolding overlay
 overlay-more d b s i h =
     let len : length (take i s) ≡ i = length-take-le i s (omega arith) in
@@ -50,10 +52,13 @@ overlay-after [] l i a w h = refl
 overlay-after (v ∷ vs) l i a w h = overlay-after vs (set l i v) (suc i) a w (omega arith) ∙ set-after l i v a w h
 
 -- what was stored is read back
-pub overlay-read : (vs l : List ℕ) (b w : ℕ) → b + length vs ≤ length l → length vs ≤ w → take (length vs) (take w (drop b (overlay l b vs))) ≡ vs
+pub overlay-read : (vs l : List ℕ) (b w : ℕ) → b + length vs ≤ length l → length vs ≤ w
+    → take (length vs) (take w (drop b (overlay l b vs))) ≡ vs
 overlay-read vs l b w h g =
+    let rest = drop (b + length vs) l in
+    let behind = drop-at (take b l) (vs ++ rest) b (length-take-le b l (omega arith)) in
     take-take (length vs) w (drop b (overlay l b vs)) g
-    ∙ rw (overlay-sets, sets-eq vs l b h, append-assoc, drop-at (take b l) (vs ++ drop (b + length vs) l) b (length-take-le b l (omega arith))) (take-at vs (drop (b + length vs) l) (length vs) refl)
+    ∙ rw (overlay-sets, sets-eq vs l b h, append-assoc, behind) (take-at vs rest (length vs) refl)
 
 -- ---- the stores of a number
 
@@ -69,11 +74,16 @@ overlay-4 l a v w x y =
     let e3 : a + 3 ≡ suc (suc (suc a)) = omega arith in
     rw (e1, e2, e3)
 
+-- the upper 4 bytes of a number count so much
+abbrev half : ℕ
+half = 4294967296
+
 length-bytes4 : (v : ℕ) → length (bytes4 v) ≡ 4
 unfolding bytes4
 length-bytes4 v = refl
 
 -- 8 bytes are two halves
-pub overlay-8 : (l m k : List ℕ) (a v : ℕ) → m ≡ overlay l a (bytes4 (v % 4294967296)) → k ≡ overlay m (a + 4) (bytes4 (v / 4294967296)) → k ≡ overlay l a (bytes8 v)
+pub overlay-8 : (l m k : List ℕ) (a v : ℕ) → m ≡ overlay l a (bytes4 (v % half)) → k ≡ overlay m (a + 4) (bytes4 (v / half))
+    → k ≡ overlay l a (bytes8 v)
 unfolding bytes8
-overlay-8 l m k a v h g = g ∙ rw (h, overlay-append (bytes4 (v % 4294967296)) l a (bytes4 (v / 4294967296)), length-bytes4 (v % 4294967296))
+overlay-8 l m k a v h g = g ∙ rw (h, overlay-append (bytes4 (v % half)) l a (bytes4 (v / half)), length-bytes4 (v % half))

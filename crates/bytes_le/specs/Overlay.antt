@@ -1,5 +1,4 @@
 -- A list with others stored over a part of it.
--- Assumes nothing.
 use mathlib.Core.List.{List, [], _∷_}
 use Prim.Native.Nat.{ℕ, suc}
 use lib.ListN.{set}

@@ -1,5 +1,4 @@
 -- Demand 3 of the exported functions called one after the other, by the contracts of their words alone.
--- Assumes nothing.
 use mathlib.Core.Path.{_≡_, refl, sym, ap, subst, _∙_}
 use mathlib.Core.Logic.{_⊎_, inl, inr}
 use mathlib.Core.List.{List}
@@ -48,11 +47,12 @@ pass-word (refused n) (inr (m, e, l)) v = let same : n ≡ m = cc in absurd (ome
 
 -- gate_derive gives a length, gate_check 0 for the condition's first bytes of this number, and gate_run an end: then the log's bytes
 -- match the exact run, whatever was lent to each
-pub words-apart : (program input : List ℕ) (limit : ℕ) (choices log : List ℕ) (n : ℕ) (before condition s s′ : List ℕ) (word : ℕ) (log′ t t′ : List ℕ)
-    (steps steps′ records records′ : ℕ)
+pub words-apart : (program input : List ℕ) (limit : ℕ) (choices log : List ℕ) (n : ℕ)
+    (before condition s s′ : List ℕ) (word : ℕ) (log′ t t′ : List ℕ) (steps steps′ records records′ : ℕ)
     → GateDerive (derivation (length before) (length s) program) n before condition s s′ → n < refusalUnit
     → passNumber ≡ answerWord (mapped verdictNumber (verdict (take n condition) input))
-    → GateRun (runLent analysisWords (length t) program input limit choices log) word log log′ t t′ steps steps′ records records′ → word < refusalUnit
+    → GateRun (runLent analysisWords (length t) program input limit choices log) word log log′ t t′ steps steps′ records records′
+    → word < refusalUnit
     → Exact program input limit choices (length log) records′ log′
 words-apart program input limit choices log n before condition s s′ word log′ t t′ steps steps′ records records′ d dn v r rn =
     let o = derivation (length before) (length s) program in

@@ -1,5 +1,4 @@
 -- From the operations' contracts to those of the words.
--- Assumes nothing.
 use mathlib.Core.Path.{_≡_, refl, sym, ap, subst, _∙_}
 use mathlib.Core.Logic.{_⊎_, inl, inr}
 use mathlib.Core.List.{List}
@@ -52,7 +51,8 @@ abbrev pub derivedWord : Derived → ℕ
 derivedWord (Written n) = n
 derivedWord (NotDerived n) = n * refusalUnit
 
-pub derived-left : (o : Out (List ℕ)) (r : Derived) (c c′ s s′ : List ℕ) (w : ℕ) → Derives o r c c′ s s′ → w ≡ derivedWord r → GateDerive o w c c′ s s′
+pub derived-left : (o : Out (List ℕ)) (r : Derived) (c c′ s s′ : List ℕ) (w : ℕ) → Derives o r c c′ s s′ → w ≡ derivedWord r
+    → GateDerive o w c c′ s s′
 derived-left o (Written n) c c′ s s′ w d e = record {
   word = e ∙ sym (d .output .whole) ∙ ap (λ x. answerWord (mapped length x)) (sym (d .answer));
   condition = d .output .rest ∙ ap (λ x. leftBy (λ C. overlay c 0 C) x c) (sym (d .answer));
@@ -80,8 +80,8 @@ abbrev pub ranRecords : Ran → ℕ → ℕ
 ranRecords (Ended e s k) before = k
 ranRecords (NotRun n) before = before
 
-pub ran-left : (o : Out ModelRan) (r : Ran) (l l′ s s′ : List ℕ) (w n n′ k k′ : ℕ) → Interprets o r l l′ s s′ → w ≡ ranWord r → n′ ≡ ranSteps r n
-    → k′ ≡ ranRecords r k → GateRun o w l l′ s s′ n n′ k k′
+pub ran-left : (o : Out ModelRan) (r : Ran) (l l′ s s′ : List ℕ) (w n n′ k k′ : ℕ) → Interprets o r l l′ s s′
+    → w ≡ ranWord r → n′ ≡ ranSteps r n → k′ ≡ ranRecords r k → GateRun o w l l′ s s′ n n′ k k′
 ran-left o (Ended e m j) l l′ s s′ w n n′ k k′ h q p₁ p₂ = record {
   word = q ∙ ap (λ x. answerWord (mapped (λ R. R .end) x)) (h .answer);
   log = ap (λ x. leftBy (λ R. R .log) x l) (h .answer);
@@ -105,7 +105,7 @@ module _ (words : ℕ) (program input : List ℕ) (limit : ℕ) (choices log : L
   pub run-short : (s : List ℕ) (w n k : ℕ) → words < analysisWords → w ≡ 1 * refusalUnit → GateRun (lent analysisWords) w log log s s n n k k
   run-short s w n k h e =
       let o = lent analysisWords in
-      let short : refused 1 ≡ o = sym (ap (λ t. check t lentTooShort (run program input limit choices log)) (lt-leb analysisWords words h)) in
+      let short : refused lentTooShort ≡ o = sym (ap (λ t. check t lentTooShort (run program input limit choices log)) (lt-leb analysisWords words h)) in
       record {
         word = e ∙ ap (λ x. answerWord (mapped (λ R. R .end) x)) short;
         log = ap (λ x. leftBy (λ R. R .log) x log) short;
@@ -116,7 +116,8 @@ module _ (words : ℕ) (program input : List ℕ) (limit : ℕ) (choices log : L
 
   pub run-enough : analysisWords ≤ words → lent scratchWords ≡ lent analysisWords
   run-enough h =
-      ap (λ t. check t lentTooShort (run program input limit choices log)) (le-leb scratchWords words (omega (arith, h)) ∙ sym (le-leb analysisWords words h))
+      ap (λ t. check t lentTooShort (run program input limit choices log))
+      (le-leb scratchWords words (omega (arith, h)) ∙ sym (le-leb analysisWords words h))
 
 -- ---- a guarded run
 

@@ -1,5 +1,4 @@
 -- What the answers of the exported functions stand for, and what they leave in what was lent.
--- Assumes nothing.
 use mathlib.Core.List.{List}
 use mathlib.Core.Path.{_≡_}
 use Prim.Native.Nat.{ℕ, _*_, _<_}

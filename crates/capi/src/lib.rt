@@ -1,7 +1,7 @@
 // The operations for callers in C and Rust, who link the archive that `rt staticlib capi` writes;
 // include/gate.h declares them. A slice passes as a pointer and a length. An answer is one word: the
 // refusal's number times 2^32, or what the operation gives. specs/Words.antt says what each word
-// stands for. Assumes nothing.
+// stands for.
 ghost use mathlib.Core.Path.{_≡_};
 ghost use Prim.Native.Nat.{_*_, _≤_};
 ghost use lib.ListN.{length};
@@ -18,7 +18,12 @@ use guard::Guarded;
 use interpreter::Ran;
 
 // The refusal's number stands in the upper 32 bits.
-const REFUSAL: u64 = 4294967296;
+const REFUSAL: u64 = 0x1_0000_0000;
+
+// The word of a sheet that is held by a run behind the gate: a run's end is at most 4.
+const HELD: u64 = 5;
+// The refusal of what was lent: too short.
+const LENT_TOO_SHORT: u8 = 1;
 
 fn refusal(n: u8) -> u64
     ensures { λ r. ⌜ r ≡ n * refusalUnit ⌝ }
@@ -89,7 +94,7 @@ pub extern "C" fn gate_run(
         (now (records .entry)) (now (records .exit)) ⌝ }
 {
     if scratch.len() < analysis::SCRATCH {
-        return refusal(1);
+        return refusal(LENT_TOO_SHORT);
     }
     let ran = interpreter::run(recipe, sheet, limit, choices, log, scratch);
     match ran {
@@ -106,7 +111,7 @@ pub extern "C" fn gate_run(
     }
 }
 
-// A run behind the gate: its end, or 5 where the sheet is held.
+// A run behind the gate: its end, or HELD where the sheet is held.
 #[no_mangle]
 pub extern "C" fn gate_guarded(
     recipe: &[u8],
@@ -128,7 +133,7 @@ pub extern "C" fn gate_guarded(
     let answer = guard::run(recipe, sheet, limit, choices, log, condition, scratch);
     match answer {
         Guarded::Refused(n) => refusal(n),
-        Guarded::Held => 5,
+        Guarded::Held => HELD,
         Guarded::Ended {
             end: e,
             steps: taken,

@@ -1,5 +1,4 @@
 -- One turn of the pass that counts the n of each field: what a node does to the counts.
--- Assumes nothing.
 use mathlib.Core.Path.{_≡_, refl, sym, _∙_, ap, subst}
 use mathlib.Core.Bool.{Bool, true, false, _&&_, cond}
 use mathlib.Core.List.{List, _∷_}
@@ -15,6 +14,7 @@ use Rattle.model.specs.Conjunct.{Source, field, Atom, Conj}
 use Rattle.model.specs.Condition.{nodeRight, numbered}
 use Rattle.condition.specs.Answers.{nodeBy, nodeFrom, rightBy, NodeIs, partNodes}
 use Rattle.condition.specs.declared.Node.{Node}
+use Rattle.condition.proofs.NodeKinds.{by-node-kind}
 use Rattle.condition.proofs.Nodes.{node-is, right-is, right-at, rest, rest-step, rest-all, reading-right, some}
 use Rattle.condition.proofs.Numbering.{old, bump, counted, numbered-counted, seenOf, seen-none, seen-bump}
 
@@ -25,13 +25,10 @@ counted-none types s n e = numbered-counted (partNodes s) ∙ rw (seen-none type
 -- a node that is no reading
 skip-kind : (seen : Source → ℕ) (e : Conj) (ty f i k : ℕ) → (k ≡ 1 → ⊥) → counted seen (nodeBy k ty f i ∷ e) ≡ counted seen e
 unfolding counted nodeBy
-skip-kind seen e ty f i zero h = refl
-skip-kind seen e ty f i (suc zero) h = absurd (h refl)
-skip-kind seen e ty f i (suc (suc zero)) h = refl
-skip-kind seen e ty f i (suc (suc (suc zero))) h = refl
-skip-kind seen e ty f i (suc (suc (suc (suc zero)))) h = refl
-skip-kind seen e ty f i (suc (suc (suc (suc (suc zero))))) h = refl
-skip-kind seen e ty f i (suc (suc (suc (suc (suc (suc k)))))) h = refl
+skip-kind seen e ty f i =
+    by-node-kind (λ k. (k ≡ 1 → ⊥) → counted seen (nodeBy k ty f i ∷ e) ≡ counted seen e) (λ h. refl) (λ h. absurd (h refl)) (λ h. refl)
+    (λ h. refl) (λ h. refl)
+    (λ h. refl) (λ k h. refl)
 
 -- 0 is no n
 never : (i m : ℕ) (x y : Bool) → i ≡ 0 → cond (ltb 0 i && leb i m) x (eqb i (suc m) && y) ≡ false
@@ -49,7 +46,8 @@ module _ (s : List ℕ) (n k : ℕ) (v : Node) (is : NodeIs v s (8 * k)) (more :
     listed : (v .field < length types) × (v .ty ≡ getD types (v .field) 0)
     listed =
         reading-right types (v .ty) (v .field) (v .imm)
-        (subst (λ (m : ℕ). rightBy types m (v .ty) (v .field) (v .imm) ≡ true) reads (sym (right-is types v s (8 * k) is) ∙ right-at types s n k right more))
+        (subst (λ (m : ℕ). rightBy types m (v .ty) (v .field) (v .imm) ≡ true) reads
+        (sym (right-is types v s (8 * k) is) ∙ right-at types s n k right more))
 
     pub field-listed : v .field < length types
     field-listed = listed .0
@@ -68,14 +66,21 @@ module _ (s : List ℕ) (n k : ℕ) (v : Node) (is : NodeIs v s (8 * k)) (more :
     reading-turn = ap (counted (seenOf types l)) turn ∙ rw (reads, listed .1, seen-at)
 
     pub counted-zero : v .imm ≡ 0 → counted (seenOf types l) (rest s n k) ≡ false
-    counted-zero e = reading-turn ∙ never (v .imm) (getD l (v .field) 0) (counted (seenOf types l) (rest s n (k + 1))) (counted (bump (seenOf types l) reading) (rest s n (k + 1))) e
+    counted-zero e = reading-turn
+        ∙ never (v .imm) (getD l (v .field) 0) (counted (seenOf types l) (rest s n (k + 1)))
+        (counted (bump (seenOf types l) reading) (rest s n (k + 1))) e
 
-    pub counted-met : (v .imm ≡ 0 → ⊥) → v .imm ≤ getD l (v .field) 0 → counted (seenOf types l) (rest s n k) ≡ counted (seenOf types l) (rest s n (k + 1))
+    pub counted-met : (v .imm ≡ 0 → ⊥) → v .imm ≤ getD l (v .field) 0
+        → counted (seenOf types l) (rest s n k) ≡ counted (seenOf types l) (rest s n (k + 1))
     counted-met z h = reading-turn ∙ rw (lt-ltb 0 (v .imm) (some (v .imm) z), le-leb (v .imm) (getD l (v .field) 0) h)
 
     pub counted-jump : getD l (v .field) 0 < v .imm → (v .imm - 1 ≡ getD l (v .field) 0 → ⊥) → counted (seenOf types l) (rest s n k) ≡ false
     counted-jump h j =
-        reading-turn ∙ rw (lt-ltb 0 (v .imm) (omega arith), lt-leb (v .imm) (getD l (v .field) 0) h, ne-eqb (v .imm) (suc (getD l (v .field) 0)) (λ e. j (omega arith)))
+        reading-turn ∙ rw (
+          lt-ltb 0 (v .imm) (omega arith),
+          lt-leb (v .imm) (getD l (v .field) 0) h,
+          ne-eqb (v .imm) (suc (getD l (v .field) 0)) (λ e. j (omega arith)),
+        )
 
     pub counted-next : length types ≤ length l → getD l (v .field) 0 < v .imm → v .imm - 1 ≡ getD l (v .field) 0
         → counted (seenOf types l) (rest s n k) ≡ counted (seenOf types (set l (v .field) (v .imm))) (rest s n (k + 1))

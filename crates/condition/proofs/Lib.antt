@@ -1,3 +1,4 @@
+pub mod NodeKinds
 pub mod Numbering
 pub mod Nodes
 pub mod Stacks

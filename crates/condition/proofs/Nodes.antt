@@ -1,5 +1,4 @@
 -- Nodes of a part: by their four numbers, by their kinds, one after the other, and their bytes.
--- Assumes nothing.
 use mathlib.Core.Path.{_≡_, refl, sym, _∙_, ap, ap₂}
 use mathlib.Core.Bool.{true, false, _&&_}
 use mathlib.Core.List.{List, [], _∷_}
@@ -23,6 +22,7 @@ use Rattle.model.proofs.Every.{every-at}
 use Rattle.model.proofs.Parts.{Narrow, u16-narrow, u32-narrow, getD-part, getD-behind, entries-step, entries-getD, length-entries}
 use Rattle.condition.specs.Answers.{nodeBy, nodeFrom, constantRight, readingRight, operationRight, rightBy, NodeIs}
 use Rattle.condition.specs.declared.Node.{Node}
+use Rattle.condition.proofs.NodeKinds.{by-node-form, by-operation, by-step, by-conversion, by-none}
 
 pub some : (m : ℕ) → (m ≡ 0 → ⊥) → 0 < m
 some zero h = absurd (h refl)
@@ -41,7 +41,8 @@ right-by types s a = refl
 pub node-is : (v : Node) (s : List ℕ) (a : ℕ) → NodeIs v s a → nodeAt s a ≡ nodeFrom v
 node-is v s a h = node-by s a ∙ rw (h .kind, h .type, h .source, h .number)
 
-pub right-is : (types : List ℕ) (v : Node) (s : List ℕ) (a : ℕ) → NodeIs v s a → nodeRight types s a ≡ rightBy types (v .kind) (v .ty) (v .field) (v .imm)
+pub right-is : (types : List ℕ) (v : Node) (s : List ℕ) (a : ℕ) → NodeIs v s a
+    → nodeRight types s a ≡ rightBy types (v .kind) (v .ty) (v .field) (v .imm)
 right-is types v s a h = right-by types s a ∙ rw (h .kind, h .type, h .source, h .number)
 
 -- the answer of a reader of nodes
@@ -64,12 +65,22 @@ u32-behind s o n a k h = u32-narrow s o n (a + k) h ∙ ap (u32At s) (sym (add-a
 pub node-narrow : Narrow nodeAt 8
 node-narrow s o n a h =
     node-by (part s o n) a
-    ∙ rw (u32-behind s o n a 4 (omega arith), u16-behind s o n a 2 (omega arith), getD-behind s o n a 1 (omega arith), getD-part s o n a (omega arith)) (sym (node-by s (o + a)))
+    ∙ rw (
+      u32-behind s o n a 4 (omega arith),
+      u16-behind s o n a 2 (omega arith),
+      getD-behind s o n a 1 (omega arith),
+      getD-part s o n a (omega arith),
+    ) (sym (node-by s (o + a)))
 
 pub right-narrow : (types : List ℕ) → Narrow (nodeRight types) 8
 right-narrow types s o n a h =
     right-by types (part s o n) a
-    ∙ rw (u32-behind s o n a 4 (omega arith), u16-behind s o n a 2 (omega arith), getD-behind s o n a 1 (omega arith), getD-part s o n a (omega arith)) (sym (right-by types s (o + a)))
+    ∙ rw (
+      u32-behind s o n a 4 (omega arith),
+      u16-behind s o n a 2 (omega arith),
+      getD-behind s o n a 1 (omega arith),
+      getD-part s o n a (omega arith),
+    ) (sym (right-by types s (o + a)))
 
 -- ---- one after the other
 
@@ -101,23 +112,11 @@ module _ (ty f i : ℕ) (st : List ℕ) where
 
   pub operation-kind : (k : ℕ) → 2 ≤ k → k < 6 → typeNode (nodeBy k ty f i) st ≡ operation ty st
   unfolding nodeBy typeNode
-  operation-kind zero h l = absurd (omega arith)
-  operation-kind (suc zero) h l = absurd (omega arith)
-  operation-kind (suc (suc zero)) h l = refl
-  operation-kind (suc (suc (suc zero))) h l = refl
-  operation-kind (suc (suc (suc (suc zero)))) h l = refl
-  operation-kind (suc (suc (suc (suc (suc zero))))) h l = refl
-  operation-kind (suc (suc (suc (suc (suc (suc k)))))) h l = absurd (omega arith)
+  operation-kind = by-operation (λ k. typeNode (nodeBy k ty f i) st ≡ operation ty st) refl refl refl refl
 
   pub conversion-kind : (k : ℕ) → 6 ≤ k → typeNode (nodeBy k ty f i) st ≡ conversion ty st
   unfolding nodeBy typeNode
-  conversion-kind zero h = absurd (omega arith)
-  conversion-kind (suc zero) h = absurd (omega arith)
-  conversion-kind (suc (suc zero)) h = absurd (omega arith)
-  conversion-kind (suc (suc (suc zero))) h = absurd (omega arith)
-  conversion-kind (suc (suc (suc (suc zero)))) h = absurd (omega arith)
-  conversion-kind (suc (suc (suc (suc (suc zero))))) h = absurd (omega arith)
-  conversion-kind (suc (suc (suc (suc (suc (suc k)))))) h = refl
+  conversion-kind = by-conversion (λ k. typeNode (nodeBy k ty f i) st ≡ conversion ty st) (λ k. refl)
 
 -- the form of each kind
 module _ (types : List ℕ) (ty f i : ℕ) where
@@ -131,31 +130,19 @@ module _ (types : List ℕ) (ty f i : ℕ) where
 
   pub operation-form : (k : ℕ) → (k ≡ 0 → ⊥) → (k ≡ 1 → ⊥) → k < 7 → rightBy types k ty f i ≡ operationRight ty f i
   unfolding rightBy
-  operation-form zero g h l = absurd (g refl)
-  operation-form (suc zero) g h l = absurd (h refl)
-  operation-form (suc (suc zero)) g h l = refl
-  operation-form (suc (suc (suc zero))) g h l = refl
-  operation-form (suc (suc (suc (suc zero)))) g h l = refl
-  operation-form (suc (suc (suc (suc (suc zero))))) g h l = refl
-  operation-form (suc (suc (suc (suc (suc (suc zero)))))) g h l = refl
-  operation-form (suc (suc (suc (suc (suc (suc (suc k))))))) g h l = absurd (omega arith)
+  operation-form k g h l = by-step (λ k. rightBy types k ty f i ≡ operationRight ty f i) refl refl refl refl refl k (omega (arith, g, h)) l
 
   pub no-form : (k : ℕ) → 7 ≤ k → rightBy types k ty f i ≡ false
   unfolding rightBy
-  no-form zero l = absurd (omega arith)
-  no-form (suc zero) l = absurd (omega arith)
-  no-form (suc (suc zero)) l = absurd (omega arith)
-  no-form (suc (suc (suc zero))) l = absurd (omega arith)
-  no-form (suc (suc (suc (suc zero)))) l = absurd (omega arith)
-  no-form (suc (suc (suc (suc (suc zero))))) l = absurd (omega arith)
-  no-form (suc (suc (suc (suc (suc (suc zero)))))) l = absurd (omega arith)
-  no-form (suc (suc (suc (suc (suc (suc (suc k))))))) l = refl
+  no-form = by-none (λ k. rightBy types k ty f i ≡ false) (λ k. refl)
 
 -- a reading's field is listed, in its type
 pub reading-right : (types : List ℕ) (ty f i : ℕ) → rightBy types 1 ty f i ≡ true → (f < length types) × (ty ≡ getD types f 0)
 unfolding rightBy
-reading-right types ty f i h =
-    (ltb-true f (length types) (and-left (ltb f (length types)) (eqb ty (getD types f 0)) h), eqb-true ty (getD types f 0) (and-right (ltb f (length types)) (eqb ty (getD types f 0)) h))
+reading-right types ty f i h = (
+  ltb-true f (length types) (and-left (ltb f (length types)) (eqb ty (getD types f 0)) h),
+  eqb-true ty (getD types f 0) (and-right (ltb f (length types)) (eqb ty (getD types f 0)) h),
+)
 
 -- ---- their bytes
 
@@ -165,7 +152,8 @@ part-cons s a b n e h = let f : suc a ≡ b = omega arith in rw (drop-cons s a 0
 
 -- eight bytes from a place on
 eight : (s : List ℕ) (a : ℕ) → a + 8 ≤ length s
-    → part s a 8 ≡ getD s a 0 ∷ getD s (a + 1) 0 ∷ getD s (a + 2) 0 ∷ getD s (a + 3) 0 ∷ getD s (a + 4) 0 ∷ getD s (a + 5) 0 ∷ getD s (a + 6) 0 ∷ getD s (a + 7) 0 ∷ []
+    → part s a 8 ≡ getD s a 0 ∷ getD s (a + 1) 0 ∷ getD s (a + 2) 0 ∷ getD s (a + 3) 0 ∷ getD s (a + 4) 0 ∷ getD s (a + 5) 0 ∷ getD s
+    (a + 6) 0 ∷ getD s (a + 7) 0 ∷ []
 eight s a h =
     part-cons s a (a + 1) 7 refl (omega arith)
     ∙ ap (getD s a 0 ∷_) (part-cons s (a + 1) (a + 2) 6 (omega arith) (omega arith)
@@ -204,7 +192,8 @@ module _ (types : List ℕ) (ty c d e f g h : ℕ) (lc : c < 256) (le : e < 256)
       x3 = omega arith
 
   -- where only the type is used
-  blank : (k : ℕ) → (typeRight ty && eqb (c + 256 * d) 0 && eqb number 0) ≡ true → k ∷ ty ∷ 0 ∷ 0 ∷ 0 ∷ 0 ∷ 0 ∷ 0 ∷ [] ≡ k ∷ ty ∷ c ∷ d ∷ e ∷ f ∷ g ∷ h ∷ []
+  blank : (k : ℕ) → (typeRight ty && eqb (c + 256 * d) 0 && eqb number 0) ≡ true
+      → k ∷ ty ∷ 0 ∷ 0 ∷ 0 ∷ 0 ∷ 0 ∷ 0 ∷ [] ≡ k ∷ ty ∷ c ∷ d ∷ e ∷ f ∷ g ∷ h ∷ []
   unfolding number
   blank k right = λ i. k ∷ ty ∷ xc i ∷ xd i ∷ xe i ∷ xf i ∷ xg i ∷ xh i ∷ []
     where
@@ -235,11 +224,13 @@ module _ (types : List ℕ) (ty c d e f g h : ℕ) (lc : c < 256) (le : e < 256)
       xh : 0 ≡ h
       xh = omega (arith, w)
 
-  constant-bytes : (typeRight ty && eqb (c + 256 * d) 0 && fits ty (immediate ty number)) ≡ true → 0 ∷ ty ∷ 0 ∷ 0 ∷ bytes4 number ≡ 0 ∷ ty ∷ c ∷ d ∷ e ∷ f ∷ g ∷ h ∷ []
+  constant-bytes : (typeRight ty && eqb (c + 256 * d) 0 && fits ty (immediate ty number)) ≡ true
+      → 0 ∷ ty ∷ 0 ∷ 0 ∷ bytes4 number ≡ 0 ∷ ty ∷ c ∷ d ∷ e ∷ f ∷ g ∷ h ∷ []
   constant-bytes right = λ i. 0 ∷ ty ∷ xc i ∷ xd i ∷ four i
     where
       z : c + 256 * d ≡ 0
-      z = eqb-true (c + 256 * d) 0 (and-right (typeRight ty) (eqb (c + 256 * d) 0) (and-left (typeRight ty && eqb (c + 256 * d) 0) (fits ty (immediate ty number)) right))
+      z = eqb-true (c + 256 * d) 0
+          (and-right (typeRight ty) (eqb (c + 256 * d) 0) (and-left (typeRight ty && eqb (c + 256 * d) 0) (fits ty (immediate ty number)) right))
 
       xc : 0 ≡ c
       xc = omega (arith, z)
@@ -247,19 +238,17 @@ module _ (types : List ℕ) (ty c d e f g h : ℕ) (lc : c < 256) (le : e < 256)
       xd : 0 ≡ d
       xd = omega (arith, z)
 
-  bytes-eight : (k : ℕ) → rightBy types k ty (c + 256 * d) number ≡ true → bytes (nodeBy k ty (c + 256 * d) number) ≡ k ∷ ty ∷ c ∷ d ∷ e ∷ f ∷ g ∷ h ∷ []
+  bytes-eight : (k : ℕ) → rightBy types k ty (c + 256 * d) number ≡ true
+      → bytes (nodeBy k ty (c + 256 * d) number) ≡ k ∷ ty ∷ c ∷ d ∷ e ∷ f ∷ g ∷ h ∷ []
   unfolding rightBy nodeBy bytes sourceBytes
-  bytes-eight zero right = constant-bytes right
-  bytes-eight (suc zero) right = rw (two, four)
-  bytes-eight (suc (suc zero)) right = blank 2 right
-  bytes-eight (suc (suc (suc zero))) right = blank 3 right
-  bytes-eight (suc (suc (suc (suc zero)))) right = blank 4 right
-  bytes-eight (suc (suc (suc (suc (suc zero))))) right = blank 5 right
-  bytes-eight (suc (suc (suc (suc (suc (suc zero)))))) right = blank 6 right
-  bytes-eight (suc (suc (suc (suc (suc (suc (suc k))))))) right = absurd (true→T right)
+  bytes-eight =
+      by-node-form (λ k. rightBy types k ty (c + 256 * d) number ≡ true
+      → bytes (nodeBy k ty (c + 256 * d) number) ≡ k ∷ ty ∷ c ∷ d ∷ e ∷ f ∷ g ∷ h ∷ [])
+      constant-bytes (λ right. rw (two, four)) (blank 2) (blank 3) (blank 4) (blank 5) (blank 6) (λ k right. absurd (true→T right))
 
 -- the bytes of a node in its form are those that stand at its place
-pub node-bytes : (types s : List ℕ) (a : ℕ) → ((i : ℕ) → getD s i 0 < 256) → nodeRight types s a ≡ true → a + 8 ≤ length s → bytes (nodeAt s a) ≡ part s a 8
+pub node-bytes : (types s : List ℕ) (a : ℕ) → ((i : ℕ) → getD s i 0 < 256) → nodeRight types s a ≡ true → a + 8 ≤ length s
+    → bytes (nodeAt s a) ≡ part s a 8
 unfolding number
 node-bytes types s a small right fits′ =
     let e1 : a + 2 + 1 ≡ a + 3 = omega arith in
@@ -268,6 +257,7 @@ node-bytes types s a small right fits′ =
     let e4 : a + 4 + 3 ≡ a + 7 = omega arith in
     ap bytes (node-by s a)
     ∙ rw (e1, e2, e3, e4)
-    (bytes-eight types (getD s (a + 1) 0) (getD s (a + 2) 0) (getD s (a + 3) 0) (getD s (a + 4) 0) (getD s (a + 5) 0) (getD s (a + 6) 0) (getD s (a + 7) 0)
+    (bytes-eight types (getD s (a + 1) 0) (getD s (a + 2) 0) (getD s (a + 3) 0) (getD s (a + 4) 0) (getD s (a + 5) 0) (getD s (a + 6) 0)
+    (getD s (a + 7) 0)
     (small (a + 2)) (small (a + 4)) (small (a + 5)) (small (a + 6)) (getD s a 0) (rw (e1, e2, e3, e4) at (sym (right-by types s a) ∙ right))
     ∙ sym (eight s a fits′))

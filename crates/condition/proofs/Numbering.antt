@@ -1,9 +1,8 @@
 -- A conjunct is numbered as a rule leaves it just if each atom's n is one met before or the next one of its source.
--- Assumes nothing.
 use mathlib.Core.Path.{_≡_, refl, sym, _∙_, ap, ap₂, subst}
 use mathlib.Core.Bool.{Bool, true, false, _&&_, _||_, cond}
 use mathlib.Core.List.{List, [], _∷_, map}
-use Prim.Native.Nat.{ℕ, zero, suc, _+_, _<_, Ordering, Ordering·lt, Ordering·eq, Ordering·gt}
+use Prim.Native.Nat.{ℕ, zero, suc, _+_, _<_}
 use native.Mathlib.Nat.{zero-add, add-zero}
 use native.Mathlib.Omega.{arith}
 use lib.Dec.{eqb, leb, ltb, isEq}
@@ -11,17 +10,13 @@ use lib.ListN.{length, getD, set, replicate}
 use lib.Seq.{getD-set-same, getD-set-other}
 use borrow.Author.Tests.{eq-eqb, ne-eqb, le-leb, lt-leb, lt-ltb, leb-true, leb-false, ltb-true, eqb-true, eqb-false}
 use Rattle.model.specs.Lists.{every}
-use Rattle.model.specs.Conjunct.{Source, field, cell, Atom, Node, const, atom, var, op, conv, Conj, sameSource, sameAtom, without, atoms, rank, renamed, onAtom, renumber, orderNodes}
+use Rattle.model.specs.Conjunct.{Source, field, cell, Atom, Node, const, atom, var, op, conv, Conj, sameSource, sameAtom, without, atoms}
+use Rattle.model.specs.Conjunct.{rank, renamed, onAtom, renumber, orderNodes}
 use Rattle.model.specs.Condition.{numbered}
 use Rattle.model.proofs.Tests.{case, true→T, and-left, and-right, eqb-self}
 use Rattle.model.proofs.Atoms.{source-eq, source-self, atom-eq}
-use Rattle.model.proofs.Order.{nodes-eq, nodes-self}
+use Rattle.model.proofs.Order.{isEq-true, nodes-eq, nodes-self}
 use Rattle.model.proofs.Every.{every-same}
-
-is-eq : (o : Ordering) → isEq o ≡ true → o ≡ Ordering·eq
-is-eq Ordering·lt e = absurd (true→T e)
-is-eq Ordering·eq e = refl
-is-eq Ordering·gt e = absurd (true→T e)
 
 -- ---- counting
 
@@ -91,21 +86,26 @@ module _ (seen : Source → ℕ) (b : Atom) (next : b .n ≡ suc (seen (b .src))
   -- another atom of the same source has another n
   other : (a : Atom) → sameAtom b a ≡ false → a .src ≡ b .src → a .n ≡ b .n → ⊥
   unfolding sameAtom
-  other a h e f = true→T (sym (subst (λ (z : Bool). z ≡ false) (ap₂ _&&_ (ap (sameSource (b .src)) e ∙ source-self (b .src)) (eq-eqb (b .n) (a .n) (sym f))) h))
+  other a h e f = true→T
+      (sym (subst (λ (z : Bool). z ≡ false) (ap₂ _&&_ (ap (sameSource (b .src)) e ∙ source-self (b .src)) (eq-eqb (b .n) (a .n) (sym f))) h))
 
   old-other : (a : Atom) → sameAtom b a ≡ false → old (bump seen b) a ≡ old seen a
   unfolding old
   old-other a h =
-      case (sameSource (a .src) (b .src)) (λ z. (ltb 0 (a .n) && leb (a .n) (cond z (b .n) (seen (a .src)))) ≡ (ltb 0 (a .n) && leb (a .n) (seen (a .src))))
+      case (sameSource (a .src) (b .src))
+      (λ z. (ltb 0 (a .n) && leb (a .n) (cond z (b .n) (seen (a .src)))) ≡ (ltb 0 (a .n) && leb (a .n) (seen (a .src))))
       (λ q. let e = source-eq (a .src) (b .src) q in
-      ap (ltb 0 (a .n) &&_) (ap (leb (a .n)) next ∙ leb-skip (seen (b .src)) (a .n) (λ f. other a h e (f ∙ sym next)) ∙ ap (λ (s : Source). leb (a .n) (seen s)) (sym e)))
+      ap (ltb 0 (a .n) &&_)
+      (ap (leb (a .n)) next ∙ leb-skip (seen (b .src)) (a .n) (λ f. other a h e (f ∙ sym next))
+      ∙ ap (λ (s : Source). leb (a .n) (seen s)) (sym e)))
       (λ q. refl)
 
   new-without-next : (ks : List Atom) → new seen (without b ks) ≡ new (bump seen b) ks
   unfolding new without
   new-without-next [] = refl
   new-without-next (k ∷ ks) =
-      case (sameAtom b k) (λ z. sameAtom b k ≡ z → new seen (cond z (without b ks) (k ∷ without b ks)) ≡ cond (old (bump seen b) k) (new (bump seen b) ks) (k ∷ new (bump seen b) ks))
+      case (sameAtom b k) (λ z. sameAtom b k ≡ z
+      → new seen (cond z (without b ks) (k ∷ without b ks)) ≡ cond (old (bump seen b) k) (new (bump seen b) ks) (k ∷ new (bump seen b) ks))
       (λ q r. rw (← atom-eq b k q, old-bump) (new-without-next ks))
       (λ q r. rw (old-other k q) (ap (λ (l : List Atom). cond (old seen k) l (k ∷ l)) (new-without-next ks)))
       refl
@@ -131,7 +131,8 @@ module _ (seen : Source → ℕ) (b : Atom) (next : b .n ≡ suc (seen (b .src))
       different q =
           rw (old-other a q)
           (ap (λ (m : ℕ). old seen a || eqb (a .n) (suc m))
-          (case (sameSource (a .src) (b .src)) (λ z. seen (a .src) + cond z (cond (eqb (a .n) (b .n)) 0 (suc (rank a ks))) (rank a ks) ≡ cond z (b .n) (seen (a .src)) + rank a ks)
+          (case (sameSource (a .src) (b .src))
+          (λ z. seen (a .src) + cond z (cond (eqb (a .n) (b .n)) 0 (suc (rank a ks))) (rank a ks) ≡ cond z (b .n) (seen (a .src)) + rank a ks)
           (λ s. let e = source-eq (a .src) (b .src) s in
           rw (ne-eqb (a .n) (b .n) (other a q e), e) (omega arith))
           (λ s. refl)))
@@ -157,7 +158,9 @@ module _ (seen : Source → ℕ) (b : Atom) (e : Conj) where
   ranked-next o next ih =
       let ks = new (bump seen b) (atoms e) in
       let l : new seen (b ∷ without b (atoms e)) ≡ b ∷ ks = rw o (ap (b ∷_) (new-without-next seen b next (atoms e))) in
-      rw (l, right-bump seen b next ks b, right-met ks next) (ih ∙ sym (every-same (atAtom (right seen (b ∷ ks))) (atAtom (right (bump seen b) ks)) (at-same (right seen (b ∷ ks)) (right (bump seen b) ks) (right-bump seen b next ks)) e))
+      rw (l, right-bump seen b next ks b, right-met ks next)
+      (ih ∙ sym (every-same (atAtom (right seen (b ∷ ks))) (atAtom (right (bump seen b) ks))
+      (at-same (right seen (b ∷ ks)) (right (bump seen b) ks) (right-bump seen b next ks)) e))
 
   ranked-wrong : old seen b ≡ false → eqb (b .n) (suc (seen (b .src))) ≡ false → false ≡ ranked
   unfolding new right rank
@@ -223,7 +226,9 @@ module _ (ks : List Atom) where
   all-fixed : (e : Conj) → every (atAtom (good ks)) e ≡ true → map (onAtom (λ a. atom (renamed ks a))) e ≡ e
   unfolding every
   all-fixed [] h = refl
-  all-fixed (v ∷ e) h = ap₂ _∷_ (fixed-node v (and-left (atAtom (good ks) v) (every (atAtom (good ks)) e) h)) (all-fixed e (and-right (atAtom (good ks) v) (every (atAtom (good ks)) e) h))
+  all-fixed (v ∷ e) h =
+      ap₂ _∷_ (fixed-node v (and-left (atAtom (good ks) v) (every (atAtom (good ks)) e) h))
+      (all-fixed e (and-right (atAtom (good ks) v) (every (atAtom (good ks)) e) h))
 
   all-good : (e : Conj) → map (onAtom (λ a. atom (renamed ks a))) e ≡ e → every (atAtom (good ks)) e ≡ true
   unfolding every
@@ -239,12 +244,14 @@ numbered-good e =
     case (every (atAtom (good (atoms e))) e) (λ z. isEq (orderNodes (renumber e) e) ≡ z)
     (λ q. ap isEq (ap (λ (d : Conj). orderNodes d e) (all-fixed (atoms e) e q) ∙ nodes-self e))
     (λ q. case (isEq (orderNodes (renumber e) e)) (λ z. z ≡ false)
-    (λ r. absurd (true→T (sym (sym (all-good (atoms e) e (nodes-eq (renumber e) e (is-eq (orderNodes (renumber e) e) r))) ∙ q)))) (λ r. refl))
+    (λ r. absurd (true→T (sym (sym (all-good (atoms e) e (nodes-eq (renumber e) e (isEq-true (orderNodes (renumber e) e) r))) ∙ q)))) (λ r. refl))
 
 pub numbered-counted : (e : Conj) → numbered e ≡ counted none e
 numbered-counted e =
     numbered-good e
-    ∙ sym (counted-ranks e none ∙ every-same (atAtom (right none (new none (atoms e)))) (atAtom (good (atoms e))) (at-same (right none (new none (atoms e))) (good (atoms e)) (none-right (atoms e))) e)
+    ∙ sym (counted-ranks e none
+    ∙ every-same (atAtom (right none (new none (atoms e)))) (atAtom (good (atoms e)))
+    (at-same (right none (new none (atoms e))) (good (atoms e)) (none-right (atoms e))) e)
 
 -- ---- the highest n of each field, in a list by field numbers
 
@@ -260,7 +267,8 @@ getD-zeros (suc n) (suc i) = getD-zeros n i
 
 zeros-none : (types : List ℕ) (n : ℕ) (s : Source) → seenOf types (replicate n 0) s ≡ none s
 unfolding seenOf
-zeros-none types n (field f ty) = case (eqb ty (getD types f 0)) (λ z. _≡_ {A = ℕ} (cond z (getD (replicate n 0) f 0) 0) 0) (λ q. getD-zeros n f) (λ q. refl)
+zeros-none types n (field f ty) =
+    case (eqb ty (getD types f 0)) (λ z. _≡_ {A = ℕ} (cond z (getD (replicate n 0) f 0) 0) 0) (λ q. getD-zeros n f) (λ q. refl)
 zeros-none types n (cell t r k ty) = refl
 
 pub seen-none : (types : List ℕ) (n : ℕ) → seenOf types (replicate n 0) ≡ none
@@ -270,12 +278,15 @@ set-bump : (types l : List ℕ) (f n : ℕ) → f < length l → (s : Source)
     → seenOf types (set l f n) s ≡ bump (seenOf types l) (record { src = field f (getD types f 0); n = n }) s
 unfolding seenOf sameSource
 set-bump types l f n h (field g ty) =
-    case (eqb g f) (λ z. eqb g f ≡ z → cond (eqb ty (getD types g 0)) (getD (set l f n) g 0) 0 ≡ cond (z && eqb ty (getD types f 0)) n (cond (eqb ty (getD types g 0)) (getD l g 0) 0))
+    case (eqb g f) (λ z. eqb g f ≡ z
+    → cond (eqb ty (getD types g 0)) (getD (set l f n) g 0) 0
+    ≡ cond (z && eqb ty (getD types f 0)) n (cond (eqb ty (getD types g 0)) (getD l g 0) 0))
     (λ q r. let e = eqb-true g f q in
     rw (e, getD-set-same l f n 0 h) (case (eqb ty (getD types f 0)) (λ z. cond z n 0 ≡ cond z n (cond z (getD l f 0) 0)) (λ p. refl) (λ p. refl)))
     (λ q r. rw (getD-set-other l f g n 0 (eqb-false g f q)))
     refl
 set-bump types l f n h (cell t r k ty) = refl
 
-pub seen-bump : (types l : List ℕ) (f n : ℕ) → f < length l → seenOf types (set l f n) ≡ bump (seenOf types l) (record { src = field f (getD types f 0); n = n })
+pub seen-bump : (types l : List ℕ) (f n : ℕ) → f < length l
+    → seenOf types (set l f n) ≡ bump (seenOf types l) (record { src = field f (getD types f 0); n = n })
 seen-bump types l f n h = λ i s. set-bump types l f n h s i

@@ -1,5 +1,4 @@
 -- The passes over types, pairs and nodes, turn by turn: what is left from a place on.
--- Assumes nothing.
 use mathlib.Core.Path.{_≡_, refl, sym, _∙_, ap}
 use mathlib.Core.Bool.{Bool, true, false}
 use mathlib.Core.List.{List, _∷_}
@@ -53,7 +52,8 @@ pairs-all s at n =
 pub pairs-step : (s : List ℕ) (at n i : ℕ) → i < n → pairsFrom s at n i ≡ pairAt s (at + 8 * i) ∷ pairsFrom s at n (i + 1)
 pairs-step s at n i h = entries-step pairAt 8 s (at + 8 * i) (at + 8 * (i + 1)) (n - i) (n - (i + 1)) (omega arith) (omega arith)
 
-module _ (s : List ℕ) (at n i start o l : ℕ) (more : i < n) (eo : o ≡ pairAt s (at + 8 * i) .offset) (el : l ≡ pairAt s (at + 8 * i) .len) (end : ℕ) where
+module _ (s : List ℕ) (at n i start o l : ℕ) (more : i < n) (eo : o ≡ pairAt s (at + 8 * i) .offset) (el : l ≡ pairAt s (at + 8 * i) .len)
+    (end : ℕ) where
   pub chained-off : (o ≡ start → ⊥) → chained start (pairsFrom s at n i) end ≡ false
   unfolding chained
   chained-off h = rw (pairs-step s at n i more, ← eo, ne-eqb o start h)
@@ -79,7 +79,8 @@ check-wrong false m n a e = refl
 pub forms-all : (types s : List ℕ) (n : ℕ) → n ≡ length s / 8 → partRight types s ≡ every (λ b. b) (formsFrom types s n 0)
 forms-all types s n e = let f : n - 0 ≡ n = omega arith in rw (f, e)
 
-module _ (types s : List ℕ) (n k : ℕ) (more : k < n) (r : NodeRead) (answer : nodeOut r ≡ check (nodeRight types s (8 * k)) 12 (ok (nodeAt s (8 * k)))) where
+module _ (types s : List ℕ) (n k : ℕ) (more : k < n) (r : NodeRead)
+    (answer : nodeOut r ≡ check (nodeRight types s (8 * k)) 12 (ok (nodeAt s (8 * k)))) where
   forms-step : formsFrom types s n k ≡ nodeRight types s (8 * k) ∷ formsFrom types s n (k + 1)
   forms-step = entries-step (nodeRight types) 8 s (8 * k) (8 * (k + 1)) (n - k) (n - (k + 1)) (omega arith) (omega arith)
 

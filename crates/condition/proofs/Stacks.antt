@@ -1,5 +1,4 @@
 -- The types on the stack of an expression, kept in a list from the bottom up: what each kind of node does to it.
--- Assumes nothing.
 use mathlib.Core.Path.{_≡_, refl, sym, _∙_, ap, ap₂}
 use mathlib.Core.Bool.{false, _&&_}
 use mathlib.Core.List.{List, [], _∷_}
@@ -64,7 +63,8 @@ module _ (ty : ℕ) (l : List ℕ) where
   unfolding stackOf
   operation-right h k b a =
       let e : h - 1 ≡ suc (h - 2) = omega arith in
-      two-operands h k ∙ rw (eq-eqb (getD l (h - 1) 0) ty b, eq-eqb (getD l (h - 2) 0) ty a) (sym (ap (λ (m : ℕ). ok (stackOf l m)) e ∙ ap (λ (t : ℕ). ok (t ∷ stackOf l (h - 2))) a))
+      two-operands h k ∙ rw (eq-eqb (getD l (h - 1) 0) ty b, eq-eqb (getD l (h - 2) 0) ty a)
+      (sym (ap (λ (m : ℕ). ok (stackOf l m)) e ∙ ap (λ (t : ℕ). ok (t ∷ stackOf l (h - 2))) a))
 
   -- ---- a conversion
 
@@ -96,10 +96,12 @@ module _ (s : List ℕ) (n k : ℕ) (v : Node) (is : NodeIs v s (8 * k)) (more :
   pub typed-push : v .kind < 2 → typeNodes (rest s n k) st ≡ typeNodes (rest s n (k + 1)) (v .ty ∷ st)
   typed-push h = typed-turn ∙ rw (push-kind (v .ty) (v .field) (v .imm) st (v .kind) h)
 
-  pub typed-operation : 2 ≤ v .kind → v .kind < 6 → (o : Out (List ℕ)) → operation (v .ty) st ≡ o → typeNodes (rest s n k) st ≡ (o >>= typeNodes (rest s n (k + 1)))
+  pub typed-operation : 2 ≤ v .kind → v .kind < 6 → (o : Out (List ℕ)) → operation (v .ty) st ≡ o
+      → typeNodes (rest s n k) st ≡ (o >>= typeNodes (rest s n (k + 1)))
   typed-operation h l o e = typed-turn ∙ rw (operation-kind (v .ty) (v .field) (v .imm) st (v .kind) h l, e)
 
-  pub typed-conversion : 6 ≤ v .kind → (o : Out (List ℕ)) → conversion (v .ty) st ≡ o → typeNodes (rest s n k) st ≡ (o >>= typeNodes (rest s n (k + 1)))
+  pub typed-conversion : 6 ≤ v .kind → (o : Out (List ℕ)) → conversion (v .ty) st ≡ o
+      → typeNodes (rest s n k) st ≡ (o >>= typeNodes (rest s n (k + 1)))
   typed-conversion h o e = typed-turn ∙ rw (conversion-kind (v .ty) (v .field) (v .imm) st (v .kind) h, e)
 
 -- ---- the whole expression
@@ -112,7 +114,8 @@ pub whole-refused : (e : Conj) → typeNodes e [] ≡ refused 12 → whole e ≡
 unfolding whole
 whole-refused e h = rw h
 
-pub whole-end : (s : List ℕ) (n k : ℕ) (l : List ℕ) (h : ℕ) (e : Conj) → n ≤ k → typeNodes e [] ≡ typeNodes (rest s n k) (stackOf l h) → whole e ≡ eqb h 1
+pub whole-end : (s : List ℕ) (n k : ℕ) (l : List ℕ) (h : ℕ) (e : Conj) → n ≤ k → typeNodes e [] ≡ typeNodes (rest s n k) (stackOf l h)
+    → whole e ≡ eqb h 1
 unfolding whole entries typeNodes
 whole-end s n k l h e m t =
     let z : n - k ≡ 0 = omega arith in

@@ -1,5 +1,4 @@
 -- The file as a whole: its parts by the table of pairs, the tests of its reader, and what a file that is read holds.
--- Assumes nothing.
 use mathlib.Core.Path.{_≡_, refl, sym, _∙_, ap, ap₂, subst}
 use mathlib.Core.Bool.{Bool, true, false, _&&_}
 use mathlib.Core.List.{List, [], _∷_, map}
@@ -14,7 +13,8 @@ use Rattle.model.specs.Refusals.{ok, refused, mapped, check, wrongCondition}
 use Rattle.model.specs.Bytes.{u32At, part, Pair, pairAt, entries, pairsAt, chained}
 use Rattle.model.specs.Program.{typeRight}
 use Rattle.model.specs.Conjunct.{Conjuncts, _then_, orderNumbers, order}
-use Rattle.model.specs.Condition.{Condition, conjunctsAt, nodeAt, nodeRight, conjunctAt, nodesRight, lengthRight, whole, numbered, isBefore, rising, readCondition}
+use Rattle.model.specs.Condition.{Condition, conjunctsAt, nodeAt, nodeRight, conjunctAt, nodesRight, lengthRight, whole, numbered}
+use Rattle.model.specs.Condition.{isBefore, rising, readCondition}
 use Rattle.model.proofs.Tests.{case, and-left, and-right}
 use Rattle.model.proofs.Results.{check-ok, ok-eq}
 use Rattle.model.proofs.Every.{every-of-map, every-at}
@@ -35,12 +35,14 @@ module _ (s : List ℕ) (p : Pair) (inside : p .offset + p .len ≤ length s) wh
   pub part-nodes : partNodes (part s (p .offset) (p .len)) ≡ conjunctAt s p
   part-nodes =
       rw part-length
-      (entries-part nodeAt 8 node-narrow s (p .offset) (p .len) (p .len / 8) 0 (omega arith) ∙ ap (λ (a : ℕ). entries nodeAt 8 s a (p .len / 8)) (add-zero (p .offset)))
+      (entries-part nodeAt 8 node-narrow s (p .offset) (p .len) (p .len / 8) 0 (omega arith)
+      ∙ ap (λ (a : ℕ). entries nodeAt 8 s a (p .len / 8)) (add-zero (p .offset)))
 
   pub part-right : (types : List ℕ) → partRight types (part s (p .offset) (p .len)) ≡ nodesRight types s p
   part-right types =
       rw part-length
-      (ap (every (λ b. b)) (entries-part (nodeRight types) 8 (right-narrow types) s (p .offset) (p .len) (p .len / 8) 0 (omega arith) ∙ ap (λ (a : ℕ). entries (nodeRight types) 8 s a (p .len / 8)) (add-zero (p .offset))))
+      (ap (every (λ b. b)) (entries-part (nodeRight types) 8 (right-narrow types) s (p .offset) (p .len) (p .len / 8) 0 (omega arith)
+      ∙ ap (λ (a : ℕ). entries (nodeRight types) 8 s a (p .len / 8)) (add-zero (p .offset))))
 
 -- by what was read of the pair at a place
 module _ (s : List ℕ) (at a l : ℕ) (ea : a ≡ pairAt s at .offset) (el : l ≡ pairAt s at .len) where
@@ -65,12 +67,21 @@ module _ (types s : List ℕ) (p : Pair) (inside : p .offset + p .len ≤ length
 
   pub pair-broken : 0 < length t → length t ≤ 960 → (length t % 8 ≡ 0 → ⊥) → pairRight types s p ≡ false
   unfolding pairRight
-  pair-broken z h b = rw (lt-ltb 0 (p .len) (omega (arith, size)), le-leb (p .len) 960 (omega (arith, size)), ne-eqb (p .len % 8) 0 (λ e. b (ap (_% 8) size ∙ e)))
+  pair-broken z h b = rw
+      (lt-ltb 0 (p .len) (omega (arith, size)), le-leb (p .len) 960 (omega (arith, size)), ne-eqb (p .len % 8) 0 (λ e. b (ap (_% 8) size ∙ e)))
 
-  pub pair-part : 0 < length t → length t ≤ 960 → length t % 8 ≡ 0 → (partRight types t && whole (partNodes t) && numbered (partNodes t)) ≡ pairRight types s p
+  pub pair-part : 0 < length t → length t ≤ 960 → length t % 8 ≡ 0
+      → (partRight types t && whole (partNodes t) && numbered (partNodes t)) ≡ pairRight types s p
   unfolding pairRight
   pair-part z h b =
-      rw (lt-ltb 0 (p .len) (omega (arith, size)), le-leb (p .len) 960 (omega (arith, size)), eq-eqb (p .len % 8) 0 (sym (ap (_% 8) size) ∙ b), is, part-right s p inside types, part-nodes s p inside)
+      rw (
+        lt-ltb 0 (p .len) (omega (arith, size)),
+        le-leb (p .len) 960 (omega (arith, size)),
+        eq-eqb (p .len % 8) 0 (sym (ap (_% 8) size) ∙ b),
+        is,
+        part-right s p inside types,
+        part-nodes s p inside,
+      )
 
 -- the types of the fields, as they are taken from the file
 pub types-taken : (s : List ℕ) (f : ℕ) → take (8 + f - 8) (drop 8 s) ≡ part s 8 f
@@ -124,22 +135,26 @@ module _ (types s : List ℕ) (p : Pair) (right : pairRight types s p ≡ true) 
   unfolding pairRight
   pair-forms =
       and-right (lengthRight p) (nodesRight types s p)
-      (and-left (lengthRight p && nodesRight types s p) (whole (conjunctAt s p)) (and-left (lengthRight p && nodesRight types s p && whole (conjunctAt s p)) (numbered (conjunctAt s p)) right))
+      (and-left (lengthRight p && nodesRight types s p) (whole (conjunctAt s p))
+      (and-left (lengthRight p && nodesRight types s p && whole (conjunctAt s p)) (numbered (conjunctAt s p)) right))
 
   pair-length : lengthRight p ≡ true
   unfolding pairRight
   pair-length =
       and-left (lengthRight p) (nodesRight types s p)
-      (and-left (lengthRight p && nodesRight types s p) (whole (conjunctAt s p)) (and-left (lengthRight p && nodesRight types s p && whole (conjunctAt s p)) (numbered (conjunctAt s p)) right))
+      (and-left (lengthRight p && nodesRight types s p) (whole (conjunctAt s p))
+      (and-left (lengthRight p && nodesRight types s p && whole (conjunctAt s p)) (numbered (conjunctAt s p)) right))
 
   pub pair-eighths : p .len % 8 ≡ 0
   pair-eighths = eqb-true (p .len % 8) 0 (and-right (ltb 0 (p .len) && leb (p .len) 960) (eqb (p .len % 8) 0) pair-length)
 
   pub pair-short : p .len ≤ 960
-  pair-short = leb-true (p .len) 960 (and-right (ltb 0 (p .len)) (leb (p .len) 960) (and-left (ltb 0 (p .len) && leb (p .len) 960) (eqb (p .len % 8) 0) pair-length))
+  pair-short = leb-true (p .len) 960
+      (and-right (ltb 0 (p .len)) (leb (p .len) 960) (and-left (ltb 0 (p .len) && leb (p .len) 960) (eqb (p .len % 8) 0) pair-length))
 
 module _ (types s : List ℕ) (small : (i : ℕ) → getD s i 0 < 256) (p q : Pair)
-    (in-p : p .offset + p .len ≤ length s) (in-q : q .offset + q .len ≤ length s) (right-p : pairRight types s p ≡ true) (right-q : pairRight types s q ≡ true) where
+    (in-p : p .offset + p .len ≤ length s) (in-q : q .offset + q .len ≤ length s) (right-p : pairRight types s p ≡ true)
+    (right-q : pairRight types s q ≡ true) where
   pub order-parts : (t u : List ℕ) → t ≡ part s (p .offset) (p .len) → u ≡ part s (q .offset) (q .len)
       → order (conjunctAt s p) (conjunctAt s q) ≡ (compare (length t) (length u) then orderNumbers t u)
   order-parts t u et eu =
@@ -147,23 +162,28 @@ module _ (types s : List ℕ) (small : (i : ℕ) → getD s i 0 < 256) (p q : Pa
       let Q = part s (q .offset) (q .len) in
       rw (et, eu)
       (ap₂ order (sym (part-nodes s p in-p)) (sym (part-nodes s q in-q))
-      ∙ order-bytes types P Q (small-take (p .len) (drop (p .offset) s) (small-drop (p .offset) s small)) (small-take (q .len) (drop (q .offset) s) (small-drop (q .offset) s small))
+      ∙ order-bytes types P Q (small-take (p .len) (drop (p .offset) s) (small-drop (p .offset) s small))
+      (small-take (q .len) (drop (q .offset) s) (small-drop (q .offset) s small))
       (part-right s p in-p types ∙ pair-forms types s p right-p) (part-right s q in-q types ∙ pair-forms types s q right-q)
       (ap (_% 8) (part-length s p in-p) ∙ pair-eighths types s p right-p) (ap (_% 8) (part-length s q in-q) ∙ pair-eighths types s q right-q))
 
 -- a test that all pairs pass
-pub every-pair : (test : Pair → Bool) (s : List ℕ) (at n : ℕ) → every test (pairsAt s at n) ≡ true → (i : ℕ) → i < n → test (pairAt s (at + 8 * i)) ≡ true
+pub every-pair : (test : Pair → Bool) (s : List ℕ) (at n : ℕ) → every test (pairsAt s at n) ≡ true → (i : ℕ) → i < n
+    → test (pairAt s (at + 8 * i)) ≡ true
 every-pair test s at n h i l =
     subst (λ (q : Pair). test q ≡ true) (entries-getD pairAt 8 s n at i (pairAt s 0) l)
     (every-at test (pairAt s 0) (pairsAt s at n) h i (omega (arith, length-entries pairAt 8 s n at)))
 
 -- two neighbours, by their parts
-pub order-neighbours : (s : List ℕ) (f c : ℕ) → chained (conjunctsAt f c) (pairsAt s (8 + f) c) (length s) ≡ true → every (pairRight (part s 8 f) s) (pairsAt s (8 + f) c) ≡ true
+pub order-neighbours : (s : List ℕ) (f c : ℕ) → chained (conjunctsAt f c) (pairsAt s (8 + f) c) (length s) ≡ true
+    → every (pairRight (part s 8 f) s) (pairsAt s (8 + f) c) ≡ true
     → ((i : ℕ) → getD s i 0 < 256) → (i : ℕ) → i + 1 < c → (t u : List ℕ) → t ≡ pairPart s (8 + f + 8 * i) → u ≡ pairPart s (8 + f + 8 * (i + 1))
-    → order (conjunctAt s (pairAt s (8 + f + 8 * i))) (conjunctAt s (pairAt s (8 + f + 8 * (i + 1)))) ≡ (compare (length t) (length u) then orderNumbers t u)
+    → order (conjunctAt s (pairAt s (8 + f + 8 * i))) (conjunctAt s (pairAt s (8 + f + 8 * (i + 1))))
+    ≡ (compare (length t) (length u) then orderNumbers t u)
 order-neighbours s f c chain right small i more =
     let types = part s 8 f in
-    order-parts types s small (pairAt s (8 + f + 8 * i)) (pairAt s (8 + f + 8 * (i + 1))) (pair-inside s f c chain i (omega arith)) (pair-inside s f c chain (i + 1) more)
+    order-parts types s small (pairAt s (8 + f + 8 * i)) (pairAt s (8 + f + 8 * (i + 1))) (pair-inside s f c chain i (omega arith))
+    (pair-inside s f c chain (i + 1) more)
     (every-pair (pairRight types s) s (8 + f) c right i (omega arith)) (every-pair (pairRight types s) s (8 + f) c right (i + 1) more)
 
 -- conjuncts from the one with number i on
@@ -171,14 +191,17 @@ abbrev pub conjunctsFrom : List ℕ → ℕ → ℕ → ℕ → Conjuncts
 conjunctsFrom s at n i = map (conjunctAt s) (pairsFrom s at n i)
 
 module _ (s : List ℕ) (at n i : ℕ) (more : i + 1 < n) where
-  two-conjuncts : conjunctsFrom s at n i ≡ conjunctAt s (pairAt s (at + 8 * i)) ∷ conjunctAt s (pairAt s (at + 8 * (i + 1))) ∷ conjunctsFrom s at n (i + 1 + 1)
+  two-conjuncts : conjunctsFrom s at n i
+      ≡ conjunctAt s (pairAt s (at + 8 * i)) ∷ conjunctAt s (pairAt s (at + 8 * (i + 1))) ∷ conjunctsFrom s at n (i + 1 + 1)
   two-conjuncts = rw (pairs-step s at n i (omega arith), pairs-step s at n (i + 1) more)
 
-  pub rising-on : isBefore (order (conjunctAt s (pairAt s (at + 8 * i))) (conjunctAt s (pairAt s (at + 8 * (i + 1))))) ≡ true → rising (conjunctsFrom s at n i) ≡ rising (conjunctsFrom s at n (i + 1))
+  pub rising-on : isBefore (order (conjunctAt s (pairAt s (at + 8 * i))) (conjunctAt s (pairAt s (at + 8 * (i + 1))))) ≡ true
+      → rising (conjunctsFrom s at n i) ≡ rising (conjunctsFrom s at n (i + 1))
   unfolding rising
   rising-on h = rw (two-conjuncts, h) (sym (ap (λ (l : List Pair). rising (map (conjunctAt s) l)) (pairs-step s at n (i + 1) more)))
 
-  pub rising-off : isBefore (order (conjunctAt s (pairAt s (at + 8 * i))) (conjunctAt s (pairAt s (at + 8 * (i + 1))))) ≡ false → rising (conjunctsFrom s at n i) ≡ false
+  pub rising-off : isBefore (order (conjunctAt s (pairAt s (at + 8 * i))) (conjunctAt s (pairAt s (at + 8 * (i + 1))))) ≡ false
+      → rising (conjunctsFrom s at n i) ≡ false
   unfolding rising
   rising-off h = rw (two-conjuncts, h)
 
@@ -205,32 +228,38 @@ every-and p q (x ∷ xs) = rw (every-and p q xs) (shuffle (p x) (q x) (every p x
     shuffle true true c d = refl
 
 pairs-tests : (types s : List ℕ) (ps : List Pair)
-    → every (pairRight types s) ps ≡ (every lengthRight ps && every (nodesRight types s) ps && every whole (map (conjunctAt s) ps) && every numbered (map (conjunctAt s) ps))
+    → every (pairRight types s) ps
+    ≡ (every lengthRight ps && every (nodesRight types s) ps && every whole (map (conjunctAt s) ps) && every numbered (map (conjunctAt s) ps))
 unfolding pairRight
 pairs-tests types s ps =
     every-and (λ p. lengthRight p && nodesRight types s p && whole (conjunctAt s p)) (λ p. numbered (conjunctAt s p)) ps
     ∙ ap₂ _&&_ (every-and (λ p. lengthRight p && nodesRight types s p) (λ p. whole (conjunctAt s p)) ps
-    ∙ ap₂ _&&_ (every-and lengthRight (nodesRight types s) ps) (sym (every-of-map whole (conjunctAt s) ps))) (sym (every-of-map numbered (conjunctAt s) ps))
+    ∙ ap₂ _&&_ (every-and lengthRight (nodesRight types s) ps) (sym (every-of-map whole (conjunctAt s) ps)))
+    (sym (every-of-map numbered (conjunctAt s) ps))
 
 -- the tests, with these counts
 unfoldable pub formBy : List ℕ → ℕ → ℕ → Bool
 formBy s c f =
     let types = part s 8 f in
     let pairs = pairsAt s (8 + f) c in
-    leb 8 (length s) && leb c 64 && leb f 32 && chained (conjunctsAt f c) pairs (length s) && every typeRight types && every (pairRight types s) pairs && rising (map (conjunctAt s) pairs)
+    leb 8 (length s) && leb c 64 && leb f 32 && chained (conjunctsAt f c) pairs (length s) && every typeRight types && every
+    (pairRight types s) pairs && rising (map (conjunctAt s) pairs)
 
 regroup : (x a b c d r : Bool) → (x && (a && b && c && d) && r) ≡ (x && a && b && c && d && r)
 regroup false a b c d r = refl
 regroup true a b c d r = refl
 
-pub read-form : (s : List ℕ) → readCondition s ≡ check (formBy s (u32At s 0) (u32At s 4)) wrongCondition (ok (record { types = typesOf s; conjuncts = conjunctsOf s }))
+pub read-form : (s : List ℕ)
+    → readCondition s ≡ check (formBy s (u32At s 0) (u32At s 4)) wrongCondition (ok (record { types = typesOf s; conjuncts = conjunctsOf s }))
 unfolding readCondition formBy
 read-form s =
     let ps = pairsAt s (8 + u32At s 4) (u32At s 0) in
-    let first = leb 8 (length s) && leb (u32At s 0) 64 && leb (u32At s 4) 32 && chained (conjunctsAt (u32At s 4) (u32At s 0)) ps (length s) && every typeRight (typesOf s) in
+    let first = leb 8 (length s) && leb (u32At s 0) 64 && leb (u32At s 4) 32 && chained (conjunctsAt (u32At s 4) (u32At s 0)) ps
+    (length s) && every typeRight (typesOf s) in
     rw (pairs-tests (typesOf s) s ps)
     (ap (λ (b : Bool). check b wrongCondition (ok (record { types = typesOf s; conjuncts = conjunctsOf s })))
-    (sym (regroup first (every lengthRight ps) (every (nodesRight (typesOf s) s) ps) (every whole (conjunctsOf s)) (every numbered (conjunctsOf s)) (rising (conjunctsOf s)))))
+    (sym (regroup first (every lengthRight ps) (every (nodesRight (typesOf s) s) ps) (every whole (conjunctsOf s)) (every numbered (conjunctsOf s))
+    (rising (conjunctsOf s)))))
 
 module _ (s : List ℕ) where
   -- how many conjuncts and types a file holds
@@ -239,7 +268,8 @@ module _ (s : List ℕ) where
 
   sizes-form : mapped sizes (readCondition s) ≡ check (formBy s (u32At s 0) (u32At s 4)) wrongCondition (ok (u32At s 0, length (typesOf s)))
   sizes-form =
-      ap (mapped sizes) (read-form s) ∙ mapped-check sizes (formBy s (u32At s 0) (u32At s 4)) wrongCondition (record { types = typesOf s; conjuncts = conjunctsOf s })
+      ap (mapped sizes) (read-form s)
+      ∙ mapped-check sizes (formBy s (u32At s 0) (u32At s 4)) wrongCondition (record { types = typesOf s; conjuncts = conjunctsOf s })
       ∙ ap (λ (m : ℕ). check (formBy s (u32At s 0) (u32At s 4)) wrongCondition (ok (m, length (typesOf s)))) conjuncts-count
 
   -- by the counts that were read
@@ -304,7 +334,9 @@ counted-read s k read =
 -- a conjunct's part
 module _ (s : List ℕ) (k : Counts) (read : ConditionIsRead s k) (i : ℕ) (h : i < k .conjuncts) where
   pub conjunct-inside : pairAt s (8 + k .fields + 8 * i) .offset + pairAt s (8 + k .fields + 8 * i) .len ≤ length s
-  conjunct-inside = let q = counted-read s k read in pair-inside s (k .fields) (k .conjuncts) (form-chained s (k .conjuncts) (k .fields) (q .form)) i h
+  conjunct-inside =
+      let q = counted-read s k read in
+      pair-inside s (k .fields) (k .conjuncts) (form-chained s (k .conjuncts) (k .fields) (q .form)) i h
 
   pub conjunct-nodes : partNodes (pairPart s (8 + k .fields + 8 * i)) ≡ getD (conjunctsOf s) i []
   conjunct-nodes =
@@ -315,7 +347,8 @@ module _ (s : List ℕ) (k : Counts) (read : ConditionIsRead s k) (i : ℕ) (h :
       part-nodes s p conjunct-inside
       ∙ ap (λ (f : ℕ). conjunctAt s (pairAt s (8 + f + 8 * i))) (q .fields)
       ∙ sym (getD-any (map (conjunctAt s) ps) i [] (conjunctAt s (pairAt s 0)) (rw m (subst (λ (c : ℕ). i < c) (q .conjuncts) h))
-      ∙ List·getD-map (conjunctAt s) ps i (pairAt s 0) ∙ ap (conjunctAt s) (entries-getD pairAt 8 s (u32At s 0) (8 + u32At s 4) i (pairAt s 0) (subst (λ (c : ℕ). i < c) (q .conjuncts) h)))
+      ∙ List·getD-map (conjunctAt s) ps i (pairAt s 0)
+      ∙ ap (conjunctAt s) (entries-getD pairAt 8 s (u32At s 0) (8 + u32At s 4) i (pairAt s 0) (subst (λ (c : ℕ). i < c) (q .conjuncts) h)))
 
   pub conjunct-short : length (pairPart s (8 + k .fields + 8 * i)) ≤ 960
   conjunct-short =
@@ -348,7 +381,8 @@ module _ (s : List ℕ) (c f : ℕ) where
 
     module _ (few : c ≤ 64) (narrow : f ≤ 32) where
       form-rest : formBy s c f
-          ≡ (chained (conjunctsAt f c) (pairsAt s (8 + f) c) (length s) && every typeRight (part s 8 f) && every (pairRight (part s 8 f) s) (pairsAt s (8 + f) c)
+          ≡ (chained (conjunctsAt f c) (pairsAt s (8 + f) c) (length s) && every typeRight (part s 8 f) && every (pairRight (part s 8 f) s)
+          (pairsAt s (8 + f) c)
           && rising (map (conjunctAt s) (pairsAt s (8 + f) c)))
       unfolding formBy
       form-rest = rw (le-leb 8 (length s) begins, le-leb c 64 few, le-leb f 32 narrow)
@@ -358,7 +392,8 @@ module _ (s : List ℕ) (c f : ℕ) where
 
       pub form-cut : length s < 8 + f + 8 * c → formBy s c f ≡ false
       form-cut h =
-          case (chained (conjunctsAt f c) (pairsAt s (8 + f) c) (length s)) (λ z. chained (conjunctsAt f c) (pairsAt s (8 + f) c) (length s) ≡ z → formBy s c f ≡ false)
+          case (chained (conjunctsAt f c) (pairsAt s (8 + f) c) (length s))
+          (λ z. chained (conjunctsAt f c) (pairsAt s (8 + f) c) (length s) ≡ z → formBy s c f ≡ false)
           (λ q r. absurd (omega (arith, table-inside s f c q))) (λ q r. form-unchained q) refl
 
       module _ (chain : chained (conjunctsAt f c) (pairsAt s (8 + f) c) (length s) ≡ true) where
@@ -369,5 +404,6 @@ module _ (s : List ℕ) (c f : ℕ) where
           pub form-wrong : every (pairRight (part s 8 f) s) (pairsAt s (8 + f) c) ≡ false → formBy s c f ≡ false
           form-wrong h = form-rest ∙ rw (chain, typed, h)
 
-          pub form-is : every (pairRight (part s 8 f) s) (pairsAt s (8 + f) c) ≡ true → formBy s c f ≡ rising (map (conjunctAt s) (pairsAt s (8 + f) c))
+          pub form-is : every (pairRight (part s 8 f) s) (pairsAt s (8 + f) c) ≡ true
+              → formBy s c f ≡ rising (map (conjunctAt s) (pairsAt s (8 + f) c))
           form-is h = form-rest ∙ rw (chain, typed, h)

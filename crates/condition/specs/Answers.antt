@@ -1,5 +1,4 @@
 -- What the answers of the condition's reader stand for, and a node by its four numbers.
--- Assumes nothing.
 use mathlib.Core.Path.{_≡_}
 use mathlib.Core.Bool.{Bool, false, _&&_}
 use mathlib.Core.List.{List, [], _∷_, map}

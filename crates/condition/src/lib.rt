@@ -1,17 +1,20 @@
 // The reader of the condition file: every clause of its form is tested, each by a pass of its own or
-// by one over the conjuncts; and what a filter needs of a condition that is read. Assumes nothing.
+// by one over the conjuncts; and what a filter needs of a condition that is read.
 ghost use mathlib.Core.Path.{_≡_};
 ghost use mathlib.Core.Bool.{true, _&&_};
 ghost use mathlib.Core.List.{[], map};
 ghost use Prim.Native.Nat.{ℕ, _+_, _*_, _/_, _%_, _≤_, _<_, compare};
 ghost use lib.ListN.{length, getD};
 ghost use Rattle.model.specs.Lists.{every};
-ghost use Rattle.model.specs.Refusals.{ok, refused, check, mapped};
+ghost use Rattle.model.specs.Refusals.{ok, refused, check, mapped, wrongCondition};
+ghost use Rattle.model.specs.Sizes.{mostFields, mostNodes, nodeSize};
 ghost use Rattle.model.specs.Bytes.{part, pairAt, pairsAt, chained};
 ghost use Rattle.model.specs.Program.{typeRight};
 ghost use Rattle.model.specs.Conjunct.{_then_, orderNumbers};
 ghost use Rattle.model.specs.Condition.{conjunctsAt, nodeAt, nodeRight, conjunctAt, whole, numbered, isBefore, rising, readCondition};
-ghost use Rattle.condition.specs.Answers.{constantRight, readingRight, operationRight, rightBy, NodeIs, EntryIs, nodeOut, conjunctAnswer, formed, partNodes, partRight, pairPart, pairRight, sizes, conditionAnswer, ConditionIsRead, typesOf, conjunctsOf};
+ghost use Rattle.condition.specs.Answers.{constantRight, readingRight, operationRight, rightBy, NodeIs, EntryIs, nodeOut};
+ghost use Rattle.condition.specs.Answers.{conjunctAnswer, formed, partNodes, partRight, pairPart, pairRight, sizes, conditionAnswer};
+ghost use Rattle.condition.specs.Answers.{ConditionIsRead, typesOf, conjunctsOf};
 
 // A node by its numbers.
 pub struct Node {
@@ -117,7 +120,8 @@ fn node_right(types: &[u8], v: Node) -> bool
 // The node with a number in a part, if it has its form.
 fn read_node(types: &[u8], part: &[u8], k: usize) -> NodeRead
     requires { ⌜ 8 * k + 8 ≤ length (now part) ⌝ }
-    ensures { λ r. ⌜ (nodeOut r ≡ check (nodeRight (now (types .entry)) (now (part .entry)) (8 * k)) 12 (ok (nodeAt (now (part .entry)) (8 * k)))) × EntryIs r (now (part .entry)) (8 * k) ⌝ }
+    ensures { λ r. ⌜ (nodeOut r ≡ check (nodeRight (now (types .entry)) (now (part .entry)) (8 * k)) wrongCondition
+        (ok (nodeAt (now (part .entry)) (8 * k)))) × EntryIs r (now (part .entry)) (8 * k) ⌝ }
 {
     let v = node_at(part, k);
     if node_right(types, v) {
@@ -139,7 +143,7 @@ fn node_refusal(read: NodeRead) -> u8
 // Every node of a part has its form, and the part is one whole expression in which types agree. The
 // types on the stack stand from the bottom up.
 fn read_nodes(types: &[u8], part: &[u8]) -> ConjunctRead
-    requires { ⌜ length (now part) ≤ 960 ⌝ }
+    requires { ⌜ length (now part) ≤ nodeSize * mostNodes ⌝ }
     ensures { λ r. ⌜ conjunctAnswer r ≡ formed (partRight (now (types .entry)) (now (part .entry)) && whole (partNodes (now (part .entry)))) ⌝ }
 {
     let n = part.len() / 8;
@@ -184,7 +188,7 @@ fn read_nodes(types: &[u8], part: &[u8]) -> ConjunctRead
 
 // The n of each field count from 1 by first appearance: each is one met before or the next one.
 fn is_numbered(types: &[u8], part: &[u8]) -> bool
-    requires { ⌜ (length (now types) ≤ 32) × (partRight (now types) (now part) ≡ true) ⌝ }
+    requires { ⌜ (length (now types) ≤ mostFields) × (partRight (now types) (now part) ≡ true) ⌝ }
     ensures { λ r. ⌜ r ≡ numbered (partNodes (now (part .entry))) ⌝ }
 {
     let n = part.len() / 8;
@@ -216,7 +220,8 @@ fn is_numbered(types: &[u8], part: &[u8]) -> bool
 
 // By length, then by bytes, smaller first byte first.
 fn comes_before(a: &[u8], b: &[u8]) -> bool
-    ensures { λ r. ⌜ r ≡ isBefore (compare (length (now (a .entry))) (length (now (b .entry))) then orderNumbers (now (a .entry)) (now (b .entry))) ⌝ }
+    ensures { λ r. ⌜ r ≡ isBefore
+        (compare (length (now (a .entry))) (length (now (b .entry))) then orderNumbers (now (a .entry)) (now (b .entry))) ⌝ }
 {
     if a.len() < b.len() {
         return true;
@@ -287,8 +292,9 @@ fn part_at(condition: &[u8], at: usize) -> &[u8]
 
 // A part is a conjunct in its form.
 fn read_conjunct(types: &[u8], part: &[u8]) -> ConjunctRead
-    requires { ⌜ (length (now types) ≤ 32) × (length (now part) ≤ 960) ⌝ }
-    ensures { λ r. ⌜ conjunctAnswer r ≡ formed (partRight (now (types .entry)) (now (part .entry)) && whole (partNodes (now (part .entry))) && numbered (partNodes (now (part .entry)))) ⌝ }
+    requires { ⌜ (length (now types) ≤ mostFields) × (length (now part) ≤ nodeSize * mostNodes) ⌝ }
+    ensures { λ r. ⌜ conjunctAnswer r ≡ formed
+        (partRight (now (types .entry)) (now (part .entry)) && whole (partNodes (now (part .entry))) && numbered (partNodes (now (part .entry)))) ⌝ }
 {
     let read = read_nodes(types, part);
     let ConjunctRead::Formed = read else {
@@ -302,8 +308,10 @@ fn read_conjunct(types: &[u8], part: &[u8]) -> ConjunctRead
 
 // The conjunct of a pair: 1 to 120 nodes, in its form.
 fn read_pair(condition: &[u8], fields: usize, at: usize) -> ConjunctRead
-    requires { ⌜ (fields ≤ 32) × (8 + fields ≤ length (now condition)) × (at + 8 ≤ length (now condition)) × (pairAt (now condition) at .offset + pairAt (now condition) at .len ≤ length (now condition)) ⌝ }
-    ensures { λ r. ⌜ conjunctAnswer r ≡ formed (pairRight (part (now (condition .entry)) 8 fields) (now (condition .entry)) (pairAt (now (condition .entry)) at)) ⌝ }
+    requires { ⌜ (fields ≤ mostFields) × (8 + fields ≤ length (now condition)) × (at + 8 ≤ length (now condition))
+        × (pairAt (now condition) at .offset + pairAt (now condition) at .len ≤ length (now condition)) ⌝ }
+    ensures { λ r. ⌜ conjunctAnswer r ≡ formed
+        (pairRight (part (now (condition .entry)) 8 fields) (now (condition .entry)) (pairAt (now (condition .entry)) at)) ⌝ }
 {
     let held = part_at(condition, at);
     let len = held.len();
@@ -322,8 +330,11 @@ fn read_pair(condition: &[u8], fields: usize, at: usize) -> ConjunctRead
 
 // Every conjunct is in its form.
 fn read_conjuncts(condition: &[u8], fields: usize, count: usize) -> ConjunctRead
-    requires { ⌜ (fields ≤ 32) × (chained (conjunctsAt fields count) (pairsAt (now condition) (8 + fields) count) (length (now condition)) ≡ true) ⌝ }
-    ensures { λ r. ⌜ conjunctAnswer r ≡ formed (every (pairRight (part (now (condition .entry)) 8 fields) (now (condition .entry))) (pairsAt (now (condition .entry)) (8 + fields) count)) ⌝ }
+    requires { ⌜ (fields ≤ mostFields)
+        × (chained (conjunctsAt fields count) (pairsAt (now condition) (8 + fields) count) (length (now condition)) ≡ true) ⌝ }
+    ensures { λ r. ⌜ conjunctAnswer r ≡ formed
+        (every (pairRight (part (now (condition .entry)) 8 fields) (now (condition .entry)))
+        (pairsAt (now (condition .entry)) (8 + fields) count)) ⌝ }
 {
     let mut i: usize = 0;
     while i < count {
@@ -348,7 +359,8 @@ fn conjunct_refusal(read: ConjunctRead) -> u8
 
 // The conjuncts stand in rising order, none twice: each before the next.
 fn is_rising(condition: &[u8], fields: usize, count: usize) -> bool
-    requires { ⌜ (chained (conjunctsAt fields count) (pairsAt (now condition) (8 + fields) count) (length (now condition)) ≡ true) × (every (pairRight (part (now condition) 8 fields) (now condition)) (pairsAt (now condition) (8 + fields) count) ≡ true) ⌝ }
+    requires { ⌜ (chained (conjunctsAt fields count) (pairsAt (now condition) (8 + fields) count) (length (now condition)) ≡ true)
+        × (every (pairRight (part (now condition) 8 fields) (now condition)) (pairsAt (now condition) (8 + fields) count) ≡ true) ⌝ }
     ensures { λ r. ⌜ r ≡ rising (map (conjunctAt (now (condition .entry))) (pairsAt (now (condition .entry)) (8 + fields) count)) ⌝ }
 {
     let mut i: usize = 0;
@@ -406,7 +418,8 @@ pub fn read(condition: &[u8]) -> ConditionRead
 // A conjunct of a condition that is read, as the part that starts at its offset.
 pub fn conjunct(condition: &[u8], counts: Counts, i: usize) -> &[u8]
     requires { ⌜ ConditionIsRead (now condition) counts × (i < counts .conjuncts) ⌝ }
-    ensures { λ r. ⌜ (now r ≡ pairPart (now (condition .entry)) (8 + counts .fields + 8 * i)) × (partNodes (now r) ≡ getD (conjunctsOf (now (condition .entry))) i []) × (length (now r) ≤ 960) ⌝ }
+    ensures { λ r. ⌜ (now r ≡ pairPart (now (condition .entry)) (8 + counts .fields + 8 * i))
+        × (partNodes (now r) ≡ getD (conjunctsOf (now (condition .entry))) i []) × (length (now r) ≤ nodeSize * mostNodes) ⌝ }
 {
     let fields = counts.fields;
     part_at(condition, 8 + fields + 8 * i)

@@ -1,5 +1,4 @@
 -- One node in which a load or an atom is replaced by a variable; and equal conjuncts.
--- Assumes nothing.
 use mathlib.Core.Bool.{true, false, cond}
 use mathlib.Core.Path.{_≡_, refl, ap}
 use Prim.Native.Nat.{ℕ, compare, Ordering, Ordering·lt, Ordering·eq, Ordering·gt}
@@ -8,11 +7,11 @@ use lib.ListN.{length}
 use Rattle.model.proofs.Tests.{case, true→T}
 use Rattle.model.proofs.Atoms.{atom-eq, atom-self}
 use Rattle.model.proofs.Order.{nodes-eq}
-use Rattle.model.proofs.Touch.{isLoad}
 use Rattle.model.specs.Conjunct.{Atom, Node, const, atom, var, op, conv, Conj, _then_, orderNodes, order, sameAtom, onAtom}
 use Rattle.model.specs.Walk.{onArray}
-use Rattle.node.proofs.Atoms.{alike}
-use Rattle.node.proofs.WordOrder.{compare-same}
+use Rattle.model.specs.Touch.{isLoad}
+use Rattle.conjunct.proofs.node.Atoms.{alike}
+use Rattle.model.proofs.Order.{compare-same}
 
 module _ (t k x ty : ℕ) where
   -- a load by the variable

@@ -1,22 +1,23 @@
--- Loops over the words of a conjunct: compared, changed one by one, and tested.
--- Assumes nothing.
-use mathlib.Core.Bool.{Bool, false, _||_}
-use mathlib.Core.List.{List, [], _∷_, _++_, map}
+-- Loops over the words of a conjunct: compared, changed one by one, and tested. What a loop has done after i words is `Rest`, `Changed`
+-- or `Sought`; each has a law for no word, for one word more, and for all of them.
+use mathlib.Core.Bool.{Bool, true, false, _||_}
+use mathlib.Core.List.{List, [], _∷_, map, map-append}
 use mathlib.Core.Path.{_≡_, refl, sym, ap, _∙_}
 use Prim.Native.Nat.{ℕ, zero, suc, _+_, _-_, _<_, _≤_, compare, Ordering·lt, Ordering·eq, Ordering·gt}
 use native.Mathlib.Numerals.{add-one}
 use native.Mathlib.Omega.{arith}
-use lib.ListN.{length, take, drop, getD, set}
+use lib.ListN.{length, take, drop, getD, set, length-set}
 use lib.Seq.{drop-cons, take-suc, take-suc-set, drop-set-lt, getD-drop, getD-take, length-take-le, drop-length}
-use Rattle.model.proofs.Touch.{some}
 use Rattle.model.specs.Conjunct.{Node, _then_, orderNumbers}
-use Rattle.node.proofs.WordOrder.{compare-less, compare-more, compare-same}
-use Rattle.node.specs.Word.{nodeOf, nodesOf}
+use Rattle.model.specs.Touch.{some}
+use Rattle.model.proofs.Order.{compare-less, compare-more, compare-same}
+use Rattle.conjunct.specs.Word.{nodeOf, nodesOf}
 
 -- ---- the order
 
 pub order-step : (s t : List ℕ) (n a b : ℕ) → 0 < n → a < length s → b < length t
-    → orderNumbers (take n (drop a s)) (take n (drop b t)) ≡ (compare (getD s a 0) (getD t b 0) then orderNumbers (take (n - 1) (drop (a + 1) s)) (take (n - 1) (drop (b + 1) t)))
+    → orderNumbers (take n (drop a s)) (take n (drop b t))
+    ≡ (compare (getD s a 0) (getD t b 0) then orderNumbers (take (n - 1) (drop (a + 1) s)) (take (n - 1) (drop (b + 1) t)))
 unfolding orderNumbers
 order-step s t zero a b h k l = absurd (omega arith)
 order-step s t (suc n) a b h k l =
@@ -37,7 +38,8 @@ rest-none s t n a b =
 module _ (s t : List ℕ) (n m a b i : ℕ) (e : n ≡ m) (k : a + n ≤ length s) (l : b + m ≤ length t) (r : Rest s t n a b i) where
   -- the next two words
   next : i < n → orderNumbers (take n (drop a s)) (take n (drop b t))
-      ≡ (compare (getD s (a + i) 0) (getD t (b + i) 0) then orderNumbers (take (n - (i + 1)) (drop (a + (i + 1)) s)) (take (n - (i + 1)) (drop (b + (i + 1)) t)))
+      ≡ (compare (getD s (a + i) 0) (getD t (b + i) 0) then orderNumbers (take (n - (i + 1)) (drop (a + (i + 1)) s))
+      (take (n - (i + 1)) (drop (b + (i + 1)) t)))
   next h =
       let p : n - (i + 1) ≡ n - i - 1 = omega arith in
       let q : a + (i + 1) ≡ a + i + 1 = omega arith in
@@ -59,11 +61,7 @@ module _ (s t : List ℕ) (n m a b i : ℕ) (e : n ≡ m) (k : a + n ≤ length 
       let z : n - i ≡ 0 = omega arith in
       rw (compare-same n m e, ← e, r, z)
 
--- ---- one more word changed
-
-pub map-join : {A B : Type 0} (f : A → B) (xs ys : List A) → map f (xs ++ ys) ≡ map f xs ++ map f ys
-map-join f [] ys = refl
-map-join f (x ∷ xs) ys = ap (f x ∷_) (map-join f xs ys)
+-- ---- words changed one by one
 
 module _ (l l₀ : List ℕ) (i v : ℕ) (h : i < length l) (k : i < length l₀) (e : drop i l ≡ drop i l₀) where
   -- the word at i is as it was
@@ -77,23 +75,69 @@ module _ (l l₀ : List ℕ) (i v : ℕ) (h : i < length l) (k : i < length l₀
       let t : drop (suc i) l ≡ drop (suc i) l₀ = ap (drop 1) (sym (drop-cons l i 0 h) ∙ e ∙ drop-cons l₀ i 0 k) in
       drop-set-lt (i + 1) l i v (omega arith) ∙ rw (add-one i) t
 
-  pub mapped-more : (f : Node → Node) → nodesOf (take i l) ≡ map f (nodesOf (take i l₀)) → nodeOf v ≡ f (nodeOf (getD l i 0))
+  mapped-more : (f : Node → Node) → nodesOf (take i l) ≡ map f (nodesOf (take i l₀)) → nodeOf v ≡ f (nodeOf (getD l i 0))
       → nodesOf (take (i + 1) (set l i v)) ≡ map f (nodesOf (take (i + 1) l₀))
   mapped-more f m n =
-      rw (add-one i, take-suc-set l i v h, take-suc l₀ i 0 k, map-join, map-join, map-join, m, n, at-same)
+      rw (add-one i, take-suc-set l i v h, take-suc l₀ i 0 k, map-append, map-append, map-append, m, n, at-same)
 
--- ---- tests
+-- of n words, the first i are changed as f says, whichever k of K is meant, and the others are as they were
+pub record Changed (K : Type 0) (f : K → Node → Node) (l₀ : List ℕ) (n : ℕ) (l : List ℕ) (i : ℕ) : Type 0 where
+  pub within : i ≤ n
+  pub room : n ≤ length l₀
+  pub kept : length l ≡ length l₀
+  pub rest : drop i l ≡ drop i l₀
+  pub first : (k : K) → nodesOf (take i l) ≡ map (f k) (nodesOf (take i l₀))
 
--- one more word that does not pass
-pub some-step : (f : Node → Bool) (l : List ℕ) (n i : ℕ) → i < n → n ≤ length l
-    → some f (nodesOf (drop i (take n l))) ≡ (f (nodeOf (getD l i 0)) || some f (nodesOf (drop (i + 1) (take n l))))
-unfolding some
-some-step f l n i h k =
-    let len : length (take n l) ≡ n = length-take-le n l k in
-    rw (add-one i, drop-cons (take n l) i 0 (omega arith), getD-take n l i 0 h)
+module _ {K : Type 0} {f : K → Node → Node} where
+  pub changed-none : {l : List ℕ} {n : ℕ} → n ≤ length l → Changed K f l n l 0
+  changed-none h = record { within = omega arith; room = h; kept = refl; rest = refl; first = λ k. refl }
 
-pub some-none : (f : Node → Bool) (l : List ℕ) (n : ℕ) → n ≤ length l → some f (nodesOf (drop n (take n l))) ≡ false
-unfolding some
-some-none f l n k =
-    let e : drop n (take n l) ≡ [] = ap (λ j. drop j (take n l)) (sym (length-take-le n l k)) ∙ drop-length (take n l) in
-    rw e
+  module _ {l₀ : List ℕ} {n : ℕ} {l : List ℕ} {i : ℕ} (c : Changed K f l₀ n l i) where
+    pub changed-next : (v : ℕ) → i < n → ((k : K) → nodeOf v ≡ f k (nodeOf (getD l i 0))) → Changed K f l₀ n (set l i v) (i + 1)
+    changed-next v h e =
+        let u : i < length l = omega (arith, c .room, c .kept) in
+        let u₀ : i < length l₀ = omega (arith, c .room) in
+        record {
+          within = omega arith;
+          room = c .room;
+          kept = length-set l i v ∙ c .kept;
+          rest = after-same l l₀ i v u u₀ (c .rest);
+          first = λ k. mapped-more l l₀ i v u u₀ (c .rest) (f k) (c .first k) (e k);
+        }
+
+    pub changed-all : n ≤ i → (k : K) → nodesOf (take n l) ≡ map (f k) (nodesOf (take n l₀))
+    changed-all h k =
+        let e : i ≡ n = omega (arith, c .within) in
+        rw e at (c .first k)
+
+-- ---- words tested one by one
+
+-- of n words, the first i do not pass
+pub record Sought (f : Node → Bool) (l : List ℕ) (n i : ℕ) : Type 0 where
+  pub within : i ≤ n
+  pub room : n ≤ length l
+  pub rest : some f (nodesOf (take n l)) ≡ some f (nodesOf (drop i (take n l)))
+
+module _ {f : Node → Bool} {l : List ℕ} {n : ℕ} where
+  pub sought-none : n ≤ length l → Sought f l n 0
+  sought-none h = record { within = omega arith; room = h; rest = refl }
+
+  module _ {i : ℕ} (s : Sought f l n i) where
+    -- the next word, and the others
+    next-word : i < n → some f (nodesOf (take n l)) ≡ (f (nodeOf (getD l i 0)) || some f (nodesOf (drop (i + 1) (take n l))))
+    unfolding some
+    next-word h =
+        let len : length (take n l) ≡ n = length-take-le n l (s .room) in
+        s .rest ∙ rw (add-one i, drop-cons (take n l) i 0 (omega arith), getD-take n l i 0 h)
+
+    pub sought-found : i < n → f (nodeOf (getD l i 0)) ≡ true → true ≡ some f (nodesOf (take n l))
+    sought-found h p = sym (next-word h ∙ rw p)
+
+    pub sought-next : i < n → f (nodeOf (getD l i 0)) ≡ false → Sought f l n (i + 1)
+    sought-next h p = record { within = omega arith; room = s .room; rest = next-word h ∙ rw p }
+
+    pub sought-all : n ≤ i → false ≡ some f (nodesOf (take n l))
+    unfolding some
+    sought-all h =
+        let e : i ≡ length (take n l) = omega (arith, s .within, length-take-le n l (s .room)) in
+        sym (s .rest ∙ rw (e, drop-length (take n l)))

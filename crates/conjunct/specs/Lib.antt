@@ -1,1 +1,3 @@
+pub mod Word
 pub mod Value
+pub mod Behind

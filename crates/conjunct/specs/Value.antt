@@ -1,10 +1,9 @@
 -- What lent words and an answer of a comparison stand for.
--- Assumes nothing.
 use mathlib.Core.List.{List}
 use Prim.Native.Nat.{ℕ, Ordering, Ordering·lt, Ordering·eq, Ordering·gt}
 use lib.ListN.{take}
 use Rattle.model.specs.Conjunct.{Conj}
-use Rattle.node.specs.Word.{nodesOf}
+use Rattle.conjunct.specs.Word.{nodesOf}
 use Rattle.conjunct.specs.declared.Order.the-variants.{Less, Same, More}
 use Rattle.conjunct.specs.declared.Order.{Order}
 

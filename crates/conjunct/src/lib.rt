@@ -1,5 +1,5 @@
-// A conjunct as the first n of lent words: its order, and its changes node by node. A node is a word,
-// as crate node says. Assumes nothing.
+// A conjunct as the first n of lent words, each of them a node (module node): its order, and its changes
+// node by node. Module numbering has the substitution for a variable and the numbers of the atoms.
 ghost use mathlib.Core.Path.{_≡_};
 ghost use mathlib.Core.Bool.{cond};
 ghost use mathlib.Core.List.{List, map};
@@ -7,9 +7,16 @@ ghost use Prim.Native.Nat.{ℕ, _+_, _<_, _≤_, compare};
 ghost use lib.ListN.{length, take, drop};
 ghost use Rattle.model.specs.Conjunct.{Atom, atom, var, _then_, orderNumbers, sameAtom, onAtom};
 ghost use Rattle.model.specs.Walk.{zeroed, onArray, swap, swapAll};
-ghost use Rattle.model.proofs.Touch.{isVar, isLoad, some};
-ghost use Rattle.node.specs.Word.{nodeOf};
+ghost use Rattle.model.specs.Sizes.{mostNodes};
+ghost use Rattle.model.specs.Touch.{isVar, isLoad, some};
+ghost use Rattle.conjunct.specs.Word.{nodeOf};
 ghost use Rattle.conjunct.specs.Value.{conjOf, orderingOf};
+
+pub mod node;
+pub mod numbering;
+
+// the nodes of the longest conjunct
+pub const MOST_NODES: usize = 120;
 
 pub enum Order {
     Less,
@@ -19,18 +26,20 @@ pub enum Order {
 
 // a number of nodes, whatever the word that counts them says
 pub fn capped(len: usize) -> usize
-    ensures { λ r. ⌜ (r ≤ 120) × ((l : List ℕ) → length l ≡ 120 → take r l ≡ take len l) ⌝ }
+    ensures { λ r. ⌜ (r ≤ mostNodes) × ((l : List ℕ) → length l ≡ mostNodes → take r l ≡ take len l) ⌝ }
 {
-    if len < 120 {
+    if len < MOST_NODES {
         return len;
     }
-    120
+    MOST_NODES
 }
 
 // n words from place a of s against m words from place b of t: the fewer first, then word by word
 pub fn order_at(s: &[u64], a: usize, n: usize, t: &[u64], b: usize, m: usize) -> Order
     requires { ⌜ (a + n ≤ length (now s)) × (b + m ≤ length (now t)) ⌝ }
-    ensures { λ r. ⌜ orderingOf r ≡ (compare n m then orderNumbers (take n (drop a (now (s .entry)))) (take m (drop b (now (t .entry))))) ⌝ }
+    ensures { λ r. ⌜
+        orderingOf r ≡ (compare n m then orderNumbers (take n (drop a (now (s .entry)))) (take m (drop b (now (t .entry)))))
+        ⌝ }
 {
     if n < m {
         return Order::Less;
@@ -68,13 +77,19 @@ pub fn at_start(w: &mut [u64], n: usize)
 }
 
 fn load_swapped(w: u64, array: u64, len: u64, v: u64) -> u64
-    ensures { λ r. ⌜ ((x ty : ℕ) → nodeOf v ≡ var x ty → nodeOf r ≡ onAtom (λ b. cond (onArray array len (b .src)) (var x ty) (atom b)) (nodeOf w)) ⌝ }
+    ensures { λ r. ⌜
+        ((x ty : ℕ) → nodeOf v ≡ var x ty
+        → nodeOf r ≡ onAtom (λ b. cond (onArray array len (b .src)) (var x ty) (atom b)) (nodeOf w))
+        ⌝ }
 {
     if node::is_load(w, array, len) { v } else { w }
 }
 
 fn atom_swapped(w: u64, a: u64, v: u64) -> u64
-    ensures { λ r. ⌜ ((b : Atom) (x ty : ℕ) → nodeOf a ≡ atom b → nodeOf v ≡ var x ty → nodeOf r ≡ onAtom (λ d. cond (sameAtom d b) (var x ty) (atom d)) (nodeOf w)) ⌝ }
+    ensures { λ r. ⌜
+        ((b : Atom) (x ty : ℕ) → nodeOf a ≡ atom b → nodeOf v ≡ var x ty
+        → nodeOf r ≡ onAtom (λ d. cond (sameAtom d b) (var x ty) (atom d)) (nodeOf w))
+        ⌝ }
 {
     if w == a { v } else { w }
 }
@@ -82,7 +97,9 @@ fn atom_swapped(w: u64, a: u64, v: u64) -> u64
 // every load from the array by the variable v
 pub fn replace_all(w: &mut [u64], n: usize, array: u64, len: u64, v: u64)
     requires { ⌜ n ≤ length (now w) ⌝ }
-    ensures { λ _. ⌜ ((x ty : ℕ) → nodeOf v ≡ var x ty → conjOf (now (w .exit)) n ≡ swapAll array len x ty (conjOf (now (w .entry)) n)) ⌝ }
+    ensures { λ _. ⌜
+        ((x ty : ℕ) → nodeOf v ≡ var x ty → conjOf (now (w .exit)) n ≡ swapAll array len x ty (conjOf (now (w .entry)) n))
+        ⌝ }
 {
     let mut i: usize = 0;
     while i < n {
@@ -94,7 +111,10 @@ pub fn replace_all(w: &mut [u64], n: usize, array: u64, len: u64, v: u64)
 // the atom a by the variable v
 pub fn replace_one(w: &mut [u64], n: usize, a: u64, v: u64)
     requires { ⌜ n ≤ length (now w) ⌝ }
-    ensures { λ _. ⌜ ((b : Atom) (x ty : ℕ) → nodeOf a ≡ atom b → nodeOf v ≡ var x ty → conjOf (now (w .exit)) n ≡ swap b x ty (conjOf (now (w .entry)) n)) ⌝ }
+    ensures { λ _. ⌜
+        ((b : Atom) (x ty : ℕ) → nodeOf a ≡ atom b → nodeOf v ≡ var x ty
+        → conjOf (now (w .exit)) n ≡ swap b x ty (conjOf (now (w .entry)) n))
+        ⌝ }
 {
     let mut i: usize = 0;
     while i < n {

@@ -1,5 +1,4 @@
 -- The innermost block around a statement, as the table of mates gives it, is the first of the blocks that enclose it.
--- Assumes nothing.
 use mathlib.Core.Path.{_≡_, refl, sym, ap, subst, _∙_}
 use Prim.Native.Nat.{ℕ, suc, _≤_, _<_}
 use native.Mathlib.Omega.{arith}
@@ -7,13 +6,15 @@ use Rattle.model.specs.Code.{Instr, Code, done, step, branch, loop, Stmt, plain
 use Rattle.model.specs.Conjunct.{Conjuncts}
 use Rattle.model.specs.Refusals.{_>>=_}
 use Rattle.model.specs.Walk.{walk}
-use Rattle.model.proofs.Depth.{Nested}
-use Rattle.model.proofs.Laid.{IfAt, WhileAt, Laid, laid-le}
-use Rattle.model.proofs.Rising.{Enclosing, top, in-yes, in-no, in-while, walkOut}
+use Rattle.model.specs.Nesting.{Nested}
+use Rattle.model.specs.Sizes.{mostNested}
+use Rattle.model.specs.Placement.{IfAt, WhileAt, Laid}
+use Rattle.model.specs.Enclosing.{Enclosing, top, in-yes, in-no, in-while, walkOut}
+use Rattle.model.proofs.Laid.{laid-le}
 use Rattle.model.proofs.Results.{bind-assoc}
-use Rattle.node.proofs.WordOrder.{Tri, less, equal, more, tri}
-use Rattle.blocks.specs.Blocks.{blockEnd, NoneFrom, Innermost}
-use Rattle.blocks.specs.declared.Block.the-variants.{At}
+use Rattle.conjunct.proofs.node.WordOrder.{Tri, less, equal, more, tri}
+use Rattle.enclosing.specs.Blocks.{blockEnd, NoneFrom, Innermost}
+use Rattle.enclosing.specs.declared.Block.the-variants.{At}
 
 -- by cases on the order of two numbers
 by-order : {P : Type 0} {m n : ℕ} → Tri m n → (m < n → P) → (m ≡ n → P) → (n < m → P) → P
@@ -75,7 +76,7 @@ module _ (stmt : ℕ → Stmt) (mate : ℕ → ℕ) where
     pub record Back {i q : ℕ} (w : Enclosing stmt mate n i q) (r p : ℕ) : Type 0 where
       pub piece : Code
       pub laid : Laid stmt mate piece p i
-      pub nested : Nested 4 piece
+      pub nested : Nested mostNested piece
       pub end : ℕ
       pub onto : Enclosing stmt mate n r end
       pub inside : r < end
@@ -85,10 +86,10 @@ module _ (stmt : ℕ → Stmt) (mate : ℕ → ℕ) where
     pub record Round {i q : ℕ} (w : Enclosing stmt mate n i q) (r : ℕ) : Type 0 where
       pub piece : Code
       pub laid : Laid stmt mate piece (suc r) i
-      pub nested : Nested 4 piece
+      pub nested : Nested mostNested piece
       pub whole : Code
       pub whole-laid : Laid stmt mate whole r (suc (mate r))
-      pub whole-nested : Nested 4 whole
+      pub whole-nested : Nested mostNested whole
       pub end : ℕ
       pub onto : Enclosing stmt mate n r end
       pub inside : mate r < end
@@ -142,7 +143,7 @@ module _ (stmt : ℕ → Stmt) (mate : ℕ → ℕ) where
     pub record Start {i q : ℕ} (w : Enclosing stmt mate n i q) : Type 0 where
       pub piece : Code
       pub laid : Laid stmt mate piece 0 i
-      pub nested : Nested 4 piece
+      pub nested : Nested mostNested piece
       pub walks-out : (D : Conjuncts) → walkOut stmt mate n w D ≡ walk piece D
 
     pub at-top : {i q : ℕ} (w : Enclosing stmt mate n i q) → i < q → NoneFrom stmt mate i 0 → Start w

@@ -1,3 +1,4 @@
+pub mod Ends
 pub mod Around
 pub mod Leaving
 pub mod Walked

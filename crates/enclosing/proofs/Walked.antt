@@ -1,6 +1,4 @@
 -- The sets and the answers of walks one after the other.
--- Assumes nothing.
-use mathlib.Core.List.{List}
 use mathlib.Core.Path.{_≡_, ap, _∙_}
 use Prim.Native.Nat.{ℕ}
 use native.Mathlib.Omega.{arith}
@@ -8,16 +6,13 @@ use Rattle.model.specs.Code.{Code}
 use Rattle.model.specs.Conjunct.{Conjuncts}
 use Rattle.model.specs.Refusals.{ok, refused, _>>=_}
 use Rattle.model.specs.Walk.{walk}
+use Rattle.model.specs.TidySets.{Tidy}
 use Rattle.model.proofs.Results.{gives-ok}
 use Rattle.model.proofs.Tidied.{walk-tidy}
-use Rattle.model.proofs.TidySets.{Tidy}
-use Rattle.rules.specs.Answers.{answered, Below}
+use Rattle.rules.specs.Answers.{answered}
 use Rattle.rules.specs.declared.Answer.{Answer}
 use Rattle.rules.specs.declared.Answer.the-variants.{Done, Refused}
 use Rattle.enclosing.specs.Enclosing.{walkBoth}
-
-pub below-trans : (b : ℕ) (s t u : List ℕ) → Below b s t → Below b t u → Below b s u
-below-trans b s t u f g i h = g i h ∙ f i h
 
 pub refused-done : (n : ℕ) → Refused n ≡ Done → ⊥
 refused-done n e = let z : _≡_ {A = ℕ} 0 1 = cc in omega arith

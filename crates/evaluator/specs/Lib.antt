@@ -1,3 +1,4 @@
+pub mod Sizes
 pub mod Search
 pub mod Answer
 pub mod Engine

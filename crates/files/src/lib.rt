@@ -1,11 +1,43 @@
-// The files that a program's arguments name. Where one cannot be opened, read or written, a line on
-// standard error names it by its path, as the argument has it.
+// What the programs share: the files that a program's arguments name, the limit and the choices of a
+// choice file, and the lines that are printed. Where a file cannot be opened, read or written, a line
+// on standard error names it by its path, as the argument has it.
+//
+// A file is read into a buffer one byte longer than any of its form. Of a longer file the library is
+// given the bytes that fill the buffer, which it refuses as it would the whole.
+pub mod answers;
+pub mod choice_file;
+
 ghost use mathlib.Core.Path.{_≡_};
 ghost use Prim.Native.Nat.{min};
 ghost use lib.ListN.{length};
 ghost use Rattle.io.specs.Counts.{Counts};
 ghost use Rattle.files.specs.Answers.{Filled, Whole};
 use libc::STDERR_FILENO;
+
+// A recipe: its table, 32 fields, 64 variables, 16 trays of 4 bytes, 1,024 statements of 8.
+const LONGEST_RECIPE: usize = 32 + 32 + 64 + 16 * 4 + 1024 * 8;
+// A condition: its counts, 32 fields, 64 conjuncts with their pairs, of 120 nodes of 8 bytes each.
+const LONGEST_CONDITION: usize = 8 + 32 + 64 * (8 + 120 * 8);
+// A sheet: 32 fields with their pairs, of 128 readings of 8 bytes each.
+const LONGEST_SHEET: usize = 32 * (8 + 128 * 8);
+// A choice file as the programs take it; the form has no limit.
+const LONGEST_CHOICES: usize = 524288;
+
+// The buffers.
+pub const RECIPE: usize = LONGEST_RECIPE + 1;
+
+pub const CONDITION: usize = LONGEST_CONDITION + 1;
+
+pub const SHEET: usize = LONGEST_SHEET + 1;
+
+pub const CHOICES: usize = LONGEST_CHOICES + 1;
+
+// The log: its records, and a record's bytes.
+pub const RECORDS: usize = 43690;
+
+pub const RECORD: usize = 12;
+
+pub const LOG: usize = RECORDS * RECORD;
 
 // How many bytes were read or written; or the file could not be, which has been said.
 pub enum FileAnswer {
@@ -50,7 +82,8 @@ fn read_open(fd: i32, path: &[u8], buffer: &mut [u8]) -> FileAnswer
     FileAnswer::Bytes(n)
 }
 
-fn read_path(path: &[u8], buffer: &mut [u8]) -> FileAnswer
+// The bytes of the file at a path, as many as the buffer has room for.
+pub fn read_path(path: &[u8], buffer: &mut [u8]) -> FileAnswer
     ensures { λ r. ⌜ Filled r (now (buffer .exit)) ⌝ }
 {
     let fd = os::open_read(path);
@@ -74,6 +107,50 @@ pub fn read(i: usize, buffer: &mut [u8]) -> FileAnswer
         return FileAnswer::Failed;
     }
     read_path(&path[..n], buffer)
+}
+
+// The files of a run: how many bytes of each were read, or that one could not be.
+pub enum RunFiles {
+    Read {
+        recipe: usize,
+        sheet: usize,
+        choices: usize,
+    },
+    Failed,
+}
+
+// The files that the first three arguments of a run name.
+pub fn read_run(recipe: &mut [u8], sheet: &mut [u8], choices: &mut [u8]) -> RunFiles {
+    let answer = read(1, recipe);
+    let FileAnswer::Bytes(n) = answer else {
+        return RunFiles::Failed;
+    };
+    let answer = read(2, sheet);
+    let FileAnswer::Bytes(k) = answer else {
+        return RunFiles::Failed;
+    };
+    let answer = read(3, choices);
+    let FileAnswer::Bytes(c) = answer else {
+        return RunFiles::Failed;
+    };
+    if LONGEST_CHOICES < c {
+        io::write_all(STDERR_FILENO, b"CHOICES has more than 524288 bytes\n");
+        return RunFiles::Failed;
+    }
+    RunFiles::Read {
+        recipe: n,
+        sheet: k,
+        choices: c,
+    }
+}
+
+// Whether a program has n arguments, its own name among them; else its use is said.
+pub fn has_arguments(n: usize, usage: &[u8]) -> bool {
+    if os::arg_count() == n {
+        return true;
+    }
+    io::write_all(STDERR_FILENO, usage);
+    false
 }
 
 fn write_path(path: &[u8], bytes: &[u8]) -> FileAnswer

@@ -1,5 +1,4 @@
 -- The conjuncts of a condition that is read, one after the other: each is one that an evaluator takes.
--- Assumes nothing.
 use mathlib.Core.Path.{_≡_, sym, subst, _∙_}
 use mathlib.Core.Bool.{true, _&&_}
 use mathlib.Core.List.{List, [], _∷_, map}
@@ -10,6 +9,7 @@ use lib.Dec.{leb}
 use lib.ListN.{length, getD, drop, drop-of-length-le}
 use lib.Seq.{drop-cons}
 use borrow.Author.Tests.{leb-true}
+use Rattle.model.specs.Sizes.{mostFields, mostConjuncts}
 use Rattle.model.specs.Lists.{All, every}
 use Rattle.model.specs.Bytes.{part, Pair, pairAt, pairsAt, chained}
 use Rattle.model.specs.Program.{typeRight}
@@ -27,25 +27,30 @@ use Rattle.plan.proofs.Parts.{part-is-conjunct}
 -- ---- what the reader has tested
 
 -- its first tests: the file holds its counts, and they are not too large
-form-sized : (s : List ℕ) (c f : ℕ) → formBy s c f ≡ true → (leb 8 (length s) && leb c 64 && leb f 32) ≡ true
+form-sized : (s : List ℕ) (c f : ℕ) → formBy s c f ≡ true → (leb 8 (length s) && leb c mostConjuncts && leb f mostFields) ≡ true
 unfolding formBy
 form-sized s c f form =
     let pairs = pairsAt s (8 + f) c in
-    let sized = leb 8 (length s) && leb c 64 && leb f 32 in
+    let sized = leb 8 (length s) && leb c mostConjuncts && leb f mostFields in
     let chain = chained (conjunctsAt f c) pairs (length s) in
     let typed = every typeRight (part s 8 f) in
     let right = every (pairRight (part s 8 f) s) pairs in
     and-left sized chain
-    (and-left (sized && chain) typed (and-left (sized && chain && typed) right (and-left (sized && chain && typed && right) (rising (map (conjunctAt s) pairs)) form)))
+    (and-left (sized && chain) typed
+    (and-left (sized && chain && typed) right (and-left (sized && chain && typed && right) (rising (map (conjunctAt s) pairs)) form)))
 
-pub form-few : (s : List ℕ) (c f : ℕ) → formBy s c f ≡ true → c ≤ 64
-form-few s c f form = leb-true c 64 (and-right (leb 8 (length s)) (leb c 64) (and-left (leb 8 (length s) && leb c 64) (leb f 32) (form-sized s c f form)))
+pub form-few : (s : List ℕ) (c f : ℕ) → formBy s c f ≡ true → c ≤ mostConjuncts
+form-few s c f form =
+    leb-true c mostConjuncts
+    (and-right (leb 8 (length s)) (leb c mostConjuncts)
+    (and-left (leb 8 (length s) && leb c mostConjuncts) (leb f mostFields) (form-sized s c f form)))
 
-pub form-narrow : (s : List ℕ) (c f : ℕ) → formBy s c f ≡ true → f ≤ 32
-form-narrow s c f form = leb-true f 32 (and-right (leb 8 (length s) && leb c 64) (leb f 32) (form-sized s c f form))
+pub form-narrow : (s : List ℕ) (c f : ℕ) → formBy s c f ≡ true → f ≤ mostFields
+form-narrow s c f form = leb-true f mostFields (and-right (leb 8 (length s) && leb c mostConjuncts) (leb f mostFields) (form-sized s c f form))
 
 -- a pair that is right names a conjunct
-right-is-conjunct : (types s : List ℕ) (p : Pair) → length types ≤ 32 → p .offset + p .len ≤ length s → pairRight types s p ≡ true → IsConjunct (part s (p .offset) (p .len))
+right-is-conjunct : (types s : List ℕ) (p : Pair) → length types ≤ mostFields → p .offset + p .len ≤ length s → pairRight types s p ≡ true
+    → IsConjunct (part s (p .offset) (p .len))
 unfolding pairRight
 right-is-conjunct types s p few inside right =
     let long = lengthRight p in
@@ -56,7 +61,7 @@ right-is-conjunct types s p few inside right =
     part-is-conjunct types s p few inside (and-left long formed two) (and-right long formed two) (and-right (long && formed) one three)
 
 module _ (s : List ℕ) (k : Counts) (read : ConditionIsRead s k) where
-  pub fields-narrow : k .fields ≤ 32
+  pub fields-narrow : k .fields ≤ mostFields
   fields-narrow = form-narrow s (k .conjuncts) (k .fields) (counted-read s k read .form)
 
   pub types-right : every typeRight (typesOf s) ≡ true
@@ -71,7 +76,8 @@ module _ (s : List ℕ) (k : Counts) (read : ConditionIsRead s k) where
   conjunct-formed i h =
       let q = counted-read s k read in
       let size = length-part s 8 (k .fields) (omega (arith, q .table)) in
-      right-is-conjunct (part s 8 (k .fields)) s (pairAt s (8 + k .fields + 8 * i)) (omega (arith, fields-narrow)) (conjunct-inside s k read i h) (form-pair s (k .conjuncts) (k .fields) (q .form) i h)
+      right-is-conjunct (part s 8 (k .fields)) s (pairAt s (8 + k .fields + 8 * i)) (omega (arith, fields-narrow)) (conjunct-inside s k read i h)
+      (form-pair s (k .conjuncts) (k .fields) (q .form) i h)
 
   -- what is so of all conjuncts is so of the one that a part is
   pub conjunct-asked : (i : ℕ) (P : Conj → Type 0) → All P (conjunctsOf s) → i < k .conjuncts → (p : List ℕ) → partNodes p ≡ getD (conjunctsOf s) i []

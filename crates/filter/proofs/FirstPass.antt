@@ -1,7 +1,6 @@
 -- The first pass over the conjuncts, which looks at the numbers of combinations: what is told of the conjuncts before, together
 -- with the answer for those that are left, is the answer for all. Where a blank field is found, that decides; too many
 -- combinations are only noted, since a blank field may follow.
--- Assumes nothing.
 use mathlib.Core.Path.{_≡_, refl, _∙_}
 use mathlib.Core.Bool.{Bool, true, false, not, _&&_}
 use mathlib.Core.List.{[], _∷_}
@@ -36,7 +35,11 @@ module _ (I : Input) (S : Conjuncts) (i : ℕ) (many : Bool) (so-far : ToldTo I 
     module _ (full : hasReadings I e ≡ true) where
       pub told-many : fewCombinations I e ≡ false → ToldTo I S (i + 1) true
       unfolding every
-      told-many above = record { readings = so-far .readings ∙ rw (next, full); combinations = so-far .combinations ∙ rw (next, above) (and-false (not many)) }
+      told-many above = record {
+        readings = so-far .readings ∙ rw (next, full);
+        combinations = so-far .combinations
+            ∙ rw (next, above) (and-false (not many));
+      }
 
       pub told-few : fewCombinations I e ≡ true → ToldTo I S (i + 1) many
       unfolding every

@@ -1,6 +1,5 @@
 -- Files that are longer than any of their form: the filter refuses them, so it answers alike where only one byte more than
 -- the longest is looked at.
--- Assumes nothing.
 use mathlib.Core.Path.{_≡_, refl, sym, ap, _∙_}
 use mathlib.Core.Bool.{Bool, true, false, _&&_, cond}
 use mathlib.Core.List.{List, [], _∷_}
@@ -12,6 +11,7 @@ use lib.IntN.{ℤ}
 use lib.ListN.{length, getD, take}
 use lib.Seq.{length-take-le, take-all}
 use borrow.Author.Tests.{eqb-true, leb-true, leb-false}
+use Rattle.model.specs.Sizes.{mostFields, mostReadings}
 use Rattle.arith.specs.Types.{bits}
 use Rattle.arith.proofs.Spans.{bits-le}
 use Rattle.model.specs.Lists.{All, every}
@@ -49,7 +49,13 @@ form-bounded : (s : List ℕ) (c f : ℕ) → formBy s c f ≡ true → length s
 form-bounded s c f form =
     let ps = pairsAt s (8 + f) c in
     let short = rights-short (part s 8 f) s ps (every-all (pairRight (part s 8 f) s) ps (form-pairs s c f form)) in
-    omega (arith, chained-end 960 ps (conjunctsAt f c) (length s) (form-chained s c f form) short, length-entries pairAt 8 s c (8 + f), form-few s c f form, form-narrow s c f form)
+    omega (
+      arith,
+      chained-end 960 ps (conjunctsAt f c) (length s) (form-chained s c f form) short,
+      length-entries pairAt 8 s c (8 + f),
+      form-few s c f form,
+      form-narrow s c f form,
+    )
 
 condition-long : (s : List ℕ) → 61992 < length s → readCondition s ≡ refused 12
 condition-long s h =
@@ -59,7 +65,7 @@ condition-long s h =
     (λ q. absurd (omega (arith, form-bounded s (u32At s 0) (u32At s 4) q))) (λ q. refl)
 
 -- a condition that is read has at most 32 fields
-fields-few : (s : List ℕ) (C : Condition) → readCondition s ≡ ok C → length (C .types) ≤ 32
+fields-few : (s : List ℕ) (C : Condition) → readCondition s ≡ ok C → length (C .types) ≤ mostFields
 fields-few s C e =
     let D : Condition = record { types = typesOf s; conjuncts = conjunctsOf s } in
     let form = check-ok (formBy s (u32At s 0) (u32At s 4)) wrongCondition (ok D) C (sym (read-form s) ∙ e) .0 in
@@ -78,12 +84,12 @@ lengths-short types [] n h = tt
 lengths-short [] (p ∷ ps) n h = absurd (omega arith)
 lengths-short (ty ∷ types) (p ∷ ps) n h =
     let even = eqb (p .len % width ty) 0 in
-    let few = leb (p .len) (128 * width ty) in (
-      omega (arith, leb-true (p .len) (128 * width ty) (and-right even few (and-left (even && few) (lengthsRight types ps) h)), width-le ty),
+    let few = leb (p .len) (mostReadings * width ty) in (
+      omega (arith, leb-true (p .len) (mostReadings * width ty) (and-right even few (and-left (even && few) (lengthsRight types ps) h)), width-le ty),
       lengths-short types ps (omega arith) (and-right (even && few) (lengthsRight types ps) h),
     )
 
-input-long : (types s : List ℕ) → length types ≤ 32 → 33024 < length s → readInput types s ≡ refused 13
+input-long : (types s : List ℕ) → length types ≤ mostFields → 33024 < length s → readInput types s ≡ refused 13
 unfolding readInput
 input-long types s few h =
     let ps = pairsAt s 0 (length types) in
@@ -91,12 +97,16 @@ input-long types s few h =
     let chain = chained (8 * length types) ps (length s) in
     let J : Input = λ f. cond (ltb f (length types)) (readingsOf (getD types f 0) s (pairAt s (8 * f))) [] in
     case (chain && lengthsRight types ps) (λ z. check z wrongInput (ok J) ≡ refused 13)
-    (λ q. absurd (omega (arith, chained-end 1024 ps (8 * length types) (length s) (and-left chain (lengthsRight types ps) q) (lengths-short types ps n (and-right chain (lengthsRight types ps) q)))))
+    (λ q. absurd (omega (
+      arith,
+      chained-end 1024 ps (8 * length types) (length s) (and-left chain (lengthsRight types ps) q)
+          (lengths-short types ps n (and-right chain (lengthsRight types ps) q)),
+    )))
     (λ q. refl)
 
 -- ---- what is read of a longer file decides
 
-input-shortened : (types s : List ℕ) → length types ≤ 32 → readInput types (take 33025 s) ≡ readInput types s
+input-shortened : (types s : List ℕ) → length types ≤ mostFields → readInput types (take 33025 s) ≡ readInput types s
 input-shortened types s few =
     case (leb (length s) 33024) (λ z. readInput types (take 33025 s) ≡ readInput types s)
     (λ q. ap (readInput types) (take-all 33025 s (omega (arith, leb-true (length s) 33024 q))))
@@ -108,12 +118,14 @@ on-input : (c s : List ℕ) (o : Out Condition) → readCondition c ≡ o → ve
 on-input c s (refused n) e = verdict-steps c (take 33025 s) ∙ rw e (sym (verdict-steps c s ∙ rw e))
 on-input c s (ok C) e =
     verdict-steps c (take 33025 s)
-    ∙ rw e (ap (λ (i : Out Input). i >>= λ I. judged I (C .conjuncts)) (input-shortened (C .types) s (fields-few c C e)) ∙ sym (verdict-steps c s ∙ rw e))
+    ∙ rw e (ap (λ (i : Out Input). i >>= λ I. judged I (C .conjuncts)) (input-shortened (C .types) s (fields-few c C e))
+    ∙ sym (verdict-steps c s ∙ rw e))
 
 pub shortened : (c s : List ℕ) → verdict (take 61993 c) (take 33025 s) ≡ verdict c s
 shortened c s =
     case (leb (length c) 61992) (λ z. verdict (take 61993 c) (take 33025 s) ≡ verdict c s)
-    (λ q. ap (λ (d : List ℕ). verdict d (take 33025 s)) (take-all 61993 c (omega (arith, leb-true (length c) 61992 q))) ∙ on-input c s (readCondition c) refl)
+    (λ q. ap (λ (d : List ℕ). verdict d (take 33025 s)) (take-all 61993 c (omega (arith, leb-true (length c) 61992 q)))
+    ∙ on-input c s (readCondition c) refl)
     (λ q.
     let l = leb-false (length c) 61992 q in
     verdict-steps (take 61993 c) (take 33025 s)

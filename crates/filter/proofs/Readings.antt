@@ -1,5 +1,4 @@
 -- The readings of an input that is read, put one by one to the places that an evaluator looks at.
--- Assumes nothing.
 use mathlib.Core.Path.{_≡_, refl, sym, ap, _∙_}
 use mathlib.Core.Bool.{Bool, true}
 use mathlib.Core.List.{List, []}
@@ -12,6 +11,7 @@ use lib.ListN.{length, getD, set}
 use lib.Seq.{getD-set-same, getD-set-other}
 use borrow.Author.Count.{below-more}
 use borrow.Author.Tests.{lt-ltb, le-ltb, ltb-true, leb-true, leb-false}
+use Rattle.model.specs.Sizes.{mostFields, mostReadings}
 use Rattle.model.specs.Lists.{every}
 use Rattle.model.specs.Bytes.{entries}
 use Rattle.model.specs.Program.{typeRight}
@@ -61,7 +61,8 @@ field-read types s f h =
     (λ q. leb-false (length types) f q)
 
 -- by what was read of it: the part p, with n readings
-module _ (types s : List ℕ) (f : ℕ) (read : InputIsRead types s) (listed : f < length types) (n : ℕ) (many : n ≡ length (fieldReadings types s f)) (p : List ℕ) (is : p ≡ fieldPart s f) where
+module _ (types s : List ℕ) (f : ℕ) (read : InputIsRead types s) (listed : f < length types) (n : ℕ) (many : n ≡ length (fieldReadings types s f))
+    (p : List ℕ) (is : p ≡ fieldPart s f) where
   abbrev ty : ℕ
   ty = getD types f 0
 
@@ -81,7 +82,8 @@ module _ (types s : List ℕ) (f : ℕ) (read : InputIsRead types s) (listed : f
       ∙ sym (entries-getD (readingAt ty) (width ty) p (length p / width ty) 0 k (pos 0) (omega (arith, whole-readings)))
       ∙ sym (ap (λ (zs : List ℤ). getD zs k (pos 0)) (field-listed types s f listed ∙ held))
 
-  pub field-filled : (from : ℕ) (at at′ : ℕ → ℤ) → Filled (λ k. readingAt ty p (k * width ty)) from n at at′ → Filled (λ k. getD (inputIn types s f) k (pos 0)) from n at at′
+  pub field-filled : (from : ℕ) (at at′ : ℕ → ℤ) → Filled (λ k. readingAt ty p (k * width ty)) from n at at′
+      → Filled (λ k. getD (inputIn types s f) k (pos 0)) from n at at′
   field-filled from at at′ h = record { put = λ k l. h .put k l ∙ reading-is k l; kept = h .kept }
 
 -- ---- all fields
@@ -89,33 +91,38 @@ module _ (types s : List ℕ) (f : ℕ) (read : InputIsRead types s) (listed : f
 -- the first n fields are decoded
 pub record DecodedTo (I : Input) (n : ℕ) (counts mags : List ℕ) (negs : List Bool) : Type 0 where
   pub number : (f : ℕ) → f < n → getD counts f 0 ≡ length (I f)
-  pub few : (f : ℕ) → f < n → length (I f) ≤ 128
-  pub each : (f : ℕ) → f < n → (k : ℕ) → k < length (I f) → signedAt mags negs (128 * f + k) ≡ getD (I f) k (pos 0)
+  pub few : (f : ℕ) → f < n → length (I f) ≤ mostReadings
+  pub each : (f : ℕ) → f < n → (k : ℕ) → k < length (I f) → signedAt mags negs (mostReadings * f + k) ≡ getD (I f) k (pos 0)
 
 module _ (I : Input) where
   pub decoded-none : (counts mags : List ℕ) (negs : List Bool) → DecodedTo I 0 counts mags negs
-  decoded-none counts mags negs = record { number = λ f l. absurd (omega arith); few = λ f l. absurd (omega arith); each = λ f l. absurd (omega arith) }
+  decoded-none counts mags negs =
+      record { number = λ f l. absurd (omega arith); few = λ f l. absurd (omega arith); each = λ f l. absurd (omega arith) }
 
-  module _ (n r : ℕ) (counts mags mags′ : List ℕ) (negs negs′ : List Bool) (inside : n < length counts) (many : r ≡ length (I n)) (few : r ≤ 128)
-      (put : Filled (λ k. getD (I n) k (pos 0)) (128 * n) r (signedAt mags negs) (signedAt mags′ negs′)) where
+  module _ (n r : ℕ) (counts mags mags′ : List ℕ) (negs negs′ : List Bool) (inside : n < length counts) (many : r ≡ length (I n))
+      (few : r ≤ mostReadings)
+      (put : Filled (λ k. getD (I n) k (pos 0)) (mostReadings * n) r (signedAt mags negs) (signedAt mags′ negs′)) where
     pub decoded-next : DecodedTo I n counts mags negs → DecodedTo I (n + 1) (set counts n r) mags′ negs′
     decoded-next d = record {
       number = below-more (λ f. getD (set counts n r) f 0 ≡ length (I f)) n
           (λ f l. getD-set-other counts n f r 0 (λ p. omega arith) ∙ d .number f l) (getD-set-same counts n r 0 inside ∙ many);
-      few = below-more (λ f. length (I f) ≤ 128) n (d .few) (omega arith);
-      each = below-more (λ f. (k : ℕ) → k < length (I f) → signedAt mags′ negs′ (128 * f + k) ≡ getD (I f) k (pos 0)) n
-          (λ f l k m. put .kept (128 * f + k) (omega (arith, d .few f l)) ∙ d .each f l k m) (λ k m. put .put k (omega arith));
+      few = below-more (λ f. length (I f) ≤ mostReadings) n (d .few) (omega arith);
+      each = below-more (λ f. (k : ℕ) → k < length (I f) → signedAt mags′ negs′ (mostReadings * f + k) ≡ getD (I f) k (pos 0)) n
+          (λ f l k m. put .kept (mostReadings * f + k) (omega (arith, d .few f l)) ∙ d .each f l k m) (λ k m. put .put k (omega arith));
     }
 
-  pub decoded-all : (counts mags : List ℕ) (negs : List Bool) → DecodedTo I 32 counts mags negs → Decoded I counts mags negs
+  pub decoded-all : (counts mags : List ℕ) (negs : List Bool) → DecodedTo I mostFields counts mags negs → Decoded I counts mags negs
   decoded-all counts mags negs d = record { number = d .number; each = λ f k l m. d .each f l k m }
 
 -- where there is room for the fields that are listed, there is room for all readings
-module _ (types s counts mags : List ℕ) (negs : List Bool) (d : DecodedTo (inputIn types s) 32 counts mags negs) where
-  inside : (m f : ℕ) → 128 * length types ≤ m → f < 32 → 1 ≤ getD counts f 0 → 128 * f + getD counts f 0 ≤ m
-  inside m f h l some = let listed = field-read types s f (omega (arith, d .number f l)) in omega (arith, d .number f l, d .few f l)
+module _ (types s counts mags : List ℕ) (negs : List Bool) (d : DecodedTo (inputIn types s) mostFields counts mags negs) where
+  inside : (m f : ℕ) → mostReadings * length types ≤ m → f < mostFields → 1 ≤ getD counts f 0 → mostReadings * f + getD counts f 0 ≤ m
+  inside m f h l some =
+      let listed = field-read types s f (omega (arith, d .number f l)) in
+      omega (arith, d .number f l, d .few f l)
 
-  pub decoded-lent : length counts ≡ 32 → 128 * length types ≤ length mags → 128 * length types ≤ length negs → Lent counts mags negs
+  pub decoded-lent : length counts ≡ mostFields → mostReadings * length types ≤ length mags → mostReadings * length types ≤ length negs
+      → Lent counts mags negs
   decoded-lent c m n = record {
     few = record { fields = c; each = λ f l. rw (d .number f l) (d .few f l) };
     magnitudes = λ f. inside (length mags) f m;

@@ -1,5 +1,4 @@
 -- The filter step by step: where it refuses, and what it answers of a condition and an input that are read.
--- Assumes nothing.
 use mathlib.Core.Path.{_≡_, refl, sym, ap, ap₂, _∙_}
 use mathlib.Core.Bool.{true, _&&_, cond}
 use mathlib.Core.List.{List, [], _∷_}
@@ -92,4 +91,5 @@ module _ (s t : List ℕ) where
     pub both-read : InputIsRead (typesOf s) t → verdict s t ≡ judged (inputIn (typesOf s) t) (conjunctsOf s)
     both-read h =
         let r = mapped-ok (λ I. tt {0}) (readInput (typesOf s) t) (tt {0}) h in
-        verdict-read ∙ ap (λ (o : Out Input). o >>= λ I. judged I (conjunctsOf s)) (r .1) ∙ ap (λ (I : Input). judged I (conjunctsOf s)) (input-is (typesOf s) t (r .0) (r .1))
+        verdict-read ∙ ap (λ (o : Out Input). o >>= λ I. judged I (conjunctsOf s)) (r .1)
+        ∙ ap (λ (I : Input). judged I (conjunctsOf s)) (input-is (typesOf s) t (r .0) (r .1))

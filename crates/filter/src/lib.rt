@@ -2,23 +2,18 @@
 // combination that does not pass does not. The condition is read, then the input; the readings are decoded
 // once. Two passes go over all conjuncts: the first works out how many combinations each has, which tells
 // of blank fields (15) and of too many combinations (14); the second evaluates, and only where the first
-// refuses nothing. Assumes nothing.
+// refuses nothing.
 ghost use mathlib.Core.Path.{_≡_};
-ghost use mathlib.Core.Bool.{true};
-ghost use Prim.Native.Nat.{ℕ, _+_, _*_, _/_, _≤_, _<_};
-ghost use lib.IntN.{pos};
-ghost use lib.ListN.{length, getD};
-ghost use Rattle.arith.specs.Types.{Row, IsRow};
-ghost use Rattle.model.specs.Lists.{All, every};
-ghost use Rattle.model.specs.Program.{typeRight};
+ghost use Prim.Native.Nat.{ℕ, _*_, _≤_, _<_};
+ghost use lib.ListN.{length};
+ghost use Rattle.arith.specs.Types.{Row};
+ghost use Rattle.model.specs.Sizes.{mostFields};
 ghost use Rattle.model.specs.Input.{Input, width, readingAt};
-ghost use Rattle.model.specs.Failure.{first, failureIn, verdict};
-ghost use Rattle.input.specs.Answers.{InputIsRead};
-ghost use Rattle.condition.specs.Answers.{ConditionIsRead, typesOf, conjunctsOf};
-ghost use Rattle.plan.specs.Readings.{signedAt, Few, Lent, Counted, Decoded, NoneBlank, Taken};
-ghost use Rattle.evaluator.specs.Answer.{answerOf};
-ghost use Rattle.filter.specs.Verdict.{verdictOf, Told, judged};
-ghost use Rattle.filter.specs.Decoding.{inputIn, Filled};
+ghost use Rattle.model.specs.Failure.{verdict};
+ghost use Rattle.condition.specs.Answers.{ConditionIsRead, conjunctsOf};
+ghost use Rattle.plan.specs.Readings.{signedAt, Few, Lent, Counted, Decoded, Taken};
+ghost use Rattle.filter.specs.Verdict.{verdictOf, Told, judged, fewFields, Triable, FirstFails, BothRead, Judgeable, Judges};
+ghost use Rattle.filter.specs.Decoding.{inputIn, Filled, ReadingFits, ReadingsFit, Decodable, FieldPut};
 use arith::Cause;
 use arith::Range;
 use condition::ConditionRead;
@@ -54,7 +49,7 @@ const LIMIT: usize = 1_048_576;
 
 // The reading with number k of a field's part, put to a place, by the row of the field's type.
 fn put_reading(range: Range, part: &[u8], k: usize, at: usize, mags: &mut [u64], negs: &mut [bool])
-    requires { ⌜ IsRow range × ((k + 1) * (range .bits / 8) ≤ length (now part)) × (at < length (now mags)) × (at < length (now negs)) ⌝ }
+    requires { ⌜ ReadingFits range (now part) k at (now mags) (now negs) ⌝ }
     ensures { λ _. ⌜ ((ty : ℕ) → Row ty range → Taken at (readingAt ty (now (part .entry)) (k * width ty))
         (signedAt (now (mags .entry)) (now (negs .entry))) (signedAt (now (mags .exit)) (now (negs .exit)))) ⌝ }
 {
@@ -65,8 +60,9 @@ fn put_reading(range: Range, part: &[u8], k: usize, at: usize, mags: &mut [u64],
 
 // The first n readings of a field's part, put to the places from one on.
 fn put_readings(ty: u8, part: &[u8], n: usize, from: usize, mags: &mut [u64], negs: &mut [bool])
-    requires { ⌜ (ty < 8) × (n * width ty ≤ length (now part)) × (from + n ≤ length (now mags)) × (from + n ≤ length (now negs)) ⌝ }
-    ensures { λ _. ⌜ Filled (λ k. readingAt ty (now (part .entry)) (k * width ty)) from n (signedAt (now (mags .entry)) (now (negs .entry))) (signedAt (now (mags .exit)) (now (negs .exit))) ⌝ }
+    requires { ⌜ ReadingsFit ty (now part) n from (now mags) (now negs) ⌝ }
+    ensures { λ _. ⌜ Filled (λ k. readingAt ty (now (part .entry)) (k * width ty)) from n (signedAt (now (mags .entry)) (now (negs .entry)))
+        (signedAt (now (mags .exit)) (now (negs .exit))) ⌝ }
 {
     let range = arith::range_of(ty);
     let mut k: usize = 0;
@@ -76,12 +72,12 @@ fn put_readings(ty: u8, part: &[u8], n: usize, from: usize, mags: &mut [u64], ne
     }
 }
 
-// The readings of a field, put to the places from 128 * f on, and how many they are; none of a field
+// The readings of a field, put to the places from READINGS * f on, and how many they are; none of a field
 // that is not listed. There is room for those that are.
 fn put_field(types: &[u8], input: &[u8], f: usize, mags: &mut [u64], negs: &mut [bool]) -> usize
-    requires { ⌜ InputIsRead (now types) (now input) × (every typeRight (now types) ≡ true) × (f < 32) × (128 * length (now types) ≤ length (now mags)) × (128 * length (now types) ≤ length (now negs)) ⌝ }
-    ensures { λ r. ⌜ (r ≡ length (inputIn (now (types .entry)) (now (input .entry)) f)) × (r ≤ 128)
-        × Filled (λ k. getD (inputIn (now (types .entry)) (now (input .entry)) f) k (pos 0)) (128 * f) r (signedAt (now (mags .entry)) (now (negs .entry))) (signedAt (now (mags .exit)) (now (negs .exit))) ⌝ }
+    requires { ⌜ Decodable (now types) (now input) (now mags) (now negs) × (f < mostFields) ⌝ }
+    ensures { λ r. ⌜ FieldPut r (inputIn (now (types .entry)) (now (input .entry)) f) f (signedAt (now (mags .entry)) (now (negs .entry)))
+        (signedAt (now (mags .exit)) (now (negs .exit))) ⌝ }
 {
     if types.len() <= f {
         return 0;
@@ -94,8 +90,9 @@ fn put_field(types: &[u8], input: &[u8], f: usize, mags: &mut [u64], negs: &mut 
 
 // The readings of all fields, where there is room for those that are listed.
 fn decode(types: &[u8], input: &[u8], counts: &mut [usize], mags: &mut [u64], negs: &mut [bool])
-    requires { ⌜ InputIsRead (now types) (now input) × (every typeRight (now types) ≡ true) × (length (now counts) ≡ 32) × (128 * length (now types) ≤ length (now mags)) × (128 * length (now types) ≤ length (now negs)) ⌝ }
-    ensures { λ _. ⌜ Lent (now (counts .exit)) (now (mags .exit)) (now (negs .exit)) × Decoded (inputIn (now (types .entry)) (now (input .entry))) (now (counts .exit)) (now (mags .exit)) (now (negs .exit)) ⌝ }
+    requires { ⌜ Decodable (now types) (now input) (now mags) (now negs) × (length (now counts) ≡ mostFields) ⌝ }
+    ensures { λ _. ⌜ Lent (now (counts .exit)) (now (mags .exit)) (now (negs .exit))
+        × Decoded (inputIn (now (types .entry)) (now (input .entry))) (now (counts .exit)) (now (mags .exit)) (now (negs .exit)) ⌝ }
 {
     let mut f: usize = 0;
     while f < FIELDS {
@@ -134,10 +131,8 @@ fn products(condition: &[u8], sizes: Counts, counts: &[usize]) -> Combinations
 
 // Why the first conjunct that does not hold does not, or that all do.
 fn try_all(condition: &[u8], sizes: Counts, counts: &[usize], mags: &[u64], negs: &[bool]) -> Answer
-    requires { ⌜ ConditionIsRead (now condition) sizes × Lent (now counts) (now mags) (now negs)
-        × All (NoneBlank (now counts)) (conjunctsOf (now condition)) ⌝ }
-    ensures { λ r. ⌜ ((I : Input) → Decoded I (now (counts .entry)) (now (mags .entry)) (now (negs .entry))
-        → answerOf r ≡ first (failureIn I) (conjunctsOf (now (condition .entry)))) ⌝ }
+    requires { ⌜ Triable (now condition) sizes (now counts) (now mags) (now negs) ⌝ }
+    ensures { λ r. ⌜ FirstFails r (now (condition .entry)) (now (counts .entry)) (now (mags .entry)) (now (negs .entry)) ⌝ }
 {
     let n = sizes.conjuncts;
     let mut place: usize = 0;
@@ -158,7 +153,8 @@ fn try_all(condition: &[u8], sizes: Counts, counts: &[usize], mags: &[u64], negs
 // combinations are known.
 fn judge(condition: &[u8], sizes: Counts, counts: &[usize], mags: &[u64], negs: &[bool]) -> Verdict
     requires { ⌜ ConditionIsRead (now condition) sizes × Lent (now counts) (now mags) (now negs) ⌝ }
-    ensures { λ r. ⌜ ((I : Input) → Decoded I (now (counts .entry)) (now (mags .entry)) (now (negs .entry)) → verdictOf r ≡ judged I (conjunctsOf (now (condition .entry)))) ⌝ }
+    ensures { λ r. ⌜ ((I : Input) → Decoded I (now (counts .entry)) (now (mags .entry)) (now (negs .entry))
+        → verdictOf r ≡ judged I (conjunctsOf (now (condition .entry)))) ⌝ }
 {
     match products(condition, sizes, counts) {
         Combinations::Blank => Verdict::Refused(15),
@@ -179,8 +175,8 @@ fn judge_in(
     mags: &mut [u64],
     negs: &mut [bool],
 ) -> Verdict
-    requires { ⌜ ConditionIsRead (now condition) sizes × InputIsRead (typesOf (now condition)) (now input) × (length (now counts) ≡ 32) × (128 * sizes .fields ≤ length (now mags)) × (128 * sizes .fields ≤ length (now negs)) ⌝ }
-    ensures { λ r. ⌜ verdictOf r ≡ judged (inputIn (typesOf (now (condition .entry))) (now (input .entry))) (conjunctsOf (now (condition .entry))) ⌝ }
+    requires { ⌜ Judgeable (now condition) sizes (now input) (now counts) (now mags) (now negs) ⌝ }
+    ensures { λ r. ⌜ Judges r (now (condition .entry)) (now (input .entry)) ⌝ }
 {
     let types = condition::types(condition, sizes);
     decode(types, input, counts, mags, negs);
@@ -189,8 +185,8 @@ fn judge_in(
 
 // For a condition of few fields: the less room there is, the less is to be cleared.
 fn judge_small(condition: &[u8], sizes: Counts, input: &[u8]) -> Verdict
-    requires { ⌜ ConditionIsRead (now condition) sizes × InputIsRead (typesOf (now condition)) (now input) × (sizes .fields ≤ 4) ⌝ }
-    ensures { λ r. ⌜ verdictOf r ≡ judged (inputIn (typesOf (now (condition .entry))) (now (input .entry))) (conjunctsOf (now (condition .entry))) ⌝ }
+    requires { ⌜ BothRead (now condition) sizes (now input) × (sizes .fields ≤ fewFields) ⌝ }
+    ensures { λ r. ⌜ Judges r (now (condition .entry)) (now (input .entry)) ⌝ }
 {
     let mut counts: [usize; FIELDS] = [0; FIELDS];
     let mut mags: [u64; READINGS * FEW] = [0; READINGS * FEW];
@@ -200,8 +196,8 @@ fn judge_small(condition: &[u8], sizes: Counts, input: &[u8]) -> Verdict
 
 // For any condition.
 fn judge_large(condition: &[u8], sizes: Counts, input: &[u8]) -> Verdict
-    requires { ⌜ ConditionIsRead (now condition) sizes × InputIsRead (typesOf (now condition)) (now input) ⌝ }
-    ensures { λ r. ⌜ verdictOf r ≡ judged (inputIn (typesOf (now (condition .entry))) (now (input .entry))) (conjunctsOf (now (condition .entry))) ⌝ }
+    requires { ⌜ BothRead (now condition) sizes (now input) ⌝ }
+    ensures { λ r. ⌜ Judges r (now (condition .entry)) (now (input .entry)) ⌝ }
 {
     let mut counts: [usize; FIELDS] = [0; FIELDS];
     let mut mags: [u64; READINGS * FIELDS] = [0; READINGS * FIELDS];
@@ -211,8 +207,8 @@ fn judge_large(condition: &[u8], sizes: Counts, input: &[u8]) -> Verdict
 
 // Of a condition and an input that are read.
 fn judge_input(condition: &[u8], sizes: Counts, input: &[u8]) -> Verdict
-    requires { ⌜ ConditionIsRead (now condition) sizes × InputIsRead (typesOf (now condition)) (now input) ⌝ }
-    ensures { λ r. ⌜ verdictOf r ≡ judged (inputIn (typesOf (now (condition .entry))) (now (input .entry))) (conjunctsOf (now (condition .entry))) ⌝ }
+    requires { ⌜ BothRead (now condition) sizes (now input) ⌝ }
+    ensures { λ r. ⌜ Judges r (now (condition .entry)) (now (input .entry)) ⌝ }
 {
     if sizes.fields <= FEW {
         return judge_small(condition, sizes, input);

@@ -1,9 +1,8 @@
 -- What flags say of a conjunct as nodes are added to it, and as more flags are set.
--- Assumes nothing.
 use mathlib.Core.Path.{_≡_, refl, sym, ap, subst, _∙_}
 use mathlib.Core.Bool.{Bool, true, false, _&&_, true≢false}
-use mathlib.Core.List.{List, [], _∷_, _++_}
-use Prim.Native.Nat.{ℕ, _+_, _/_, _%_, _≤_, _<_}
+use mathlib.Core.List.{List, [], _∷_, _++_, map-append}
+use Prim.Native.Nat.{ℕ, _+_, _*_, _/_, _%_, _≤_, _<_}
 use native.Mathlib.Omega.{arith}
 use native.Mathlib.Numerals.{add-one}
 use lib.Dec.{eqb}
@@ -11,13 +10,12 @@ use lib.ListN.{length, getD, take, drop, set, length-drop}
 use lib.Seq.{take-suc, getD-drop, getD-set-same, getD-set-other}
 use borrow.Author.Tests.{ne-eqb}
 use Rattle.model.specs.Conjunct.{Conj, Conjuncts}
+use Rattle.model.specs.Touch.{isVar, isLoad, some}
 use Rattle.model.proofs.Lists.{all-imp, all-append}
 use Rattle.model.proofs.Tests.{or-left, or-right}
-use Rattle.model.proofs.Touch.{isVar, isLoad, some}
-use Rattle.node.proofs.Looked.{low-variable, high-variable, at-variable, low-load, at-load}
-use Rattle.node.specs.Word.{low4, nodeOf, nodesOf}
-use Rattle.conjunct.proofs.Words.{map-join}
-use Rattle.footprint.specs.Footprints.{FreeVariable, FreeArray, Covers, CoversSet, Extends}
+use Rattle.conjunct.proofs.node.Looked.{low-variable, high-variable, at-variable, low-load, at-load}
+use Rattle.conjunct.specs.Word.{low4, nodeOf, nodesOf}
+use Rattle.footprint.specs.Footprints.{variableFlags, FreeVariable, FreeArray, Covers, CoversSet, Extends}
 use Rattle.footprint.specs.declared.Footprint.{Footprint}
 
 -- ---- more flags, more nodes
@@ -54,7 +52,7 @@ covers-next : (m n : Footprint) (ws : List ℕ) (j : ℕ) → j < length ws → 
     → Covers n (nodesOf (take (j + 1) ws))
 covers-next m n ws j h k a b =
     let e : nodesOf (take (j + 1) ws) ≡ nodesOf (take j ws) ++ (nodeOf (getD ws j 0) ∷ []) =
-    ap (λ i. nodesOf (take i ws)) (add-one j) ∙ ap nodesOf (take-suc ws j 0 h) ∙ map-join nodeOf (take j ws) (getD ws j 0 ∷ []) in
+    ap (λ i. nodesOf (take i ws)) (add-one j) ∙ ap nodesOf (take-suc ws j 0 h) ∙ map-append nodeOf (take j ws) (getD ws j 0 ∷ []) in
     subst (Covers n) (sym e) (covers-append n (nodesOf (take j ws)) (nodeOf (getD ws j 0) ∷ []) (covers-more m n (nodesOf (take j ws)) k a) b)
 
 -- the flags of m, and those of the first j nodes of the words from a on, are in r
@@ -86,6 +84,10 @@ off-before l i x h f =
     let other : x ≡ i → ⊥ = λ e. true≢false (sym (getD-set-same l i true false h) ∙ ap (λ j. getD (set l i true) j false) (sym e) ∙ f) in
     (other, sym (getD-set-other l i x true false other) ∙ f)
 
+-- a number modulo the count of flags, by its lowest byte alone
+low-flag : (b r : ℕ) → (b % 256 + 256 * r) % variableFlags ≡ b % variableFlags
+low-flag b r = omega arith
+
 module _ (w : ℕ) where
   -- neither a variable nor a load
   pub covers-plain : (m : Footprint) → w < 504403158265495552 → Covers m (nodeOf w ∷ [])
@@ -96,26 +98,18 @@ module _ (w : ℕ) where
   }
 
   module _ (l : 504403158265495552 ≤ w) (h : w < 576460752303423488) where
-    not-variable : (x : ℕ) → x < 64 → (x ≡ w / 16777216 % 256 → ⊥) → isVar x (nodeOf w) ≡ false
-    not-variable x g n = sym (at-variable w x l h) ∙ ne-eqb (low4 w) x (λ e. n (omega arith))
-
-    -- a variable without a flag
-    pub covers-past-variable : (m : Footprint) → 64 ≤ w / 16777216 % 256 → Covers m (nodeOf w ∷ [])
-    unfolding some
-    covers-past-variable m g = record {
-      variables = λ x f. rw (not-variable x (f .0) (λ e. omega arith));
-      arrays = λ t k f. rw (← low-load w t k h);
-    }
+    not-variable : (x : ℕ) → (x % variableFlags ≡ w / 16777216 % variableFlags → ⊥) → isVar x (nodeOf w) ≡ false
+    not-variable x n = sym (at-variable w x l h) ∙ ne-eqb (low4 w) x (λ e. n (ap (_% variableFlags) (sym e) ∙ low-flag (w / 16777216) _))
 
     -- a variable whose flag is set
-    pub covers-variable : (m n : Footprint) → length (m .variables) ≡ 64 → w / 16777216 % 256 < 64 → n .variables ≡ set (m .variables) (w / 16777216 % 256) true → n .arrays ≡ m .arrays
-        → Extends m n × Covers n (nodeOf w ∷ [])
+    pub covers-variable : (m n : Footprint) → length (m .variables) ≡ variableFlags → n .variables ≡ set (m .variables) (w / 16777216 % variableFlags) true
+        → n .arrays ≡ m .arrays → Extends m n × Covers n (nodeOf w ∷ [])
     unfolding some
-    covers-variable m n k g v a =
-        let off : (x : ℕ) → FreeVariable n x → (x ≡ w / 16777216 % 256 → ⊥) × (getD (m .variables) x false ≡ false) =
-        λ x f. off-before (m .variables) (w / 16777216 % 256) x (omega arith) (ap (λ fs. getD fs x false) (sym v) ∙ f .1) in (
-          record { variables = λ x f. (f .0, off x f .1); arrays = λ t f. (f .0, ap (λ fs. getD fs t false) (sym a) ∙ f .1) },
-          record { variables = λ x f. rw (not-variable x (f .0) (off x f .0)); arrays = λ t j f. rw (← low-load w t j h) },
+    covers-variable m n k v a =
+        let off : (x : ℕ) → FreeVariable n x → (x % variableFlags ≡ w / 16777216 % variableFlags → ⊥) × FreeVariable m x =
+        λ x f. off-before (m .variables) (w / 16777216 % variableFlags) (x % variableFlags) (omega arith) (ap (λ fs. getD fs (x % variableFlags) false) (sym v) ∙ f) in (
+          record { variables = λ x f. off x f .1; arrays = λ t f. (f .0, ap (λ fs. getD fs t false) (sym a) ∙ f .1) },
+          record { variables = λ x f. rw (not-variable x (off x f .0)); arrays = λ t j f. rw (← low-load w t j h) },
         )
 
   module _ (l : 576460752303423488 ≤ w) where
@@ -137,6 +131,6 @@ module _ (w : ℕ) where
     covers-load m n k g a v =
         let off : (t : ℕ) → FreeArray n t → (t ≡ w / 65536 % 256 → ⊥) × (getD (m .arrays) t false ≡ false) =
         λ t f. off-before (m .arrays) (w / 65536 % 256) t (omega arith) (ap (λ fs. getD fs t false) (sym a) ∙ f .1) in (
-          record { variables = λ x f. (f .0, ap (λ fs. getD fs x false) (sym v) ∙ f .1); arrays = λ t f. (f .0, off t f .1) },
+          record { variables = λ x f. ap (λ fs. getD fs (x % variableFlags) false) (sym v) ∙ f; arrays = λ t f. (f .0, off t f .1) },
           record { variables = λ x f. rw (← high-variable w x l); arrays = λ t j f. rw (not-load t j (off t f .0)) },
         )

@@ -1,56 +1,69 @@
 -- A piece of program whose statements the flags of a set spare touches nothing of the set.
--- Assumes nothing.
 use mathlib.Core.Path.{_≡_, refl, sym, subst}
 use mathlib.Core.Bool.{false}
 use mathlib.Core.List.{[], _∷_}
-use Prim.Native.Nat.{ℕ, zero, suc, _+_, _-_, _≤_, _<_}
+use Prim.Native.Nat.{ℕ, suc, _+_, _-_, _≤_, _<_}
 use native.Mathlib.Decide.{decLt}
 use native.Mathlib.Omega.{arith}
 use Rattle.model.specs.Code.{Instr, assign, store, site, Code, done, step, branch, loop, Stmt, plain}
 use Rattle.model.specs.Conjunct.{Conjuncts}
-use Rattle.model.specs.Program.{Statement, Tables, stmtOf}
-use Rattle.model.proofs.Laid.{Laid, laid-le}
-use Rattle.model.proofs.Touch.{some, writes, touches}
+use Rattle.model.specs.Kinds.{Kind, aNumber, aCopy, anOperation, aConversion, aRead, aLoad, aStore, aSite, anIf, anElse, anEnd, aWhile, noKind, kindOf}
+use Rattle.model.specs.Placement.{Laid}
+use Rattle.model.specs.Touch.{some, writes, touches}
+use Rattle.model.proofs.KindNumbers.{IsNumber, kind-number, operation-most}
+use Rattle.model.proofs.Laid.{laid-le}
+use Rattle.code_table.specs.declared.Decoded.{Decoded}
+use Rattle.code_table.specs.Statements.{stmtFor, stmtFrom}
 use Rattle.footprint.specs.Footprints.{FreeVariable, FreeArray, CoversSet, Spares, SparedAll, PlainAndSpared}
 use Rattle.footprint.specs.declared.Footprint.{Footprint}
 
 -- ---- one statement, by its kind
 
-module _ (m : Footprint) (T : Tables) (q : Statement) where
+module _ (m : Footprint) (d : Decoded) where
   -- it changes a variable
-  pub spares-variable : q .kind < 9 → FreeVariable m (q .a) → Spares m (stmtOf T q)
-  unfolding stmtOf
-  spares-variable = go (q .kind)
+  pub spares-variable : d .kind < 9 → FreeVariable m (d .a) → Spares m (stmtFrom d)
+  unfolding stmtFrom
+  spares-variable h f = go (kindOf (d .kind)) (kind-number (d .kind))
     where
-      go : (k : ℕ) → k < 9 → FreeVariable m (q .a) → Spares m (stmtOf T (record { kind = k; a = q .a; b = q .b; c = q .c; imm = q .imm }))
-      go zero h f = f
-      go (suc zero) h f = f
-      go (suc (suc zero)) h f = f
-      go (suc (suc (suc zero))) h f = f
-      go (suc (suc (suc (suc zero)))) h f = f
-      go (suc (suc (suc (suc (suc zero))))) h f = f
-      go (suc (suc (suc (suc (suc (suc zero)))))) h f = f
-      go (suc (suc (suc (suc (suc (suc (suc zero))))))) h f = f
-      go (suc (suc (suc (suc (suc (suc (suc (suc zero)))))))) h f = f
-      go (suc (suc (suc (suc (suc (suc (suc (suc (suc k))))))))) h f = absurd (omega arith)
+      go : (k : Kind) → IsNumber k (d .kind) → Spares m (stmtFor k d)
+      go aNumber n = f
+      go aCopy n = f
+      go (anOperation o) n = f
+      go aConversion n = f
+      go aRead n = f
+      go aLoad n = f
+      go aStore n = absurd (omega arith)
+      go aSite n = absurd (omega arith)
+      go anIf n = absurd (omega arith)
+      go anElse n = absurd (omega arith)
+      go anEnd n = absurd (omega arith)
+      go aWhile n = absurd (omega arith)
+      go noKind n = absurd (omega arith)
 
   -- it changes an array
-  pub spares-array : q .kind ≡ 9 → FreeArray m (q .a) → Spares m (stmtOf T q)
-  unfolding stmtOf
+  pub spares-array : d .kind ≡ 9 → FreeArray m (d .a) → Spares m (stmtFrom d)
+  unfolding stmtFrom kindOf
   spares-array e f = rw e f
 
   -- it changes nothing
-  pub spares-nothing : 10 ≤ q .kind → Spares m (stmtOf T q)
-  unfolding stmtOf
-  spares-nothing h = go (q .kind - 10) (omega arith)
+  pub spares-nothing : 10 ≤ d .kind → Spares m (stmtFrom d)
+  unfolding stmtFrom
+  spares-nothing h = go (kindOf (d .kind)) (kind-number (d .kind))
     where
-      go : (k : ℕ) → q .kind ≡ suc (suc (suc (suc (suc (suc (suc (suc (suc (suc k))))))))) → Spares m (stmtOf T q)
-      go zero e = rw e tt
-      go (suc zero) e = rw e tt
-      go (suc (suc zero)) e = rw e tt
-      go (suc (suc (suc zero))) e = rw e tt
-      go (suc (suc (suc (suc zero)))) e = rw e tt
-      go (suc (suc (suc (suc (suc k))))) e = rw e tt
+      go : (k : Kind) → IsNumber k (d .kind) → Spares m (stmtFor k d)
+      go aNumber n = absurd (omega arith)
+      go aCopy n = absurd (omega arith)
+      go (anOperation o) n = absurd (omega (arith, operation-most o))
+      go aConversion n = absurd (omega arith)
+      go aRead n = absurd (omega arith)
+      go aLoad n = absurd (omega arith)
+      go aStore n = absurd (omega arith)
+      go aSite n = tt
+      go anIf n = tt
+      go anElse n = tt
+      go anEnd n = tt
+      go aWhile n = tt
+      go noKind n = tt
 
 pub quiet-next : (m : Footprint) (stmt : ℕ → Stmt) (p i : ℕ) → SparedAll m stmt p i → Spares m (stmt i) → SparedAll m stmt p (i + 1)
 quiet-next m stmt p i h k j l b = go (decLt j i)

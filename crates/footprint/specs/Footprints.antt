@@ -1,22 +1,26 @@
 -- What flags of variables and arrays say of conjuncts, and which statements they spare.
--- Assumes nothing.
 use mathlib.Core.Path.{_≡_}
 use mathlib.Core.Bool.{false}
-use Prim.Native.Nat.{ℕ, _≤_, _<_}
+use Prim.Native.Nat.{ℕ, _%_, _≤_, _<_}
 use lib.ListN.{getD}
 use Rattle.model.specs.Code.{Instr, assign, store, site, Stmt, plain, if, else, end, while}
 use Rattle.model.specs.Conjunct.{Conj, Conjuncts}
 use Rattle.model.specs.Lists.{All}
-use Rattle.model.proofs.Touch.{isVar, isLoad, some}
+use Rattle.model.specs.Sizes.{mostArrays}
+use Rattle.model.specs.Touch.{isVar, isLoad, some}
 use Rattle.footprint.specs.declared.Footprint.{Footprint}
 
--- the flag of the variable x is off
+-- how many flags of variables there are
+abbrev pub variableFlags : ℕ
+variableFlags = 64
+
+-- the flag of the variable x, by its number modulo their count, is off
 abbrev pub FreeVariable : Footprint → ℕ → Type 0
-FreeVariable m x = (x < 64) × (getD (m .variables) x false ≡ false)
+FreeVariable m x = getD (m .variables) (x % variableFlags) false ≡ false
 
 -- the flag of the array t is off
 abbrev pub FreeArray : Footprint → ℕ → Type 0
-FreeArray m t = (t < 16) × (getD (m .arrays) t false ≡ false)
+FreeArray m t = (t < mostArrays) × (getD (m .arrays) t false ≡ false)
 
 -- no variable whose flag is off stands in the conjunct, and no array whose flag is off is loaded from in it, whatever its length
 pub record Covers (m : Footprint) (e : Conj) : Type 0 where
@@ -50,3 +54,9 @@ SparedAll m stmt p q = (i : ℕ) → p ≤ i → i < q → Spares m (stmt i)
 pub record PlainAndSpared (m : Footprint) (stmt : ℕ → Stmt) (p q : ℕ) : Type 0 where
   pub each-plain : (i : ℕ) → p ≤ i → i < q → (x : Instr) × (stmt i ≡ plain x)
   pub spared : SparedAll m stmt p q
+
+-- so far back from r, but not past p
+pub record BackTo (m : Footprint) (stmt : ℕ → Stmt) (p r l : ℕ) : Type 0 where
+  pub least : p ≤ l
+  pub most : l ≤ r
+  pub passed : PlainAndSpared m stmt l r

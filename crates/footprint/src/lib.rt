@@ -1,18 +1,18 @@
 // Which variables and arrays a set of conjuncts speaks of, and whether a part of a program changes
-// any of them. Assumes nothing.
+// any of them.
 ghost use mathlib.Core.Path.{_≡_};
 ghost use mathlib.Core.Bool.{true};
 ghost use Prim.Native.Nat.{_+_, _≤_};
 ghost use lib.ListN.{length};
-ghost use Rattle.model.specs.Program.{Tables, stmtOf};
-ghost use Rattle.program.specs.Reading.{Placed, tablesOf, stmtAt, entryOf};
-ghost use Rattle.node.specs.Word.{nodesOf};
+ghost use Rattle.model.specs.Sizes.{mostStatements};
+ghost use Rattle.code_table.specs.Statements.{stmtFrom};
+ghost use Rattle.code_table.specs.Table.{tableWords, stmts};
+ghost use Rattle.conjunct.specs.Word.{nodesOf};
 ghost use Rattle.sets.specs.Region.{slotAt, setOf};
-ghost use Rattle.footprint.specs.Footprints.{Covers, CoversSet, Extends, Spares, SparedAll, PlainAndSpared};
-use program::Entry;
-use program::Layout;
+ghost use Rattle.footprint.specs.Footprints.{Covers, CoversSet, Extends, Spares, SparedAll, BackTo};
+use code_table::Decoded;
 
-// A flag for each variable and each array.
+// A flag for each variable, by its number modulo their count, and for each array.
 pub struct Footprint {
     pub variables: [bool; 64],
     pub arrays: [bool; 16],
@@ -31,18 +31,15 @@ fn with_slot(m: Footprint, s: &[u64], a: usize) -> Footprint
     while j < n {
         let w = s[a + 1 + j];
         j += 1;
-        if w < 504403158265495552 {
+        if w < 0x07_00_0000_0000_0000 {
             continue;
         }
-        if w < 576460752303423488 {
-            let x = (w / 16777216 % 256) as usize;
-            if 64 <= x {
-                continue;
-            }
+        if w < 0x08_00_0000_0000_0000 {
+            let x = (w / 0x100_0000 % 0x40) as usize;
             r.variables[x] = true;
             continue;
         }
-        let t = (w / 65536 % 256) as usize;
+        let t = (w / 0x1_0000 % 0x100) as usize;
         if 16 <= t {
             continue;
         }
@@ -72,11 +69,11 @@ pub fn of_set(s: &[u64], b: usize) -> Footprint
 // ---- what a program changes
 
 // Whether a statement changes none of them.
-fn spares(m: Footprint, q: Entry) -> bool
-    ensures { λ r. ⌜ (r ≡ true → (T : Tables) → Spares m (stmtOf T (entryOf q))) ⌝ }
+fn spares(m: Footprint, d: Decoded) -> bool
+    ensures { λ r. ⌜ (r ≡ true → Spares m (stmtFrom d)) ⌝ }
 {
-    let kind = q.kind;
-    let a = q.a as usize;
+    let kind = d.kind;
+    let a = d.a;
     if 10 <= kind {
         return true;
     }
@@ -89,24 +86,21 @@ fn spares(m: Footprint, q: Entry) -> bool
         }
         return true;
     }
-    if 64 <= a {
-        return false;
-    }
-    if m.variables[a] {
+    if m.variables[a % 64] {
         return false;
     }
     true
 }
 
 // Whether the statements on the labels from p up to q change none of them.
-pub fn spares_all(program: &[u8], layout: Layout, m: Footprint, p: usize, q: usize) -> bool
-    requires { ⌜ Placed (now program) layout × (q ≤ layout .statements) ⌝ }
-    ensures { λ r. ⌜ (r ≡ true → SparedAll m (stmtAt (tablesOf (now (program .entry)))) p q) ⌝ }
+pub fn spares_all(s: &[u64], m: Footprint, p: usize, q: usize) -> bool
+    requires { ⌜ (tableWords ≤ length (now s)) × (q ≤ mostStatements) ⌝ }
+    ensures { λ r. ⌜ (r ≡ true → SparedAll m (stmts (now (s .entry))) p q) ⌝ }
 {
     let mut i = p;
     while i < q {
-        let entry = program::statement(program, layout, i);
-        if !spares(m, entry) {
+        let d = code_table::fetch(s, 0, i);
+        if !spares(m, d) {
             return false;
         }
         i += 1;
@@ -115,17 +109,17 @@ pub fn spares_all(program: &[u8], layout: Layout, m: Footprint, p: usize, q: usi
 }
 
 // How far back from r, but not past p, each statement is plain and changes none of them.
-pub fn spared_plain(program: &[u8], layout: Layout, m: Footprint, p: usize, r: usize) -> usize
-    requires { ⌜ Placed (now program) layout × (p ≤ r) × (r ≤ layout .statements) ⌝ }
-    ensures { λ l. ⌜ (p ≤ l) × (l ≤ r) × PlainAndSpared m (stmtAt (tablesOf (now (program .entry)))) l r ⌝ }
+pub fn spared_plain(s: &[u64], m: Footprint, p: usize, r: usize) -> usize
+    requires { ⌜ (tableWords ≤ length (now s)) × (p ≤ r) × (r ≤ mostStatements) ⌝ }
+    ensures { λ l. ⌜ BackTo m (stmts (now (s .entry))) p r l ⌝ }
 {
     let mut l = r;
     while p < l {
-        let entry = program::statement(program, layout, l - 1);
-        if 11 <= entry.kind {
+        let d = code_table::fetch(s, 0, l - 1);
+        if 11 <= d.kind {
             return l;
         }
-        if !spares(m, entry) {
+        if !spares(m, d) {
             return l;
         }
         l -= 1;

@@ -1,5 +1,4 @@
 -- Demand 3 of the three operations called one after the other, by their contracts alone.
--- Assumes nothing.
 use mathlib.Core.Path.{_≡_, sym}
 use mathlib.Core.Bool.{_&&_}
 use mathlib.Core.List.{List}
@@ -34,7 +33,8 @@ lent-run words scratch program input limit choices log R e = check-ok (leb words
 
 -- whoever derives a condition, finds that the input passes under its bytes, and runs the program on the input has the records of the
 -- exact run, whatever was lent to each
-pub apart : (program input : List ℕ) (limit : ℕ) (choices log : List ℕ) (n : ℕ) (before condition s s′ : List ℕ) (end steps records : ℕ) (log′ t t′ : List ℕ)
+pub apart : (program input : List ℕ) (limit : ℕ) (choices log : List ℕ) (n : ℕ) (before condition s s′ : List ℕ)
+    (end steps records : ℕ) (log′ t t′ : List ℕ)
     → Derives (derivation (length before) (length s) program) (Written n) before condition s s′
     → verdictOf Pass ≡ verdict (take n condition) input
     → Interprets (runLent scratchWords (length t) program input limit choices log) (Ended end steps records) log log′ t t′

@@ -1,12 +1,11 @@
 -- The guard's answers, from those of the three operations.
--- Assumes nothing.
 use mathlib.Core.Path.{_≡_, refl, sym, ap, subst, _∙_}
 use mathlib.Core.Bool.{Bool, true, false, _&&_}
 use mathlib.Core.List.{List}
-use Prim.Native.Nat.{ℕ, _-_, _≤_, _<_}
+use Prim.Native.Nat.{ℕ, _≤_, _<_}
 use lib.Dec.{leb}
 use borrow.Author.Tests.{le-leb, lt-leb, leb-true}
-use lib.ListN.{length, take, drop}
+use lib.ListN.{length}
 use native.Mathlib.Omega.{arith}
 use Rattle.bytes_le.specs.Overlay.{overlay}
 use Rattle.model.specs.Refusals.{Out, ok, refused, _>>=_, mapped, check, lentTooShort, wrongBlocks}
@@ -38,11 +37,13 @@ module _ (program input : List ℕ) (limit : ℕ) (choices : List ℕ) (o : Out 
 
   pub guards-refused : (n : ℕ) (l′ s′ : List ℕ) → o ≡ refused n → l′ ≡ l → Scratch o s′ → Is o (Refused n) c l′ s′
   guards-refused n l′ s′ e k w =
-      subst (λ x. Scratch x s′ → Is x (Refused n) c l′ s′) (sym e) (λ v. record { answer = refl; condition = refl; log = k; exact = tt; scratch = v }) w
+      subst (λ x. Scratch x s′ → Is x (Refused n) c l′ s′) (sym e)
+      (λ v. record { answer = refl; condition = refl; log = k; exact = tt; scratch = v }) w
 
   pub guards-held : (s′ : List ℕ) → o ≡ ok held → Scratch o s′ → Is o Held c l s′
   guards-held s′ e w =
-      subst (λ x. Scratch x s′ → Is x Held c l s′) (sym e) (λ v. record { answer = refl; condition = refl; log = refl; exact = tt; scratch = v }) w
+      subst (λ x. Scratch x s′ → Is x Held c l s′) (sym e)
+      (λ v. record { answer = refl; condition = refl; log = refl; exact = tt; scratch = v }) w
 
   pub guards-ended : (C : List ℕ) (R : Ran) (c′ s′ : List ℕ) → o ≡ ok (passed C R) → c′ ≡ overlay c 0 C
       → Exact program input limit choices (length l) (R .records) (R .log) → Scratch o s′
@@ -52,7 +53,8 @@ module _ (program input : List ℕ) (limit : ℕ) (choices : List ℕ) (o : Out 
       (λ v. record { answer = refl; condition = k; log = refl; exact = x; scratch = v }) w
 
   -- with what was left in scratch before
-  pub guards-after : (r : Guarded) (t c′ l′ u : List ℕ) → Guards program input limit choices o r c l t c′ l′ u → Scratch o u → Is o r c′ l′ u
+  pub guards-after : (r : Guarded) (t c′ l′ u : List ℕ) → Guards program input limit choices o r c l t c′ l′ u → Scratch o u
+      → Is o r c′ l′ u
   guards-after r t c′ l′ u g w = record { answer = g .answer; condition = g .condition; log = g .log; exact = g .exact; scratch = w }
 
 -- ---- what the definition gives
@@ -97,7 +99,7 @@ check-passes : {A : Type 0} (b : Bool) (o : Out A) → b ≡ true → check b le
 check-passes b o h = ap (λ t. check t lentTooShort o) h
 
 module _ (program input : List ℕ) (limit : ℕ) (choices log : List ℕ) where
-  pub output-short : (output words : ℕ) → output < conditionBytes → guarding output words program input limit choices log ≡ refused 1
+  pub output-short : (output words : ℕ) → output < conditionBytes → guarding output words program input limit choices log ≡ refused lentTooShort
   unfolding guarding
   output-short output words h =
       ap (λ t. check (t && leb analysisWords words) lentTooShort (guarded program input limit choices log)) (lt-leb conditionBytes output h)
@@ -142,14 +144,6 @@ scratch-refused o p n s t e d w = record {
   beyond = w .beyond;
   idle = λ m r h. let same : m ≡ n = cc in w .idle n d (omega arith);
 }
-
--- ---- parts
-
--- a part from the start
-pub part-first : (s : List ℕ) (n : ℕ) → take (n - 0) (drop 0 s) ≡ take n s
-part-first s n =
-    let z : n - 0 ≡ n = omega arith in
-    ap (λ (k : ℕ). take k s) z
 
 -- ---- demand 1
 

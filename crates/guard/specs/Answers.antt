@@ -1,11 +1,10 @@
 -- What the guard's answer stands for, and what it leaves in the condition's output, in the log and in scratch.
--- Assumes nothing.
 use mathlib.Core.Path.{_≡_}
 use mathlib.Core.Bool.{_&&_}
 use mathlib.Core.List.{List}
 use Prim.Native.Nat.{ℕ, _≤_}
 use lib.Dec.{leb}
-use lib.ListN.{length, take}
+use lib.ListN.{length}
 use Rattle.bytes_le.specs.Overlay.{overlay}
 use Rattle.model.specs.Refusals.{Out, ok, refused, check, lentTooShort, wrongBlocks}
 use Rattle.model.specs.Condition.{conditionBytes, analysis}
@@ -17,11 +16,10 @@ use Rattle.analysis.specs.Deriving.{analysisWords}
 use Rattle.guard.specs.declared.Guarded.{Guarded}
 use Rattle.guard.specs.declared.Guarded.the-variants.{Ended, Held, Refused}
 
--- the program's condition is the first n bytes of a file, and what is lent is long enough
-pub record Ready (program : List ℕ) (n : ℕ) (file condition scratch : List ℕ) : Type 0 where
-  pub within : n ≤ length file
-  pub most : n ≤ conditionBytes
-  pub derived : analysis program ≡ ok (take n file)
+-- the program's condition is the file, and what is lent is long enough
+pub record Ready (program file condition scratch : List ℕ) : Type 0 where
+  pub most : length file ≤ conditionBytes
+  pub derived : analysis program ≡ ok file
   pub output : conditionBytes ≤ length condition
   pub words : analysisWords ≤ length scratch
 

@@ -1,8 +1,9 @@
 // The run behind the filter: a program is run on an input only if the input passes under the
-// program's condition. Assumes nothing.
+// program's condition. The analysis writes to a file of its own, whose bytes go to the filter and, once
+// the run has ended, to the condition's output; so the output stays as it was unless the program is run.
 ghost use mathlib.Core.Path.{_≡_};
 ghost use Prim.Native.Nat.{_≤_};
-ghost use lib.ListN.{length, take};
+ghost use lib.ListN.{length};
 ghost use Rattle.model.specs.Condition.{conditionBytes};
 ghost use Rattle.model.specs.Refusals.{ok};
 ghost use Rattle.model.specs.Filter.{passNumber, filterInput};
@@ -12,6 +13,9 @@ use analysis::Derived;
 use filter::Verdict;
 use interpreter::Ran;
 
+// The refusal of what was lent: too short.
+const LENT_TOO_SHORT: u8 = 1;
+
 // The input is held, or it passed and was run; or a refusal.
 pub enum Guarded {
     Ended { end: u8, steps: u64, records: u64 },
@@ -19,7 +23,7 @@ pub enum Guarded {
     Refused(u8),
 }
 
-// An input that passed: the run, and then the condition file to its output.
+// An input that passed under the condition in a file: the run, and then the file to its output.
 fn run_passed(
     program: &[u8],
     input: &[u8],
@@ -27,11 +31,10 @@ fn run_passed(
     choices: &[u8],
     log: &mut [u8],
     file: &[u8],
-    n: usize,
     condition: &mut [u8],
     scratch: &mut [u64],
 ) -> Guarded
-    requires { ⌜ Ready (now program) n (now file) (now condition) (now scratch) × (filterInput (take n (now file)) (now input) ≡ ok passNumber) ⌝ }
+    requires { ⌜ Ready (now program) (now file) (now condition) (now scratch) × (filterInput (now file) (now input) ≡ ok passNumber) ⌝ }
     ensures { λ r. ⌜ Guards (now (program .entry)) (now (input .entry)) limit (now (choices .entry))
         (guarded (now (program .entry)) (now (input .entry)) limit (now (choices .entry)) (now (log .entry)))
         r (now (condition .entry)) (now (log .entry)) (now (scratch .entry)) (now (condition .exit)) (now (log .exit)) (now (scratch .exit)) ⌝ }
@@ -44,6 +47,7 @@ fn run_passed(
             steps,
             records,
         } => {
+            let n = file.len();
             bytes_le::put_bytes(condition, 0, file, n);
             Guarded::Ended {
                 end: end,
@@ -54,8 +58,7 @@ fn run_passed(
     }
 }
 
-// With the program's condition in the first n bytes of a file: the filter, and the run of an input
-// that passes.
+// With the program's condition in a file: the filter, and the run of an input that passes.
 fn filter_and_run(
     program: &[u8],
     input: &[u8],
@@ -63,16 +66,15 @@ fn filter_and_run(
     choices: &[u8],
     log: &mut [u8],
     file: &[u8],
-    n: usize,
     condition: &mut [u8],
     scratch: &mut [u64],
 ) -> Guarded
-    requires { ⌜ Ready (now program) n (now file) (now condition) (now scratch) ⌝ }
+    requires { ⌜ Ready (now program) (now file) (now condition) (now scratch) ⌝ }
     ensures { λ r. ⌜ Guards (now (program .entry)) (now (input .entry)) limit (now (choices .entry))
         (guarded (now (program .entry)) (now (input .entry)) limit (now (choices .entry)) (now (log .entry)))
         r (now (condition .entry)) (now (log .entry)) (now (scratch .entry)) (now (condition .exit)) (now (log .exit)) (now (scratch .exit)) ⌝ }
 {
-    let verdict = filter::check(&file[0..n], input);
+    let verdict = filter::check(file, input);
     match verdict {
         Verdict::Refused(k) => Guarded::Refused(k),
         Verdict::Held(_) => Guarded::Held,
@@ -83,15 +85,13 @@ fn filter_and_run(
             choices,
             log,
             file,
-            n,
             condition,
             scratch,
         ),
     }
 }
 
-// The three operations one after the other; the analysis writes to a file of its own, so that the
-// condition's output stays as it was unless the program is run.
+// The three operations one after the other.
 fn derive_and_run(
     program: &[u8],
     input: &[u8],
@@ -118,8 +118,7 @@ fn derive_and_run(
                 limit,
                 choices,
                 log,
-                file,
-                n,
+                &file[..n],
                 condition,
                 scratch,
             )
@@ -145,7 +144,7 @@ pub fn run(
         r (now (condition .entry)) (now (log .entry)) (now (scratch .entry)) (now (condition .exit)) (now (log .exit)) (now (scratch .exit)) ⌝ }
 {
     if condition.len() < analysis::CONDITION {
-        return Guarded::Refused(1);
+        return Guarded::Refused(LENT_TOO_SHORT);
     }
     let mut file: [u8; analysis::CONDITION] = [0; analysis::CONDITION];
     derive_and_run(

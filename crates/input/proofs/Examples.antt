@@ -1,5 +1,4 @@
 -- The first wrong pair, by computation: of three fields of one byte a reading, and of no field.
--- Assumes nothing.
 use mathlib.Core.Path.{_≡_, refl}
 use mathlib.Core.List.{List, [], _∷_, _++_}
 use Prim.Native.Nat.{ℕ, zero, suc}

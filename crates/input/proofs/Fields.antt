@@ -1,5 +1,4 @@
 -- The fields of an input that is read: how wide their readings are, where their parts stand, and which readings they hold.
--- Assumes nothing.
 use mathlib.Core.Path.{_≡_, refl, sym, _∙_, ap}
 use mathlib.Core.Bool.{_&&_, cond}
 use mathlib.Core.List.{List, [], _∷_}
@@ -62,7 +61,8 @@ reading-narrow t s o n a h = ap (λ (v : ℕ). wrap t (pos v)) (bits-narrow t s 
 
 pub some-width : (t : ℕ) → 0 < width t
 some-width t =
-    by-width t (0 < width t) (λ e. omega (arith, width-by t 0 e)) (λ e. omega (arith, width-by t 1 e)) (λ e. omega (arith, width-by t 2 e)) (λ e. omega (arith, width-by t 3 e))
+    by-width t (0 < width t) (λ e. omega (arith, width-by t 0 e)) (λ e. omega (arith, width-by t 1 e)) (λ e. omega (arith, width-by t 2 e))
+    (λ e. omega (arith, width-by t 3 e))
 
 pub width-le : (t : ℕ) → width t ≤ 8
 width-le t =
@@ -145,7 +145,8 @@ field-readings types s I f e h =
 
 -- a field's part holds its readings
 pub part-readings : (types s : List ℕ) (f : ℕ) → InputIsRead types s → f < length types
-    → fieldReadings types s f ≡ entries (readingAt (getD types f 0)) (width (getD types f 0)) (fieldPart s f) 0 (length (fieldPart s f) / width (getD types f 0))
+    → fieldReadings types s f
+    ≡ entries (readingAt (getD types f 0)) (width (getD types f 0)) (fieldPart s f) 0 (length (fieldPart s f) / width (getD types f 0))
 unfolding readingsOf
 part-readings types s f read h =
     let t = getD types f 0 in

@@ -1,5 +1,4 @@
 -- The model's test of an input, pair by pair: it is passed if and only if every pair is right and the last one ends the file.
--- Assumes nothing.
 use mathlib.Core.Path.{_≡_, refl, sym, _∙_, ap}
 use mathlib.Core.Bool.{Bool, true, _&&_}
 use mathlib.Core.List.{List, _∷_}
@@ -71,7 +70,8 @@ module _ (types s : List ℕ) where
 
   -- they are the field's own and those from the next one on
   opened : (k : ℕ) → k < length types
-      → rest k ≡ test (startOf (length types) s k) (getD types k 0 ∷ drop (suc k) types) (pairAt s (8 * k) ∷ pairsAt s (8 * suc k) (length (drop (suc k) types))) (length s)
+      → rest k ≡ test (startOf (length types) s k) (getD types k 0 ∷ drop (suc k) types)
+      (pairAt s (8 * k) ∷ pairsAt s (8 * suc k) (length (drop (suc k) types))) (length s)
   unfolding rest entries
   opened k h =
       let e : 8 * k + 8 ≡ 8 * suc k = omega arith in

@@ -1,5 +1,4 @@
 -- The search for the first wrong pair: what is known after some pairs, from the start to the answer; and at most one answer is true.
--- Assumes nothing.
 use mathlib.Core.Path.{_≡_, refl, sym, _∙_, ap, subst}
 use mathlib.Core.List.{List}
 use Prim.Native.Nat.{ℕ, _+_, _*_, _/_, _≤_, _<_}
@@ -81,4 +80,6 @@ module _ (types s : List ℕ) where
   one-answer (AllRight e) (AllRight d) a b = ap AllRight (a .1 ∙ sym (b .1))
   one-answer (AllRight e) (FirstWrong g) a b = absurd (b .1 (a .0 g (b .0)))
   one-answer (FirstWrong f) (AllRight d) a b = absurd (a .1 (b .0 f (a .0)))
-  one-answer (FirstWrong f) (FirstWrong g) a b = let e : f ≡ g = omega (arith, not-later f g a b, not-later g f b a) in ap FirstWrong e
+  one-answer (FirstWrong f) (FirstWrong g) a b =
+      let e : f ≡ g = omega (arith, not-later f g a b, not-later g f b a) in
+      ap FirstWrong e

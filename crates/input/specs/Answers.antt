@@ -1,5 +1,4 @@
 -- What the answers of the input's reader stand for, and the places of a field in an input that is read.
--- Assumes nothing.
 use mathlib.Core.Path.{_≡_}
 use mathlib.Core.List.{List}
 use Prim.Native.Nat.{ℕ, _*_}

@@ -1,9 +1,9 @@
 -- Which pair of an input is the first that is wrong (document 02, card 3).
--- Assumes nothing.
 use mathlib.Core.Path.{_≡_}
 use mathlib.Core.List.{List}
 use Prim.Native.Nat.{ℕ, zero, suc, _+_, _*_, _%_, _≤_, _<_}
 use lib.ListN.{length, getD}
+use Rattle.model.specs.Sizes.{mostReadings}
 use Rattle.model.specs.Bytes.{Pair, pairAt}
 use Rattle.model.specs.Input.{width}
 use Rattle.input.specs.declared.PartRead.{PartRead}
@@ -19,7 +19,7 @@ endOf p = p .offset + p .len
 pub record PairRight (ty : ℕ) (p : Pair) (start size : ℕ) : Type 0 where
   pub begins : p .offset ≡ start
   pub whole : p .len % width ty ≡ 0
-  pub few : p .len ≤ 128 * width ty
+  pub few : p .len ≤ mostReadings * width ty
   pub inside : endOf p ≤ size
 
 -- where a field's part is to begin: the first behind the table, each other where the one before ends

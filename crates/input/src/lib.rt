@@ -1,11 +1,12 @@
 // The reader of the input file (document 01: sheet): one pass over the pairs that carries the place
 // where the next part begins; a field's readings as a part of the caller's slice; one reading as a
-// number. Assumes nothing.
+// number.
 ghost use mathlib.Core.Path.{_≡_};
 ghost use Prim.Native.Nat.{ℕ, _+_, _*_, _/_, _≤_, _<_};
 ghost use lib.ListN.{length};
 ghost use Rattle.arith.specs.Types.{Row, IsRow};
 ghost use Rattle.arith.specs.Whole.{valueOf};
+ghost use Rattle.model.specs.Sizes.{mostReadings};
 ghost use Rattle.model.specs.Refusals.{mapped};
 ghost use Rattle.model.specs.Bytes.{pairAt};
 ghost use Rattle.model.specs.Input.{width, bitsAt, readingAt, readInput};
@@ -119,7 +120,7 @@ pub fn readings<'a>(types: &[u8], input: &'a [u8], field: usize) -> &'a [u8]
 // How many readings a field has in an input that is read.
 pub fn count(types: &[u8], input: &[u8], field: usize) -> usize
     requires { ⌜ InputIsRead (now types) (now input) × (field < length (now types)) ⌝ }
-    ensures { λ r. ⌜ (r ≡ length (fieldReadings (now (types .entry)) (now (input .entry)) field)) × (r ≤ 128) ⌝ }
+    ensures { λ r. ⌜ (r ≡ length (fieldReadings (now (types .entry)) (now (input .entry)) field)) × (r ≤ mostReadings) ⌝ }
 {
     let w = width_of(types[field]);
     let len = bytes_le::u32_at(input, 8 * field + 4) as usize;

@@ -1,6 +1,5 @@
 // The listing program: reads a recipe on standard input and prints the listing of the condition that
-// the analysis writes for it, or the refusal. A recipe longer than the longest accepted one fills the
-// buffer, which has one byte more, and so is what the analysis refuses as too long.
+// the analysis writes for it, or the refusal.
 use analysis::Derived;
 use libc::STDIN_FILENO;
 use libc::STDOUT_FILENO;
@@ -30,7 +29,7 @@ fn listed(recipe: &[u8]) {
 }
 
 fn main() {
-    let mut recipe = [0u8; 8385];
+    let mut recipe = [0u8; files::RECIPE];
     let n = io::read_full(STDIN_FILENO, &mut recipe);
     listed(&recipe[..n]);
 }

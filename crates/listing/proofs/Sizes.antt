@@ -14,7 +14,8 @@ use Rattle.model.specs.Bytes.{entries}
 use Rattle.model.specs.Conjunct.{Source, field, cell, Atom, Node, const, atom, var, op, conv, Conj, Conjuncts}
 use Rattle.model.specs.Condition.{Condition, readCondition, nodeAt}
 use Rattle.model.specs.Decimal.{places, decimal, number}
-use Rattle.model.specs.Listing.{typeText, operationText, atomText, nodeName, nodeType, nodeText, lineText, linesFrom, listingText, refusalText, listing, textOf}
+use Rattle.model.specs.Listing.{typeText, operationText, atomText, nodeName, nodeType, nodeText}
+use Rattle.model.specs.Listing.{lineText, linesFrom, listingText, refusalText, listing, textOf}
 use Rattle.model.specs.Refusals.{Out, ok, refused, mapped}
 use Rattle.model.specs.Values.{Operation, add, sub, mul, div}
 use Rattle.model.proofs.Parts.{length-entries}
@@ -91,8 +92,8 @@ nodes-most (v ∷ e) = omega (arith, length-append (nodeText v) (flatMap nodeTex
 line-most : (i : ℕ) (e : Conj) → length e ≤ 120 → length (lineText i e) ≤ 5782
 unfolding lineText
 line-most i e h =
-    omega
-    (arith, length-append (decimal i) (58 ∷ (flatMap nodeText e ++ (10 ∷ []))), length-append (flatMap nodeText e) (10 ∷ []), decimal-most i, nodes-most e)
+    let nodes = flatMap nodeText e in
+    omega (arith, length-append (decimal i) (58 ∷ (nodes ++ (10 ∷ []))), length-append nodes (10 ∷ []), decimal-most i, nodes-most e)
 
 lines-most : (i : ℕ) (S : Conjuncts) → ((j : ℕ) → j < length S → length (getD S j []) ≤ 120) → length (linesFrom i S) ≤ 5782 * length S
 unfolding linesFrom

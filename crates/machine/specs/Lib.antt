@@ -1,2 +1,2 @@
 pub mod Memory
-pub mod Decoding
+pub mod Executing

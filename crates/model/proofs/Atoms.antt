@@ -1,5 +1,4 @@
 -- The atoms of a conjunct: when two are the same, what holds of each of them, that each is among the distinct atoms, and its number by its rank.
--- Assumes nothing.
 use mathlib.Core.Path.{_≡_, refl, ap, ap₂, subst, sym, _∙_}
 use mathlib.Core.Logic.{_⊎_, inl, inr}
 use mathlib.Core.Bool.{Bool, true, false, _&&_, _||_, cond}
@@ -7,10 +6,9 @@ use mathlib.Core.List.{List, [], _∷_, map}
 use Prim.Native.Nat.{ℕ, zero, suc}
 use lib.Dec.{eqb}
 use borrow.Author.Tests.{eqb-true}
-use Rattle.model.specs.Conjunct.{Source, field, cell, Atom, Node, const, atom, var, op, conv, Conj, sameSource, sameAtom, without, note, atoms, rank, onAtom}
+use Rattle.model.specs.Conjunct.{Source, field, cell, Atom, Node, const, atom, var, op, conv, Conj, sameSource, sameAtom, without, note, atoms, rank, onAtom, AtAtom, has}
 use Rattle.model.specs.Lists.{All}
 use Rattle.model.proofs.Lists.{all-imp, all-map}
-use Rattle.model.proofs.Meaning.{AtAtom}
 use Rattle.model.proofs.Tests.{decide, case, true→T, and-left, and-right, eqb-self}
 
 -- ---- the same source, the same atom
@@ -94,11 +92,6 @@ module _ (P : Atom → Type 0) where
   atoms-all (var x ty ∷ e) h = atoms-all e (h .1)
   atoms-all (op o ty ∷ e) h = atoms-all e (h .1)
   atoms-all (conv ty ∷ e) h = atoms-all e (h .1)
-
--- is the atom in the list?
-abbrev pub has : Atom → List Atom → Bool
-has a [] = false
-has a (b ∷ bs) = sameAtom a b || has a bs
 
 -- another atom stays when b is removed
 has-without : (a b : Atom) (bs : List Atom) → sameAtom a b ≡ false → has a bs ≡ true → has a (without b bs) ≡ true

@@ -1,5 +1,4 @@
 -- Sets: members of `insert` and `union`, canonical lists, and the algebra of unions.
--- Assumes nothing.
 use mathlib.Core.Path.{_≡_, refl, sym, _∙_, ap, ap₂, subst}
 use mathlib.Core.Logic.{_⊎_, inl, inr, ⊎-elim, _↔_}
 use mathlib.Core.List.{[], _∷_}
@@ -8,9 +7,9 @@ use native.Mathlib.Omega.{arith}
 use lib.ListN.{length}
 use Rattle.model.specs.Conjunct.{Conj, Conjuncts, order, place, withConjunct, unionOf}
 use Rattle.model.specs.Lists.{All}
+use Rattle.model.specs.TidySets.{Less, Canon, Mem, Sub}
 use Rattle.model.proofs.Lists.{all-imp}
 use Rattle.model.proofs.Order.{flip, order-flip, less-irreflexive, less-trans, order-eq}
-use Rattle.model.proofs.TidySets.{Less, Canon, Mem, Sub}
 
 -- ---- members
 

@@ -1,5 +1,4 @@
 -- The causes of document 02's card 2: what each says of a step, and that beside them nothing has moved.
--- Assumes nothing.
 use mathlib.Core.Path.{_≡_, refl, sym, subst}
 use mathlib.Core.List.{List}
 use mathlib.Core.Logic.{inl, inr}

@@ -1,9 +1,8 @@
 -- What checks 2 to 8 leave of a program: each test passes, and so numbers name something and types agree in every statement.
--- Assumes nothing.
 use mathlib.Core.Path.{_≡_, refl, sym, subst}
-use mathlib.Core.Bool.{Bool, true, _&&_, not, false≢true}
+use mathlib.Core.Bool.{Bool, true, false, _&&_, not}
 use mathlib.Core.List.{List, map}
-use Prim.Native.Nat.{ℕ, zero, suc, _<_}
+use Prim.Native.Nat.{ℕ, _<_}
 use lib.Dec.{leb, ltb, eqb}
 use lib.ListN.{length}
 use borrow.Author.Tests.{ltb-true, eqb-true}
@@ -11,13 +10,16 @@ use Rattle.arith.specs.Types.{signed}
 use Rattle.model.specs.Lists.{All, every}
 use Rattle.model.specs.Refusals.{Out, ok, _>>=_, check, wrongSections, tooManyEntries, wrongTypes, wrongStatement, typesDisagree, wrongImmediate}
 use Rattle.model.specs.Code.{Code, treeOf}
-use Rattle.model.specs.Program.{Statement, Tables, tablesAt, layoutOf, sectionsRight, countsRight, typeRight, arrayRight, typesRight, formRight, variableType, fieldType, arrayOf, typesAgree, immediateRight, stmtOf, Program, readProgram}
+use Rattle.model.specs.Program.{Statement, Tables, tablesAt, layoutOf, sectionsRight, countsRight, typeRight, arrayRight, typesRight}
+use Rattle.model.specs.Program.{isVariable, isField, isArray, unused, formOf, formRight, variableType, fieldType, arrayOf, alike, cellAlike}
+use Rattle.model.specs.Program.{agreeOf, typesAgree, immediateOf, immediateRight, meaningOf, stmtOf, Program, readProgram}
+use Rattle.model.specs.Kinds.{Kind, aNumber, aCopy, anOperation, aConversion, aRead, aLoad, aStore, aSite, anIf, anElse, anEnd, aWhile, noKind, kindOf}
+use Rattle.model.specs.Typing.{AtPlain, Indexed, TypedInstr, Typed}
 use Rattle.model.proofs.Every.{every-all}
 use Rattle.model.proofs.Lists.{all-imp₃, all-map, all-getD}
 use Rattle.model.proofs.Results.{check-ok, bind-ok, ok-eq}
 use Rattle.model.proofs.Tests.{and-left, and-right}
-use Rattle.model.proofs.Trees.{AtPlain, tree-each}
-use Rattle.model.proofs.Typing.{TypedInstr, Typed}
+use Rattle.model.proofs.Trees.{tree-each}
 
 -- ---- a program that is read
 
@@ -55,7 +57,6 @@ program-checked s P e =
 
 -- ---- one statement
 
--- the tests of a statement pass, by its kind; then it is typed
 module _ (T : Tables) (known : typesRight T ≡ true) where
   pub fields-known : All (λ t. typeRight t ≡ true) (T .fields)
   unfolding typesRight
@@ -84,71 +85,85 @@ module _ (T : Tables) (known : typesRight T ≡ true) where
       let two = typeRight (A .ty) && eqb (A .pad) 0 in
       ltb-true (A .ty) 8 (and-left (typeRight (A .ty)) (eqb (A .pad) 0) (and-left two (leb 1 (A .len)) (and-left three (leb (A .len) 256) right)))
 
-  -- the parts of a row of check 5
+  -- the parts of a form
   row-a : (p q r s : Bool) → (p && q && r && s) ≡ true → p ≡ true
   row-a p q r s e = and-left p q (and-left (p && q) r (and-left (p && q && r) s e))
 
   row-b : (p q r s : Bool) → (p && q && r && s) ≡ true → q ≡ true
   row-b p q r s e = and-right p q (and-left (p && q) r (and-left (p && q && r) s e))
 
-  module _ (a b c imm : ℕ) where
-    abbrev entry : ℕ → Statement
-    entry k = record { kind = k; a = a; b = b; c = c; imm = imm }
+  module _ (q : Statement) where
+    abbrev a : ℕ
+    a = q .a
+
+    abbrev b : ℕ
+    b = q .b
+
+    abbrev c : ℕ
+    c = q .c
 
     abbrev isV : ℕ → Bool
-    isV x = ltb x (length (T .variables))
+    isV x = isVariable T x
+
+    abbrev free : ℕ → Bool
+    free x = unused x
 
     abbrev ty : ℕ
     ty = variableType T a
 
-    -- kinds 2 to 5
-    operands : (isV a && isV b && isV c && eqb imm 0) ≡ true → (eqb (variableType T b) ty && eqb (variableType T c) ty) ≡ true
-        → ((ty ≡ ty) × (ty < 8)) × (((variableType T b ≡ ty) × (ty < 8)) × ((variableType T c ≡ ty) × (ty < 8)))
-    operands f g =
-        let small = variable-type a (row-a (isV a) (isV b) (isV c) (eqb imm 0) f) in
-        let same-b = eqb-true (variableType T b) ty (and-left (eqb (variableType T b) ty) (eqb (variableType T c) ty) g) in
-        let same-c = eqb-true (variableType T c) ty (and-right (eqb (variableType T b) ty) (eqb (variableType T c) ty) g) in
-        ((refl, small), ((same-b, small), (same-c, small)))
+    -- an array and a variable of its type
+    cell-array : (r x i : ℕ) → cellAlike T r x i ≡ true → arrayOf T r .ty ≡ variableType T x
+    cell-array r x i g =
+        eqb-true (arrayOf T r .ty) (variableType T x) (and-left (eqb (arrayOf T r .ty) (variableType T x)) (not (signed (variableType T i))) g)
 
-    kind-typed : (k : ℕ) → formRight T (entry k) ≡ true → typesAgree T (entry k) ≡ true → immediateRight T (entry k) ≡ true
-        → AtPlain (TypedInstr T) (stmtOf T (entry k))
-    unfolding formRight typesAgree immediateRight stmtOf
-    kind-typed zero f g h = ((refl, variable-type a (and-left (isV a) (eqb b 0) (and-left (isV a && eqb b 0) (eqb c 0) f))), h)
-    kind-typed (suc zero) f g h =
-        let small = variable-type a (row-a (isV a) (isV b) (eqb c 0) (eqb imm 0) f) in
+    -- an index of an unsigned type
+    cell-index : (r x i : ℕ) → cellAlike T r x i ≡ true → Indexed T r (arrayOf T r .len) i
+    cell-index r x i g =
+        (refl, not-true (signed (variableType T i)) (and-right (eqb (arrayOf T r .ty) (variableType T x)) (not (signed (variableType T i))) g))
+      where
+        not-true : (t : Bool) → not t ≡ true → t ≡ false
+        not-true true e = sym e
+        not-true false e = refl
+
+    -- the tests of a statement of each kind leave it typed
+    kind-typed : (k : Kind) → formOf k T q ≡ true → agreeOf k T q ≡ true → immediateOf k T q ≡ true → AtPlain (TypedInstr T) (meaningOf k T q)
+    kind-typed aNumber f g h = ((refl, variable-type a (and-left (isV a) (free b) (and-left (isV a && free b) (free c) f))), h)
+    kind-typed aCopy f g h =
+        let small = variable-type a (row-a (isV a) (isV b) (free c) (free (q .imm)) f) in
         ((refl, small), (eqb-true (variableType T b) ty g, small))
-    kind-typed (suc (suc zero)) f g h = operands f g
-    kind-typed (suc (suc (suc zero))) f g h = operands f g
-    kind-typed (suc (suc (suc (suc zero)))) f g h = operands f g
-    kind-typed (suc (suc (suc (suc (suc zero))))) f g h = operands f g
-    kind-typed (suc (suc (suc (suc (suc (suc zero)))))) f g h =
-        ((refl, variable-type a (row-a (isV a) (isV b) (eqb c 0) (eqb imm 0) f)), (refl, variable-type b (row-b (isV a) (isV b) (eqb c 0) (eqb imm 0) f)))
-    kind-typed (suc (suc (suc (suc (suc (suc (suc zero))))))) f g h =
-        let isF = ltb b (length (T .fields)) in (
-          (refl, variable-type a (row-a (isV a) isF (eqb c 0) (eqb imm 0) f)),
-          (eqb-true (fieldType T b) ty g, ltb-true b (length (T .fields)) (row-b (isV a) isF (eqb c 0) (eqb imm 0) f)),
-        )
-    kind-typed (suc (suc (suc (suc (suc (suc (suc (suc zero)))))))) f g h =
-        let isA = ltb b (length (T .arrays)) in
-        let small = variable-type a (row-a (isV a) isA (isV c) (eqb imm 0) f) in
-        ((refl, small), (eqb-true (arrayOf T b .ty) ty (and-left (eqb (arrayOf T b .ty) ty) (not (signed (variableType T c))) g), small))
-    kind-typed (suc (suc (suc (suc (suc (suc (suc (suc (suc zero))))))))) f g h =
-        let isA = ltb a (length (T .arrays)) in
-        let small = array-type a (row-a isA (isV b) (isV c) (eqb imm 0) f) in
-        let same = eqb-true (arrayOf T a .ty) (variableType T c) (and-left (eqb (arrayOf T a .ty) (variableType T c)) (not (signed (variableType T b))) g) in
-        ((refl, small), (sym same, small))
-    kind-typed (suc (suc (suc (suc (suc (suc (suc (suc (suc (suc zero)))))))))) f g h = (refl, variable-type a (row-a (isV a) (eqb b 0) (eqb c 0) (eqb imm 0) f))
-    kind-typed (suc (suc (suc (suc (suc (suc (suc (suc (suc (suc (suc zero))))))))))) f g h = tt
-    kind-typed (suc (suc (suc (suc (suc (suc (suc (suc (suc (suc (suc (suc zero)))))))))))) f g h = tt
-    kind-typed (suc (suc (suc (suc (suc (suc (suc (suc (suc (suc (suc (suc (suc zero))))))))))))) f g h = tt
-    kind-typed (suc (suc (suc (suc (suc (suc (suc (suc (suc (suc (suc (suc (suc (suc zero)))))))))))))) f g h = tt
-    kind-typed (suc (suc (suc (suc (suc (suc (suc (suc (suc (suc (suc (suc (suc (suc (suc k))))))))))))))) f g h = absurd (false≢true f)
+    kind-typed (anOperation o) f g h =
+        let small = variable-type a (row-a (isV a) (isV b) (isV c) (free (q .imm)) f) in
+        let same-b = eqb-true (variableType T b) ty (and-left (alike T b a) (alike T c a) g) in
+        let same-c = eqb-true (variableType T c) ty (and-right (alike T b a) (alike T c a) g) in
+        ((refl, small), ((same-b, small), (same-c, small)))
+    kind-typed aConversion f g h =
+        ((refl, variable-type a (row-a (isV a) (isV b) (free c) (free (q .imm)) f)), (refl, variable-type b (row-b (isV a) (isV b) (free c) (free (q .imm)) f)))
+    kind-typed aRead f g h = (
+      (refl, variable-type a (row-a (isV a) (isField T b) (free c) (free (q .imm)) f)),
+      (eqb-true (fieldType T b) ty g, ltb-true b (length (T .fields)) (row-b (isV a) (isField T b) (free c) (free (q .imm)) f)),
+    )
+    kind-typed aLoad f g h =
+        let small = variable-type a (row-a (isV a) (isArray T b) (isV c) (free (q .imm)) f) in
+        ((refl, small), ((cell-array b a c g, small), cell-index b a c g))
+    kind-typed aStore f g h =
+        let small = array-type a (row-a (isArray T a) (isV b) (isV c) (free (q .imm)) f) in
+        ((refl, small), (sym (cell-array a c b g), small), cell-index a c b g)
+    kind-typed aSite f g h = (refl, variable-type a (row-a (isV a) (free b) (free c) (free (q .imm)) f))
+    kind-typed anIf f g h = tt
+    kind-typed anElse f g h = tt
+    kind-typed anEnd f g h = tt
+    kind-typed aWhile f g h = tt
+    kind-typed noKind f g h = tt
+
+    statement-typed : formRight T q ≡ true → typesAgree T q ≡ true → immediateRight T q ≡ true → AtPlain (TypedInstr T) (stmtOf T q)
+    unfolding formRight typesAgree immediateRight stmtOf
+    statement-typed = kind-typed (kindOf (q .kind))
 
 pub program-typed : (s : List ℕ) (P : Program) → Checked s P → Typed (P .tables) (P .code)
 program-typed s P c =
     let T = P .tables in
     tree-each (TypedInstr T) (map (stmtOf T) (T .statements)) (P .code)
     (all-map (AtPlain (TypedInstr T)) (stmtOf T) (T .statements)
-    (all-imp₃ (λ q. kind-typed T (c .types) (q .a) (q .b) (q .c) (q .imm) (q .kind)) (T .statements)
+    (all-imp₃ (statement-typed T (c .types)) (T .statements)
     (every-all (formRight T) (T .statements) (c .forms)) (every-all (typesAgree T) (T .statements) (c .agree)) (every-all (immediateRight T) (T .statements) (c .immediates))))
     (c .tree)

@@ -1,6 +1,5 @@
 -- The filter tries every choice of readings: a conjunct of readings holds exactly where it is safe, and is held exactly where some
 -- choice overflows. A combination is the list of the values that a choice gives to the atoms.
--- Assumes nothing.
 use mathlib.Core.Path.{_≡_, refl, sym, ap, subst, _∙_}
 use mathlib.Core.Bool.{Bool, true, false, _&&_, _||_, cond, and-true, true≢false}
 use mathlib.Core.List.{List, [], _∷_, map, List·Memᴰ}
@@ -12,18 +11,17 @@ use Rattle.arith.specs.Step.{passes}
 use Rattle.model.specs.Lists.{All, every}
 use Rattle.model.specs.Refusals.{ok, wrongCondition}
 use Rattle.model.specs.Bytes.{byteAt, u16At, u32At, part, Pair, pairsAt, chained}
-use Rattle.model.specs.Conjunct.{Source, field, cell, Atom, const, atom, op, conv, Conj, Conjuncts, sameAtom, atoms}
+use Rattle.model.specs.Conjunct.{Source, field, cell, Atom, const, atom, op, conv, Conj, Conjuncts, sameAtom, atoms, has, AtAtom}
 use Rattle.model.specs.Program.{typeRight}
 use Rattle.model.specs.Values.{add, sub, mul, div}
 use Rattle.model.specs.Condition.{Condition, conjunctsAt, nodeAt, conjunctAt, whole, numbered, rising, lengthRight, nodesRight, readCondition}
 use Rattle.model.specs.Input.{Input}
 use Rattle.model.specs.Filter.{evaluate, valuesOf, combinations, valueIn, combinationsOf, holds}
 use Rattle.model.specs.Demands.{IsReading, Safe, Overflows}
-use Rattle.model.proofs.Atoms.{every-imp, has, has-atoms, atoms-all, atom-eq}
+use Rattle.model.proofs.Atoms.{every-imp, has-atoms, atoms-all, atom-eq}
 use Rattle.model.proofs.Combining.{values, every-combinations}
 use Rattle.model.proofs.Every.{every-mem, every-not}
 use Rattle.model.proofs.Lists.{all-of, all-imp₂, all-map, all-getD-or, entries-all}
-use Rattle.model.proofs.Meaning.{AtAtom}
 use Rattle.model.proofs.Results.{ok-eq, check-ok}
 use Rattle.model.proofs.Tests.{case, true→T}
 use Rattle.model.proofs.Worked.{evaluate-same}

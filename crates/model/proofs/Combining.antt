@@ -1,5 +1,4 @@
 -- The combinations of values: how many there are, and the test of every one of them.
--- Assumes nothing.
 use mathlib.Core.Path.{_≡_, refl, sym, ap, _∙_}
 use mathlib.Core.Bool.{Bool, _&&_}
 use mathlib.Core.List.{List, [], _∷_, map, flatMap}

@@ -1,5 +1,4 @@
 -- Demand 3 over byte strings: an accepted program, an input that passes under its condition, and any run of the two.
--- Assumes nothing.
 use mathlib.Core.Path.{_≡_, sym, _∙_, ap, subst}
 use mathlib.Core.Bool.{true, false, _&&_, cond}
 use mathlib.Core.List.{List, [], _∷_, map, Forall₂, Forall₂·nil, Forall₂·cons}

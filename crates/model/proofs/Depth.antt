@@ -1,5 +1,4 @@
 -- How deep the blocks of a program are nested: at most 4.
--- Assumes nothing.
 use mathlib.Core.Path.{_≡_, refl, sym, ap, subst, _∙_}
 use mathlib.Core.Bool.{true, false}
 use mathlib.Core.List.{List, [], _∷_, map}
@@ -11,17 +10,9 @@ use Rattle.model.specs.Code.{Code, done, step, branch, loop, Stmt, plain
 use Rattle.model.specs.Program.{Tables, stmtOf, Program, readProgram}
 use Rattle.model.specs.Refusals.{Out, ok, refused}
 use Rattle.model.specs.Run.{append}
+use Rattle.model.specs.Nesting.{Nested}
 use Rattle.model.proofs.Checked.{program-checked}
 use Rattle.model.proofs.Results.{ok-eq, refused-ok, check-ok, bind-ok}
-
--- no block lies in more than so many others
-abbrev pub Nested : ℕ → Code → Type 0
-Nested d done = Unit {0}
-Nested d (step l x rest) = Nested d rest
-Nested zero (branch l v y n rest) = ⊥
-Nested (suc d) (branch l v y n rest) = Nested d y × Nested d n × Nested (suc d) rest
-Nested zero (loop l v body rest) = ⊥
-Nested (suc d) (loop l v body rest) = Nested d body × Nested (suc d) rest
 
 -- of two pieces one after the other: both
 pub nested-append : (d : ℕ) (b c : Code) → Nested d (append b c) → Nested d b × Nested d c

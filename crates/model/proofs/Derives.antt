@@ -1,6 +1,5 @@
 -- Every conjunct on the walk is one whole expression in which types agree, and names only what the program's tables have;
 -- so every conjunct that the analysis derives may stand in a condition file.
--- Assumes nothing.
 use mathlib.Core.Path.{_≡_, refl, sym, _∙_, ap, subst, fun-ext}
 use mathlib.Core.Bool.{Bool, true, false, cond}
 use mathlib.Core.List.{List, [], _∷_, _++_, map, flatMap}
@@ -17,14 +16,14 @@ use Rattle.model.specs.Program.{Program, Tables, variableType, arrayOf, 
 use Rattle.model.specs.Conjunct.{Source, field, cell, Atom, Node, const, atom, var, op, conv, Conj, Conjuncts, sameAtom, atoms, renamed, onAtom, renumber}
 use Rattle.model.specs.Walk.{nodes, replace, onArray, loads, swap, swapAll, subsets, before, zeroed, derived}
 use Rattle.model.specs.Condition.{sourceType, typeNode, typeNodes, single, whole}
+use Rattle.model.specs.Formed.{FileNode, Whole, Formed}
+use Rattle.model.specs.Typing.{TypedVar, TypedArray, TypedField, TypedRight, TypedInstr}
 use Rattle.model.proofs.Atoms.{atom-eq}
 use Rattle.model.proofs.Checked.{program-checked, program-typed}
-use Rattle.model.proofs.Formed.{FileNode, Whole, Formed}
 use Rattle.model.proofs.Invariant.{derived-every}
 use Rattle.model.proofs.Lists.{all-append}
 use Rattle.model.proofs.Results.{bind-assoc, bind-self}
 use Rattle.model.proofs.Tests.{case, true→T, and-left, eqb-self}
-use Rattle.model.proofs.Typing.{TypedVar, TypedArray, TypedField, TypedRight, TypedInstr}
 
 -- ---- whole expressions
 
@@ -114,7 +113,7 @@ module _ (T : Tables) where
   right-stands l a ty (calc o b c) s h = record { nodes = (h .0, (h .1, (s, tt))); types = λ st. rw (eqb-self ty) }
   right-stands l a ty (change b u) s h = record { nodes = (h, (s, tt)); types = λ st. refl }
   right-stands l a ty (read f) s h = record { nodes = (h, tt); types = λ st. refl }
-  right-stands l a ty (load r k i) s h = record { nodes = (h, tt); types = λ st. refl }
+  right-stands l a ty (load r k i) s h = record { nodes = (h .0, tt); types = λ st. refl }
 
   -- what stands for the variable in its type stands for it in each node
   replace-stands : (a ty : ℕ) (r : List Node) → variableType T a ≡ ty → Stand WalkNode (var a ty) r → (v : Node) → WalkNode v → Stand WalkNode v (replace a r v)

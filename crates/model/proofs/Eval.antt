@@ -1,17 +1,16 @@
 -- The value of a changed conjunct is the value of the conjunct in a changed state; renumbering changes no value.
--- Assumes nothing.
 use mathlib.Core.Path.{_≡_, refl, sym, _∙_, ap}
 use mathlib.Core.Bool.{true}
 use mathlib.Core.List.{List, [], _∷_, _++_, map, flatMap}
 use Prim.Native.Nat.{ℕ, zero, suc}
-use Rattle.model.specs.Conjunct.{Atom, Node, const, atom, var, op, conv, Conj, atoms, renamed, onAtom, renumber}
+use Rattle.model.specs.Conjunct.{Atom, Node, const, atom, var, op, conv, Conj, atoms, renamed, onAtom, renumber, has, AtAtom}
 use Rattle.model.specs.Input.{Input}
 use Rattle.model.specs.Lists.{All}
 use Rattle.model.specs.Run.{State}
 use Rattle.model.specs.Values.{Val}
-use Rattle.model.proofs.Atoms.{has, has-atoms, nth, nth-rank, every-map}
+use Rattle.model.proofs.Atoms.{has-atoms, nth, nth-rank, every-map}
 use Rattle.model.proofs.Lists.{all-imp, all-append}
-use Rattle.model.proofs.Meaning.{AtAtom, Env, pick, push, eval, topMark, LiveAtom, Live, Holds, Meets}
+use Rattle.model.proofs.Meaning.{Env, pick, push, eval, topMark, LiveAtom, Live, Holds, Meets}
 
 -- ---- changed conjuncts
 

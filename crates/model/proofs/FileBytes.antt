@@ -1,5 +1,4 @@
 -- The bytes of a condition file: how many they are, and what its reader finds in them.
--- Assumes nothing.
 use mathlib.Core.Path.{_≡_, refl, sym, _∙_, ap, ap₂}
 use mathlib.Core.Bool.{true}
 use mathlib.Core.List.{List, [], _∷_, _++_, map, flatMap, append-assoc, map-id}
@@ -13,18 +12,13 @@ use Rattle.model.specs.Lists.{All, every}
 use Rattle.model.specs.Bytes.{u32At, bytes4, part, Pair, pairAt, pairsAt, chained, entries}
 use Rattle.model.specs.Conjunct.{Conj, Conjuncts}
 use Rattle.model.specs.Condition.{conjunctBytes, pairBytes, conjunctsAt, encode, nodeAt, conjunctAt, nodeRight, nodesRight}
+use Rattle.model.specs.Formed.{FileNode, size}
 use Rattle.model.proofs.Every.{every-of-map, all-every}
-use Rattle.model.proofs.Formed.{FileNode}
 use Rattle.model.proofs.Lists.{all-of}
 use Rattle.model.proofs.LittleEndian.{four-back, u32-bytes4}
 use Rattle.model.proofs.NodeBytes.{conjunct-size, conjunct-read, conjunct-right}
 use Rattle.model.proofs.Places.{From, from-after, Local, local-from, length-things, entries-read}
 use Rattle.model.proofs.Tests.{eqb-self}
-
--- how many nodes a set has
-abbrev pub size : Conjuncts → ℕ
-size [] = 0
-size (e ∷ S) = length e + size S
 
 -- the pair of a conjunct that stands at a place
 abbrev pub pairOf : ℕ → Conj → Pair

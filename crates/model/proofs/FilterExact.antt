@@ -1,6 +1,5 @@
 -- Demand 2: the filter passes an input exactly where no choice of readings overflows at a step of a conjunct, and holds
 -- it back exactly where one does.
--- Assumes nothing.
 use mathlib.Core.Path.{_≡_, refl, ap, sym, _∙_}
 use mathlib.Core.Bool.{Bool, true, false, cond}
 use mathlib.Core.List.{List}

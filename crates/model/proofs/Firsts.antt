@@ -1,5 +1,4 @@
 -- What is found first in a list: in lists made of lists, at a place before which there is nothing, and that there is something at all.
--- Assumes nothing.
 use mathlib.Core.Path.{_≡_, refl, sym, ap, _∙_}
 use mathlib.Core.Bool.{Bool, true, false, _&&_}
 use mathlib.Core.List.{List, [], _∷_, _++_, map, flatMap}

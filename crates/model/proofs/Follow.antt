@@ -1,5 +1,4 @@
 -- The exact run follows the run: a value is marked exactly where a step of its making overflowed, and unmarked it is its whole number.
--- Assumes nothing.
 use mathlib.Core.Path.{_≡_, refl, sym, _∙_, ap, ap₂}
 use mathlib.Core.Bool.{Bool, true, false, _&&_, _||_, cond, true≢false, or-assoc, or-comm, or-self-left}
 use mathlib.Core.List.{List, [], _∷_, _++_, Forall₂, Forall₂·nil, Forall₂·cons}

@@ -1,13 +1,12 @@
 -- One rule over a set, conjunct by conjunct: its members, canonical and monotone, and what holds of every conjunct.
--- Assumes nothing.
 use mathlib.Core.Path.{_≡_, refl, subst}
 use mathlib.Core.Logic.{_⊎_, inl, inr, ⊎-elim}
 use mathlib.Core.List.{List, [], _∷_, map}
 use Rattle.model.specs.Conjunct.{Conj, Conjuncts, unionOf, renumber}
 use Rattle.model.specs.Lists.{All}
 use Rattle.model.specs.Walk.{gather}
+use Rattle.model.specs.TidySets.{Canon, Mem, Sub}
 use Rattle.model.proofs.Canonical.{all-mem, mem-all, union-from, union-left, union-right, union-least, union-canon, union-every, canon-ext}
-use Rattle.model.proofs.TidySets.{Canon, Mem, Sub}
 
 pub gather-canon : (f : Conj → List Conj) (S : Conjuncts) → Canon (gather f S)
 unfolding gather

@@ -1,5 +1,4 @@
 -- Laws of the walk as a relation: it is the walk where its sets are within the limits, and it is monotone.
--- Assumes nothing.
 use mathlib.Core.Path.{_≡_, refl, sym, _∙_, ap, subst}
 use mathlib.Core.Logic.{_⊎_, inl, inr}
 use mathlib.Core.Bool.{true, false}
@@ -8,6 +7,7 @@ use Rattle.model.specs.Code.{Code, done, step, branch, loop}
 use Rattle.model.specs.Conjunct.{Conjuncts, unionOf, same, limits}
 use Rattle.model.specs.Refusals.{Out, ok, _>>=_}
 use Rattle.model.specs.Walk.{before, gather, back, rounds, joined, walk}
+use Rattle.model.specs.TidySets.{Mem, Sub, Fine}
 use Rattle.model.proofs.Canonical.{union-mono}
 use Rattle.model.proofs.Gather.{gather-mono}
 use Rattle.model.proofs.Limits.{limits-inv, fine-limits}
@@ -15,7 +15,6 @@ use Rattle.model.proofs.Order.{same-self, same-eq}
 use Rattle.model.proofs.Paths.{Rounds, Goes}
 use Rattle.model.proofs.Results.{bind-ok, ok-eq, refused-ok}
 use Rattle.model.proofs.Tests.{case, true→T}
-use Rattle.model.proofs.TidySets.{Mem, Sub, Fine}
 
 -- ---- rounds, over any body
 
@@ -85,7 +84,8 @@ goes-mono K K′ (loop l v body rest) S T R Q s g h =
 
 -- ---- the walk itself
 
-module _ (f : Conjuncts → Out Conjuncts) (body : Conjuncts → Conjuncts → Type 0) (K : Conjuncts → Type 0) (fine : (X : Conjuncts) → K X → Fine X) (does : (S B : Conjuncts) → body S B → f S ≡ ok B) (D : Conjuncts) where
+module _ (f : Conjuncts → Out Conjuncts) (body : Conjuncts → Conjuncts → Type 0) (K : Conjuncts → Type 0) (fine : (X : Conjuncts) → K X → Fine X)
+    (does : (S B : Conjuncts) → body S B → f S ≡ ok B) (D : Conjuncts) where
   one : (S B C : Conjuncts) → body S B → body S C → B ≡ C
   one S B C g h = ok-eq B C (sym (does S B g) ∙ does S C h)
 

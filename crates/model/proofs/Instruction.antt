@@ -1,5 +1,4 @@
 -- One statement: what the state before meets of the conjuncts before it, the state after meets of the conjunct after it.
--- Assumes nothing.
 use mathlib.Core.Path.{_≡_, refl, sym, _∙_, ap, subst}
 use mathlib.Core.Logic.{_⊎_, inl, inr}
 use mathlib.Core.Bool.{Bool, true, false, _&&_, _||_, cond}
@@ -11,16 +10,16 @@ use lib.IntN.{ℤ, natAbs}
 use lib.ListN.{length}
 use borrow.Author.Tests.{eqb-true}
 use Rattle.model.specs.Code.{Right, number, copy, calc, change, read, load, Instr, assign, store, site}
-use Rattle.model.specs.Conjunct.{Source, field, cell, Atom, Node, const, atom, var, op, conv, Conj, sameAtom, atoms}
+use Rattle.model.specs.Conjunct.{Source, field, cell, Atom, Node, const, atom, var, op, conv, Conj, sameAtom, atoms, has, AtAtom}
 use Rattle.model.specs.Input.{Input}
 use Rattle.model.specs.Lists.{All}
 use Rattle.model.specs.Run.{State, setVar, setCell, reading, takingChoice, index, exec}
 use Rattle.model.specs.Values.{Val}
 use Rattle.model.specs.Walk.{nodes, replace, onArray, loads, swap, swapAll, subsets, before}
-use Rattle.model.proofs.Atoms.{every-imp, every-map, has, has-atoms, atom-eq}
+use Rattle.model.proofs.Atoms.{every-imp, every-map, has-atoms, atom-eq}
 use Rattle.model.proofs.Eval.{eval-flatMap, holds-map, holds-same, live-flatMap}
 use Rattle.model.proofs.Lists.{all-imp, all-left, all-right}
-use Rattle.model.proofs.Meaning.{AtAtom, Env, pick, push, eval, topMark, LiveAtom, Live, Holds, Meets}
+use Rattle.model.proofs.Meaning.{Env, pick, push, eval, topMark, LiveAtom, Live, Holds, Meets}
 use Rattle.model.proofs.Runs.{Leads}
 use Rattle.model.proofs.Tests.{case, true→T, eqb-self, and-right}
 

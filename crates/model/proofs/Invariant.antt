@@ -1,6 +1,5 @@
 -- A property that every rule keeps is one of every set of an analysis: of those of the walk, of those of the sites and of the condition.
 -- Each result has it, and each refusal's number has another.
--- Assumes nothing.
 use mathlib.Core.Path.{_≡_}
 use mathlib.Core.Bool.{true, false}
 use mathlib.Core.List.{List, [], _∷_, _++_, map}
@@ -10,13 +9,13 @@ use Rattle.model.specs.Conjunct.{var, Conj, Conjuncts, unionOf, same, li
 use Rattle.model.specs.Lists.{All}
 use Rattle.model.specs.Refusals.{Out, ok, _>>=_}
 use Rattle.model.specs.Walk.{before, gather, back, rounds, joined, walk, here, sites, zeroed, start, join, derived}
+use Rattle.model.specs.Typing.{Each}
 use Rattle.model.proofs.Canonical.{union-every}
 use Rattle.model.proofs.Gather.{gather-every}
 use Rattle.model.proofs.Limits.{limits-cases}
 use Rattle.model.proofs.Lists.{all-imp, all-append, all-map}
 use Rattle.model.proofs.Results.{Ends, ends-bind, gives-ok, Gives}
 use Rattle.model.proofs.Tests.{case}
-use Rattle.model.proofs.Trees.{Each}
 
 -- ---- a property of sets that unions within the limits keep
 

@@ -1,6 +1,5 @@
 -- What is left in scratch: by an operation that did nothing, by one that handed on the documented words alone, and by two one after
 -- the other.
--- Assumes nothing.
 use mathlib.Core.Path.{_≡_, refl, sym, ap, _∙_}
 use mathlib.Core.List.{List, _++_}
 use Prim.Native.Nat.{ℕ, _+_, _-_, _≤_, _<_}

@@ -5,7 +5,6 @@ pub mod Every
 pub mod Results
 pub mod LittleEndian
 -- sets of conjuncts
-pub mod TidySets
 pub mod Order
 pub mod Canonical
 pub mod Limits
@@ -20,7 +19,6 @@ pub mod Trees
 pub mod Invariant
 pub mod Tidied
 pub mod Walks
-pub mod Touch
 pub mod Skip
 pub mod Paths
 pub mod Goes
@@ -34,12 +32,11 @@ pub mod Instruction
 pub mod Sound
 pub mod Follow
 -- what is read: typed programs, typed inputs, and the log
-pub mod Typing
+pub mod KindNumbers
 pub mod Checked
 pub mod Typed
 pub mod Records
 -- the condition file
-pub mod Formed
 pub mod Derives
 pub mod Places
 pub mod Parts

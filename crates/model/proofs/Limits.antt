@@ -1,5 +1,4 @@
 -- Sets within the limits: what the rule's last step gives, and when it changes nothing.
--- Assumes nothing.
 use mathlib.Core.Path.{_≡_, refl}
 use mathlib.Core.Bool.{Bool, true, false, cond}
 use mathlib.Core.List.{[], _∷_}
@@ -10,9 +9,9 @@ use borrow.Author.Tests.{ltb-false, le-ltb}
 use Rattle.model.specs.Conjunct.{Conjuncts, long, limits}
 use Rattle.model.specs.Lists.{All}
 use Rattle.model.specs.Refusals.{Out, ok, refused}
+use Rattle.model.specs.TidySets.{Fine}
 use Rattle.model.proofs.Results.{ok-eq, refused-ok}
 use Rattle.model.proofs.Tests.{or-left, or-right}
-use Rattle.model.proofs.TidySets.{Fine}
 
 -- by cases on the limits: P speaks of the result
 pub limits-cases : (P : Out Conjuncts → Type 0) (S : Conjuncts) → P (refused 9) → P (refused 10) → (Fine S → P (ok S)) → P (limits S)

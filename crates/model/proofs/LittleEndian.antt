@@ -1,5 +1,4 @@
 -- The bytes of a number, read back, give the number.
--- Assumes nothing.
 use mathlib.Core.Path.{_≡_, _∙_, ap₂}
 use mathlib.Core.List.{List, _++_}
 use Prim.Native.Nat.{ℕ, _+_, _*_, _%_, _/_}

@@ -1,6 +1,5 @@
 -- What a conjunct means in a state, whichever readings and cells its atoms take: its value with its mark, as the run would
 -- work it out, and when a state meets it.
--- Assumes nothing.
 use mathlib.Core.Path.{_≡_}
 use mathlib.Core.Bool.{Bool, false}
 use mathlib.Core.List.{List, [], _∷_}
@@ -10,17 +9,9 @@ use lib.ListN.{length, getD, drop}
 use Rattle.arith.specs.Words.{immediate}
 use Rattle.model.specs.Lists.{All}
 use Rattle.model.specs.Values.{Val, plain, operated, converted}
-use Rattle.model.specs.Conjunct.{Source, field, cell, Atom, Node, const, atom, var, op, conv, Conj}
+use Rattle.model.specs.Conjunct.{Source, field, cell, Atom, Node, const, atom, var, op, conv, Conj, AtAtom}
 use Rattle.model.specs.Input.{Input}
 use Rattle.model.specs.Run.{State, reading}
-
--- P of the atom, if the node is one
-abbrev pub AtAtom : (Atom → Type 0) → Node → Type 0
-AtAtom P (const ty i) = Unit {0}
-AtAtom P (atom a) = P a
-AtAtom P (var x ty) = Unit {0}
-AtAtom P (op o ty) = Unit {0}
-AtAtom P (conv ty) = Unit {0}
 
 -- for each source and n the number of the reading or of the cell, taken modulo how many there are
 abbrev pub Env : Type 0

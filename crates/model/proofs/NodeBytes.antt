@@ -1,5 +1,4 @@
 -- The bytes of a conjunct of a condition file: how many they are, and that they are read back.
--- Assumes nothing.
 use mathlib.Core.Path.{_≡_, refl, _∙_, ap}
 use mathlib.Core.Bool.{true}
 use mathlib.Core.List.{List, _++_, map, map-id}
@@ -13,7 +12,7 @@ use Rattle.model.specs.Bytes.{bytes2, bytes4, entries}
 use Rattle.model.specs.Values.{add, sub, mul, div}
 use Rattle.model.specs.Conjunct.{Source, field, cell, Node, const, atom, var, op, conv, Conj, bytes, sourceBytes}
 use Rattle.model.specs.Condition.{conjunctBytes, nodeAt, nodeRight}
-use Rattle.model.proofs.Formed.{FileSource, FileNode}
+use Rattle.model.specs.Formed.{FileSource, FileNode}
 use Rattle.model.proofs.Lists.{all-imp}
 use Rattle.model.proofs.LittleEndian.{two-back, four-back}
 use Rattle.model.proofs.Places.{From, Local, length-things, entries-read}

@@ -1,20 +1,20 @@
 -- The order of conjuncts is a strict total order: by its own value at (d, d), at (e, d), and at (a, c) from (a, b) and (b, c);
 -- and what it finds equal is equal, for equal bytes are equal nodes.
--- Assumes nothing.
 use mathlib.Core.Path.{_≡_, refl, sym, _∙_, ap, ap₂, subst, fun-ext}
 use mathlib.Core.Logic.{_⊎_, inl, inr}
 use mathlib.Core.Bool.{true, cond}
 use mathlib.Core.List.{List, [], _∷_}
-use Prim.Native.Nat.{ℕ, zero, suc, compare, Ordering, Ordering·lt, Ordering·eq, Ordering·gt, compare·zero-zero, compare·zero-suc, compare·suc-zero, compare·suc-suc}
+use Prim.Native.Nat.{ℕ, zero, suc, _<_, compare, Ordering, Ordering·lt, Ordering·eq, Ordering·gt, compare·zero-zero, compare·zero-suc, compare·suc-zero, compare·suc-suc}
+use native.Mathlib.Omega.{arith}
 use lib.Dec.{eqb, isEq}
 use lib.ListN.{length, getD}
 use borrow.Author.Tests.{eqb-true}
 use Rattle.model.specs.Bytes.{u16At, u32At, bytes2, bytes4}
 use Rattle.model.specs.Conjunct.{Source, field, cell, Node, const, atom, var, op, conv, Conj, Conjuncts, bytes, sourceBytes, _then_, orderNumbers, orderNodes, order, same}
 use Rattle.model.specs.Values.{add, sub, mul, div}
+use Rattle.model.specs.TidySets.{Less}
 use Rattle.model.proofs.LittleEndian.{two-back, four-back}
 use Rattle.model.proofs.Tests.{true→T, and-left, and-right}
-use Rattle.model.proofs.TidySets.{Less}
 
 -- ---- what an order is
 
@@ -51,6 +51,11 @@ then-right : (o p : Ordering) → (o then p) ≡ Ordering·eq → p ≡ Ordering
 then-right Ordering·lt p e = absurd (true→T (ap isEq e))
 then-right Ordering·eq p e = e
 then-right Ordering·gt p e = absurd (true→T (ap isEq e))
+
+pub then-assoc : (o p q : Ordering) → ((o then p) then q) ≡ (o then (p then q))
+then-assoc Ordering·lt p q = refl
+then-assoc Ordering·eq p q = refl
+then-assoc Ordering·gt p q = refl
 
 then-flip : (o p : Ordering) → flip (o then p) ≡ (flip o then flip p)
 then-flip Ordering·lt p = refl
@@ -127,6 +132,23 @@ module _ {A : Type 0} (o : A → A → Ordering) where
 
 pub compare-eq : (m n : ℕ) → compare m n ≡ Ordering·eq → m ≡ n
 compare-eq m n e = eqb-true m n (ap isEq e)
+
+pub compare-less : (m n : ℕ) → m < n → compare m n ≡ Ordering·lt
+compare-less zero zero h = absurd (omega arith)
+compare-less zero (suc n) h = compare·zero-suc n
+compare-less (suc m) zero h = absurd (omega arith)
+compare-less (suc m) (suc n) h = compare·suc-suc m n ∙ compare-less m n (omega arith)
+
+pub compare-more : (m n : ℕ) → n < m → compare m n ≡ Ordering·gt
+compare-more zero n h = absurd (omega arith)
+compare-more (suc m) zero h = compare·suc-zero m
+compare-more (suc m) (suc n) h = compare·suc-suc m n ∙ compare-more m n (omega arith)
+
+pub compare-same : (m n : ℕ) → m ≡ n → compare m n ≡ Ordering·eq
+compare-same zero zero h = compare·zero-zero
+compare-same zero (suc n) h = absurd (omega arith)
+compare-same (suc m) zero h = absurd (omega arith)
+compare-same (suc m) (suc n) h = compare·suc-suc m n ∙ compare-same m n (omega arith)
 
 compare-self : (m : ℕ) → compare m m ≡ Ordering·eq
 compare-self zero = compare·zero-zero
@@ -277,7 +299,7 @@ trichotomy d e = go (order d e) refl
 
 -- ---- the test of sets
 
-isEq-true : (o : Ordering) → isEq o ≡ true → o ≡ Ordering·eq
+pub isEq-true : (o : Ordering) → isEq o ≡ true → o ≡ Ordering·eq
 isEq-true Ordering·lt e = absurd (true→T e)
 isEq-true Ordering·eq e = refl
 isEq-true Ordering·gt e = absurd (true→T e)

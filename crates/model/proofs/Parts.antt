@@ -1,5 +1,4 @@
 -- Entries, pairs and parts of a byte string: where they stand, and that a part holds what the whole holds there.
--- Assumes nothing.
 use mathlib.Core.Path.{_≡_, refl, sym, _∙_, ap, ap₂}
 use mathlib.Core.Bool.{true}
 use mathlib.Core.List.{List, [], _∷_}

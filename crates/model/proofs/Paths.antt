@@ -1,6 +1,5 @@
 -- The walk as a relation that knows no limits: from S after a piece of program it comes to R before it,
 -- and the set after each rule has the property K at the rule's label. With K "within the limits" it is `walk`.
--- Assumes nothing.
 use mathlib.Core.Path.{_≡_}
 use mathlib.Core.Logic.{_⊎_}
 use Prim.Native.Nat.{ℕ, zero, suc}

@@ -1,5 +1,4 @@
 -- The condition file of a tidy set of formed conjuncts is accepted, and read back to the set.
--- Assumes nothing.
 use mathlib.Core.Path.{_≡_, refl, _∙_, ap, ap₂}
 use mathlib.Core.Bool.{true, _&&_}
 use mathlib.Core.List.{List, [], _∷_}
@@ -13,14 +12,14 @@ use Rattle.model.specs.Refusals.{ok}
 use Rattle.model.specs.Program.{typeRight}
 use Rattle.model.specs.Conjunct.{Conj, Conjuncts, orderNodes}
 use Rattle.model.specs.Condition.{conjunctsAt, encode, conditionBytes, typeNodes, whole, numbered, isBefore, rising, lengthRight, readCondition}
+use Rattle.model.specs.Formed.{size, FileNode, Formed}
+use Rattle.model.specs.TidySets.{Canon, Numbered, Fine, Tidy}
 use Rattle.model.proofs.Every.{all-every}
-use Rattle.model.proofs.FileBytes.{size, pairOf, pairs, table-chained, file-conjuncts, file-fields, file-types, file-table, file-read, file-right, length-encode}
-use Rattle.model.proofs.Formed.{FileNode, Formed}
+use Rattle.model.proofs.FileBytes.{pairOf, pairs, table-chained, file-conjuncts, file-fields, file-types, file-table, file-read, file-right, length-encode}
 use Rattle.model.proofs.Limits.{short-each}
 use Rattle.model.proofs.Lists.{all-imp}
 use Rattle.model.proofs.Order.{nodes-self}
 use Rattle.model.proofs.Tests.{true→T}
-use Rattle.model.proofs.TidySets.{Canon, Numbered, Fine, Tidy}
 
 -- ---- the tests of the reader
 

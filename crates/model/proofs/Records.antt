@@ -1,6 +1,5 @@
 -- The log's bytes, read back, are the records that the run appended; and in every run a record is marked if and only if a step of
 -- its value's making overflowed.
--- Assumes nothing.
 use mathlib.Core.Path.{_≡_, refl, sym, _∙_, ap, ap₂, subst}
 use mathlib.Core.Bool.{Bool, true, false, _&&_, cond}
 use mathlib.Core.List.{List, [], _∷_, _++_, map, flatMap, append-assoc, Forall₂, Forall₂·nil, Forall₂·cons}
@@ -20,6 +19,7 @@ use Rattle.model.specs.Input.{Input, width, bitsAt, readingAt, readingsO
 use Rattle.model.specs.Run.{zeros, Line, execute, markByte, recordBytes, written, choicesOf, Ran, ranOf, run}
 use Rattle.model.specs.Exact.{nothing, Note, notes, exactRun}
 use Rattle.model.specs.Demands.{Record, recordAt, recordsOf, Marks, MarkExact}
+use Rattle.model.specs.Typing.{TypedInput}
 use Rattle.model.proofs.Checked.{program-checked, program-typed}
 use Rattle.model.proofs.Follow.{Follows, run-alike, begin}
 use Rattle.model.proofs.Lists.{entries-all}
@@ -27,7 +27,6 @@ use Rattle.model.proofs.LittleEndian.{two-back, u64-bytes8}
 use Rattle.model.proofs.Results.{check-ok, bind-ok, ok-eq}
 use Rattle.model.proofs.Tests.{case}
 use Rattle.model.proofs.Typed.{run-inside, zeros-inside}
-use Rattle.model.proofs.Typing.{TypedInput}
 
 -- ---- the bytes of the log
 

@@ -1,5 +1,4 @@
 -- The numbers with which the analysis, the filter and the run refuse.
--- Assumes nothing.
 use mathlib.Core.Path.{_≡_}
 use mathlib.Core.Logic.{_⊎_, inl, inr}
 use mathlib.Core.List.{List, [], _∷_}

@@ -1,18 +1,16 @@
 -- A change of the atoms' numbers that keeps different atoms different changes nothing of the renumbered conjunct; so renumbering is idempotent.
--- Assumes nothing.
 use mathlib.Core.Path.{_≡_, refl, sym, _∙_, ap, ap₂}
 use mathlib.Core.Bool.{true, false, _&&_, cond}
 use mathlib.Core.List.{List, [], _∷_, map}
 use Prim.Native.Nat.{ℕ, suc}
 use lib.Dec.{eqb, eqb·suc-suc}
 use borrow.Author.Tests.{eqb-true}
-use Rattle.model.specs.Conjunct.{Atom, const, atom, var, op, conv, Conj, sameSource, sameAtom, without, atoms, rank, renamed, onAtom, renumber}
+use Rattle.model.specs.Conjunct.{Atom, const, atom, var, op, conv, Conj, sameSource, sameAtom, without, atoms, rank, renamed, onAtom, renumber, has, AtAtom}
 use Rattle.model.specs.Lists.{All}
-use Rattle.model.proofs.Atoms.{at-any, atoms-all, has, has-atoms, nth, nth-rank, source-eq}
+use Rattle.model.specs.TidySets.{Numbered}
+use Rattle.model.proofs.Atoms.{at-any, atoms-all, has-atoms, nth, nth-rank, source-eq}
 use Rattle.model.proofs.Lists.{all-of}
-use Rattle.model.proofs.Meaning.{AtAtom}
 use Rattle.model.proofs.Tests.{case, true→T, eqb-self}
-use Rattle.model.proofs.TidySets.{Numbered}
 
 -- ---- other numbers
 
@@ -86,7 +84,8 @@ rank-apart ks a b p q s =
     eqb·suc-suc (rank a ks) (rank b ks)
     ∙ case (eqb (a .n) (b .n)) (λ z. eqb (rank a ks) (rank b ks) ≡ z)
     (λ t. ap (λ m. eqb (rank a ks) m) (sym (ap₂ (λ u m. rank (record { src = u; n = m }) ks) same (eqb-true (a .n) (b .n) t))) ∙ eqb-self (rank a ks))
-    (λ t. case (eqb (rank a ks) (rank b ks)) (λ z. z ≡ false) (λ r. absurd (true→T (sym t ∙ ap (λ m. eqb (a .n) m) (sym (numbers (eqb-true (rank a ks) (rank b ks) r))) ∙ eqb-self (a .n)))) (λ r. refl))
+    (λ t. case (eqb (rank a ks) (rank b ks)) (λ z. z ≡ false)
+    (λ r. absurd (true→T (sym t ∙ ap (λ m. eqb (a .n) m) (sym (numbers (eqb-true (rank a ks) (rank b ks) r))) ∙ eqb-self (a .n)))) (λ r. refl))
   where
     same : a .src ≡ b .src
     same = source-eq (a .src) (b .src) s

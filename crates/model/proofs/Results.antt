@@ -1,5 +1,4 @@
 -- Results and refusals: what a result was made of, and what holds of a result or of the number of a refusal.
--- Assumes nothing.
 use mathlib.Core.Path.{_≡_, refl, subst}
 use mathlib.Core.Bool.{Bool, true, false, true≢false}
 use Prim.Native.Nat.{ℕ}
@@ -21,6 +20,16 @@ check-ok false n o a e = absurd (refused-ok n a e)
 pub bind-ok : {A B : Type 0} (o : Out A) (f : A → Out B) (b : B) → (o >>= f) ≡ ok b → (a : A) × (o ≡ ok a) × (f a ≡ ok b)
 bind-ok (ok a) f b e = (a, refl, e)
 bind-ok (refused n) f b e = absurd (refused-ok n b e)
+
+-- ---- a result mapped
+
+pub mapped-refused : {A B : Type 0} (f : A → B) (o : Out A) (k : ℕ) → refused k ≡ mapped f o → o ≡ refused k
+mapped-refused f (ok a) k e = let z : true ≡ false = cc in absurd (true≢false z)
+mapped-refused f (refused n) k e = cc
+
+pub check-mapped : {A B : Type 0} (f : A → B) (b : Bool) (n : ℕ) (o : Out A) → mapped f (check b n o) ≡ check b n (mapped f o)
+check-mapped f true n o = refl
+check-mapped f false n o = refl
 
 -- ---- sequences
 

@@ -1,5 +1,4 @@
 -- From a statement to the program's start, by labels: through the blocks that enclose it, and the sites by rising label.
--- Assumes nothing.
 use mathlib.Core.Path.{_≡_, refl, sym, ap, subst, _∙_, fun-ext}
 use mathlib.Core.List.{List, [], _∷_, _++_, map, append-assoc, append-nil}
 use Prim.Native.Nat.{ℕ, zero, suc, _≤_, _<_}
@@ -9,8 +8,10 @@ use Rattle.model.specs.Conjunct.{Conjuncts}
 use Rattle.model.specs.Refusals.{Out, ok, _>>=_}
 use Rattle.model.specs.Run.{append}
 use Rattle.model.specs.Walk.{back, joined, rounds, walk, here, sites}
-use Rattle.model.proofs.Depth.{Nested}
-use Rattle.model.proofs.Laid.{IfAt, WhileAt, Laid, laid-le, laid-append}
+use Rattle.model.specs.Nesting.{Nested}
+use Rattle.model.specs.Placement.{IfAt, WhileAt, Laid}
+use Rattle.model.specs.Enclosing.{Enclosing, top, in-yes, in-no, in-while, walkOut, Bare, Rest, stop, past, From}
+use Rattle.model.proofs.Laid.{laid-le, laid-append}
 use Rattle.model.proofs.Results.{bind-self, bind-assoc}
 use Rattle.model.proofs.Walks.{walk-append}
 
@@ -55,59 +56,41 @@ bound-self (o ∷ os) = λ i. bind-self o i ∷ bound-self os i
 module _ (stmt : ℕ → Stmt) (mate : ℕ → ℕ) (n : ℕ) where
   -- ---- the blocks that enclose a label, out to the start
 
-  -- from a label i in a block whose statements end at the label q: over the piece d from the block's beginning to i, out of the body of
-  -- a while over the whole while too, and on from the label r where the block begins
-  pub data Enclosing : ℕ → ℕ → Type 0 where
-    top : (i : ℕ) (d : Code) → Laid stmt mate d 0 i → Nested 4 d → Enclosing i n
-    in-yes : (i r v e f q : ℕ) (d : Code) → IfAt stmt mate r v e f → e < f → f < q → Laid stmt mate d (suc r) i → Nested 4 d → Enclosing r q → Enclosing i e
-    in-no : (i r v e f q : ℕ) (y d : Code) → IfAt stmt mate r v e f → f < q → Laid stmt mate y (suc r) e → Laid stmt mate d (suc e) i → Nested 4 d → Enclosing r q → Enclosing i f
-    in-while : (i r v f q : ℕ) (d body : Code) → WhileAt stmt mate r v f → f < q → Laid stmt mate d (suc r) i → Nested 4 d → Laid stmt mate body (suc r) f → Nested 3 body → Enclosing r q → Enclosing i f
-
-  -- the set at the program's start, from the set just before the statement with the label
-  unfoldable pub walkOut : {i q : ℕ} → Enclosing i q → Conjuncts → Out Conjuncts
-  walkOut (top i d h k) D = walk d D
-  walkOut (in-yes i r v e f q d a b c h k w) D = walk d D >>= λ E. walkOut w E
-  walkOut (in-no i r v e f q y d a b c h k w) D = walk d D >>= λ E. walkOut w E
-  walkOut (in-while i r v f q d body a b h k c m w) D = walk d D >>= λ E. rounds 16 (walk body) E E >>= λ F. walkOut w F
-
-  pub enclosing-end : {i q : ℕ} → Enclosing i q → q ≤ n
+  pub enclosing-end : {i q : ℕ} → Enclosing stmt mate n i q → q ≤ n
   enclosing-end (top i d h k) = omega arith
   enclosing-end (in-yes i r v e f q d a b c h k w) = omega (arith, enclosing-end w)
   enclosing-end (in-no i r v e f q y d a b c h k w) = omega (arith, enclosing-end w)
   enclosing-end (in-while i r v f q d body a b h k c m w) = omega (arith, enclosing-end w)
 
   -- one piece further
-  pub record Onward {i q : ℕ} (w : Enclosing i q) (c : Code) (j : ℕ) : Type 0 where
-    pub blocks : Enclosing j q
-    pub walks-out : (D : Conjuncts) → walkOut blocks D ≡ (walk c D >>= walkOut w)
+  pub record Onward {i q : ℕ} (w : Enclosing stmt mate n i q) (c : Code) (j : ℕ) : Type 0 where
+    pub blocks : Enclosing stmt mate n j q
+    pub walks-out : (D : Conjuncts) → walkOut stmt mate n blocks D ≡ (walk c D >>= walkOut stmt mate n w)
 
   further : (d c : Code) (f : Conjuncts → Out Conjuncts) (D : Conjuncts) → (walk (append d c) D >>= f) ≡ (walk c D >>= λ E. walk d E >>= f)
   further d c f D = ap (_>>= f) (walk-append d c D) ∙ bind-assoc (walk c D) (walk d) f
 
-  pub onward : {i q : ℕ} (w : Enclosing i q) (c : Code) (j : ℕ) → Laid stmt mate c i j → Nested 4 c → Onward w c j
+  pub onward : {i q : ℕ} (w : Enclosing stmt mate n i q) (c : Code) (j : ℕ) → Laid stmt mate c i j → Nested 4 c → Onward w c j
   unfolding walkOut
   onward (top i d h k) c j l m = record { blocks = top j (append d c) (laid-append stmt mate d c 0 i j h l) (nested-join 4 d c k m); walks-out = λ D. walk-append d c D }
   onward (in-yes i r v e f q d a b g h k w) c j l m = record {
     blocks = in-yes j r v e f q (append d c) a b g (laid-append stmt mate d c (suc r) i j h l) (nested-join 4 d c k m) w;
-    walks-out = further d c (walkOut w);
+    walks-out = further d c (walkOut stmt mate n w);
   }
   onward (in-no i r v e f q y d a b g h k w) c j l m = record {
     blocks = in-no j r v e f q y (append d c) a b g (laid-append stmt mate d c (suc e) i j h l) (nested-join 4 d c k m) w;
-    walks-out = further d c (walkOut w);
+    walks-out = further d c (walkOut stmt mate n w);
   }
   onward (in-while i r v f q d body a b h k g z w) c j l m = record {
     blocks = in-while j r v f q (append d c) body a b (laid-append stmt mate d c (suc r) i j h l) (nested-join 4 d c k m) g z w;
-    walks-out = further d c (λ E. rounds 16 (walk body) E E >>= walkOut w);
+    walks-out = further d c (λ E. rounds 16 (walk body) E E >>= walkOut stmt mate n w);
   }
 
-  onward-all : {i q : ℕ} (w : Enclosing i q) (c : Code) (j : ℕ) (o : Onward w c j) (os : List (Out Conjuncts)) → map (_>>= walkOut (o .blocks)) os ≡ map (_>>= walkOut w) (map (_>>= walk c) os)
-  onward-all w c j o os = ap (λ h. map (_>>= h) os) (fun-ext (o .walks-out)) ∙ sym (bound-twice (walk c) (walkOut w) os)
+  onward-all : {i q : ℕ} (w : Enclosing stmt mate n i q) (c : Code) (j : ℕ) (o : Onward w c j) (os : List (Out Conjuncts))
+      → map (_>>= walkOut stmt mate n (o .blocks)) os ≡ map (_>>= walkOut stmt mate n w) (map (_>>= walk c) os)
+  onward-all w c j o os = ap (λ h. map (_>>= h) os) (fun-ext (o .walks-out)) ∙ sym (bound-twice (walk c) (walkOut stmt mate n w) os)
 
   -- ---- the sites by rising label
-
-  -- no statement of kinds 0 to 10
-  abbrev pub Bare : Stmt → Type 0
-  Bare s = (x : Instr) → s ≡ plain x → ⊥
 
   else-bare : (s : Stmt) → s ≡ else → Bare s
   else-bare s e x p = let z : _≡_ {A = ℕ} 0 1 = cc in omega arith
@@ -121,24 +104,7 @@ module _ (stmt : ℕ → Stmt) (mate : ℕ → ℕ) (n : ℕ) where
   while-bare : (s : Stmt) (v : ℕ) → s ≡ while v → Bare s
   while-bare s v e x p = let z : _≡_ {A = ℕ} 0 1 = cc in omega arith
 
-  -- what the sites past a piece that ends at a label come to: there are none; or those of the piece that begins past an else or an end
-  pub data Rest : ℕ → List (Out Conjuncts) → Type 0 where
-    stop : Rest n []
-    past : (q z : ℕ) (c : Code) (L : List (Out Conjuncts)) → Bare (stmt q) → Laid stmt mate c (suc q) z → Nested 4 c → (w : Enclosing (suc q) z) → Rest z L
-        → Rest q (map (_>>= walkOut w) (sites c) ++ L)
-
-  -- what the sites from a label on come to
-  pub record From (i : ℕ) (K : List (Out Conjuncts)) : Type 0 where
-    pub piece : Code
-    pub q : ℕ
-    pub tail : List (Out Conjuncts)
-    pub laid : Laid stmt mate piece i q
-    pub nested : Nested 4 piece
-    pub blocks : Enclosing i q
-    pub rest : Rest q tail
-    pub is : K ≡ map (_>>= walkOut blocks) (sites piece) ++ tail
-
-  pub from-start : (c : Code) → Laid stmt mate c 0 n → Nested 4 c → From 0 (sites c)
+  pub from-start : (c : Code) → Laid stmt mate c 0 n → Nested 4 c → From stmt mate n 0 (sites c)
   unfolding walkOut walk
   from-start c h k = record {
     piece = c;
@@ -152,15 +118,15 @@ module _ (stmt : ℕ → Stmt) (mate : ℕ → ℕ) (n : ℕ) where
   }
 
   -- at the end no site is left
-  pub from-end : (K : List (Out Conjuncts)) → From n K → K ≡ []
+  pub from-end : (K : List (Out Conjuncts)) → From stmt mate n n K → K ≡ []
   unfolding sites
   from-end K a = a .is ∙ go (a .piece) (a .q) (a .tail) (a .laid) (a .blocks) (a .rest)
     where
-      none : (q : ℕ) (L : List (Out Conjuncts)) → n ≡ q → Rest q L → L ≡ []
+      none : (q : ℕ) (L : List (Out Conjuncts)) → n ≡ q → Rest stmt mate n q L → L ≡ []
       none q L e stop = refl
       none q L e (past p z c L′ b h k w r) = absurd (omega (arith, laid-le stmt mate c (suc p) z h, enclosing-end w))
 
-      go : (c : Code) (q : ℕ) (L : List (Out Conjuncts)) → Laid stmt mate c n q → (w : Enclosing n q) → Rest q L → map (_>>= walkOut w) (sites c) ++ L ≡ []
+      go : (c : Code) (q : ℕ) (L : List (Out Conjuncts)) → Laid stmt mate c n q → (w : Enclosing stmt mate n n q) → Rest stmt mate n q L → map (_>>= walkOut stmt mate n w) (sites c) ++ L ≡ []
       go done q L h w r = none q L h r
       go (step l x rest) q L h w r = absurd (omega (arith, laid-le stmt mate rest (suc n) q (h .2), enclosing-end w))
       go (branch l v y m rest) q L h w r =
@@ -172,28 +138,30 @@ module _ (stmt : ℕ → Stmt) (mate : ℕ → ℕ) (n : ℕ) where
 
   -- the next label: a statement, whose site comes first; or nothing of the kind
   pub data Next (i : ℕ) (K : List (Out Conjuncts)) : Type 0 where
-    statement : (x : Instr) (q : ℕ) (w : Enclosing i q) (L : List (Out Conjuncts)) → stmt i ≡ plain x → i < q → K ≡ map (_>>= walkOut w) (here x) ++ L → From (suc i) L → Next i K
-    bare : Bare (stmt i) → From (suc i) K → Next i K
+    statement : (x : Instr) (q : ℕ) (w : Enclosing stmt mate n i q) (L : List (Out Conjuncts)) → stmt i ≡ plain x → i < q
+        → K ≡ map (_>>= walkOut stmt mate n w) (here x) ++ L → From stmt mate n (suc i) L → Next i K
+    bare : Bare (stmt i) → From stmt mate n (suc i) K → Next i K
 
-  pub from-next : (i : ℕ) (K : List (Out Conjuncts)) → i < n → From i K → Next i K
+  pub from-next : (i : ℕ) (K : List (Out Conjuncts)) → i < n → From stmt mate n i K → Next i K
   unfolding sites walk walkOut
   from-next i K b a = subst (Next i) (sym (a .is)) (go (a .piece) (a .q) (a .tail) (a .laid) (a .nested) (a .blocks) (a .rest))
     where
-      onto : (q : ℕ) (L : List (Out Conjuncts)) → i ≡ q → Rest q L → Next i L
+      onto : (q : ℕ) (L : List (Out Conjuncts)) → i ≡ q → Rest stmt mate n q L → Next i L
       onto q L e stop = absurd (omega arith)
       onto q L e (past p z c L′ s h k w r) =
-          subst (λ j. Next j (map (_>>= walkOut w) (sites c) ++ L′)) (sym e)
+          subst (λ j. Next j (map (_>>= walkOut stmt mate n w) (sites c) ++ L′)) (sym e)
           (bare s (record { piece = c; q = z; tail = L′; laid = h; nested = k; blocks = w; rest = r; is = refl }))
 
-      go : (c : Code) (q : ℕ) (L : List (Out Conjuncts)) → Laid stmt mate c i q → Nested 4 c → (w : Enclosing i q) → Rest q L → Next i (map (_>>= walkOut w) (sites c) ++ L)
+      go : (c : Code) (q : ℕ) (L : List (Out Conjuncts)) → Laid stmt mate c i q → Nested 4 c → (w : Enclosing stmt mate n i q) → Rest stmt mate n q L
+          → Next i (map (_>>= walkOut stmt mate n w) (sites c) ++ L)
       go done q L h k w r = onto q L h r
       go (step l x rest) q L h k w r =
           let o = onward w (step l x done) (suc i) (h .0, h .1, refl) tt in
-          let first = map (_>>= walkOut w) (here x) in
-          let later = map (_>>= walkOut w) (map (_>>= back l x) (sites rest)) in
-          let more = map (_>>= walkOut (o .blocks)) (sites rest) in
-          let split : map (_>>= walkOut w) (here x ++ map (_>>= back l x) (sites rest)) ++ L ≡ first ++ (more ++ L) =
-          ap (_++ L) (map-join (_>>= walkOut w) (here x) (map (_>>= back l x) (sites rest)))
+          let first = map (_>>= walkOut stmt mate n w) (here x) in
+          let later = map (_>>= walkOut stmt mate n w) (map (_>>= back l x) (sites rest)) in
+          let more = map (_>>= walkOut stmt mate n (o .blocks)) (sites rest) in
+          let split : map (_>>= walkOut stmt mate n w) (here x ++ map (_>>= back l x) (sites rest)) ++ L ≡ first ++ (more ++ L) =
+          ap (_++ L) (map-join (_>>= walkOut stmt mate n w) (here x) (map (_>>= back l x) (sites rest)))
           ∙ append-assoc first later L
           ∙ ap (λ z. first ++ (z ++ L)) (sym (onward-all w (step l x done) (suc i) o (sites rest))) in
           statement x q w (more ++ L) (h .1) (laid-le stmt mate rest (suc i) q (h .2)) split
@@ -205,28 +173,30 @@ module _ (stmt : ℕ → Stmt) (mate : ℕ → ℕ) (n : ℕ) where
           let inner : e < f = laid-le stmt mate m (suc e) f (h .1 .4) in
           let outer : f < q = laid-le stmt mate rest (suc f) q (h .1 .5) in
           let o = onward w (branch l v y m done) (suc f) (h .0, (e, f, at, h .1 .3, h .1 .4, refl)) (k .0, k .1, tt) in
-          let wy : Enclosing (suc i) e = in-yes (suc i) i v e f q done at inner outer refl tt w in
-          let wm : Enclosing (suc e) f = in-no (suc e) i v e f q y done at outer (h .1 .3) refl tt w in
-          let more = map (_>>= walkOut (o .blocks)) (sites rest) in
-          let behind : Rest f (more ++ L) = past f q rest L (end-bare (stmt f) (at .is-end)) (h .1 .5) (k .2) (o .blocks) r in
-          let others : Rest e (map (_>>= walkOut wm) (sites m) ++ (more ++ L)) = past e f m (more ++ L) (else-bare (stmt e) (at .is-else)) (h .1 .4) (nested-more 3 m (k .1)) wm behind in
-          let split : map (_>>= walkOut w) (sites y ++ (sites m ++ map (_>>= joined (walk y) (walk m)) (sites rest))) ++ L ≡ map (_>>= walkOut wy) (sites y) ++ (map (_>>= walkOut wm) (sites m) ++ (more ++ L)) =
-          three (_>>= walkOut w) (sites y) (sites m) (map (_>>= joined (walk y) (walk m)) (sites rest)) L
-          ∙ ap (λ z. map (_>>= walkOut w) (sites y) ++ (map (_>>= walkOut w) (sites m) ++ (z ++ L))) (sym (onward-all w (branch l v y m done) (suc f) o (sites rest))) in
+          let wy : Enclosing stmt mate n (suc i) e = in-yes (suc i) i v e f q done at inner outer refl tt w in
+          let wm : Enclosing stmt mate n (suc e) f = in-no (suc e) i v e f q y done at outer (h .1 .3) refl tt w in
+          let more = map (_>>= walkOut stmt mate n (o .blocks)) (sites rest) in
+          let behind : Rest stmt mate n f (more ++ L) = past f q rest L (end-bare (stmt f) (at .is-end)) (h .1 .5) (k .2) (o .blocks) r in
+          let others : Rest stmt mate n e (map (_>>= walkOut stmt mate n wm) (sites m) ++ (more ++ L)) =
+          past e f m (more ++ L) (else-bare (stmt e) (at .is-else)) (h .1 .4) (nested-more 3 m (k .1)) wm behind in
+          let split : map (_>>= walkOut stmt mate n w) (sites y ++ (sites m ++ map (_>>= joined (walk y) (walk m)) (sites rest))) ++ L
+          ≡ map (_>>= walkOut stmt mate n wy) (sites y) ++ (map (_>>= walkOut stmt mate n wm) (sites m) ++ (more ++ L)) =
+          three (_>>= walkOut stmt mate n w) (sites y) (sites m) (map (_>>= joined (walk y) (walk m)) (sites rest)) L
+          ∙ ap (λ z. map (_>>= walkOut stmt mate n w) (sites y) ++ (map (_>>= walkOut stmt mate n w) (sites m) ++ (z ++ L))) (sym (onward-all w (branch l v y m done) (suc f) o (sites rest))) in
           bare (if-bare (stmt i) v (at .is-if))
-          (record { piece = y; q = e; tail = map (_>>= walkOut wm) (sites m) ++ (more ++ L); laid = h .1 .3; nested = nested-more 3 y (k .0); blocks = wy; rest = others; is = split })
+          (record { piece = y; q = e; tail = map (_>>= walkOut stmt mate n wm) (sites m) ++ (more ++ L); laid = h .1 .3; nested = nested-more 3 y (k .0); blocks = wy; rest = others; is = split })
       go (loop l v body rest) q L h k w r =
           let f = h .1 .0 in
           let at : WhileAt stmt mate i v f = h .1 .1 in
           let outer : f < q = laid-le stmt mate rest (suc f) q (h .1 .3) in
           let again : Conjuncts → Out Conjuncts = λ D. rounds 16 (walk body) D D in
           let o = onward w (loop l v body done) (suc f) (h .0, (f, at, h .1 .2, refl)) (k .0, tt) in
-          let wb : Enclosing (suc i) f = in-while (suc i) i v f q done body at outer refl tt (h .1 .2) (k .0) w in
-          let more = map (_>>= walkOut (o .blocks)) (sites rest) in
-          let behind : Rest f (more ++ L) = past f q rest L (end-bare (stmt f) (at .is-end)) (h .1 .3) (k .1) (o .blocks) r in
-          let split : map (_>>= walkOut w) (map (_>>= again) (sites body ++ sites rest)) ++ L ≡ map (_>>= walkOut wb) (sites body) ++ (more ++ L) =
-          both (_>>= walkOut w) (_>>= again) (sites body) (sites rest) L
-          ∙ ap (_++ (map (_>>= walkOut w) (map (_>>= again) (sites rest)) ++ L)) (bound-twice again (walkOut w) (sites body))
-          ∙ ap (λ z. map (_>>= walkOut wb) (sites body) ++ (z ++ L)) (sym (onward-all w (loop l v body done) (suc f) o (sites rest))) in
+          let wb : Enclosing stmt mate n (suc i) f = in-while (suc i) i v f q done body at outer refl tt (h .1 .2) (k .0) w in
+          let more = map (_>>= walkOut stmt mate n (o .blocks)) (sites rest) in
+          let behind : Rest stmt mate n f (more ++ L) = past f q rest L (end-bare (stmt f) (at .is-end)) (h .1 .3) (k .1) (o .blocks) r in
+          let split : map (_>>= walkOut stmt mate n w) (map (_>>= again) (sites body ++ sites rest)) ++ L ≡ map (_>>= walkOut stmt mate n wb) (sites body) ++ (more ++ L) =
+          both (_>>= walkOut stmt mate n w) (_>>= again) (sites body) (sites rest) L
+          ∙ ap (_++ (map (_>>= walkOut stmt mate n w) (map (_>>= again) (sites rest)) ++ L)) (bound-twice again (walkOut stmt mate n w) (sites body))
+          ∙ ap (λ z. map (_>>= walkOut stmt mate n wb) (sites body) ++ (z ++ L)) (sym (onward-all w (loop l v body done) (suc f) o (sites rest))) in
           bare (while-bare (stmt i) v (at .is-while))
           (record { piece = body; q = f; tail = more ++ L; laid = h .1 .2; nested = nested-more 3 body (k .0); blocks = wb; rest = behind; is = split })

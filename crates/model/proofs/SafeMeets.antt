@@ -1,6 +1,5 @@
 -- Where no step of the step-by-step evaluation overflows, the evaluation with marks in the zero state has the same
 -- numbers, all unmarked: the zero state meets every safe conjunct.
--- Assumes nothing.
 use mathlib.Core.Path.{_≡_, refl, sym, ap, _∙_}
 use mathlib.Core.Bool.{true, false, cond}
 use mathlib.Core.List.{List, [], _∷_, map}
@@ -14,15 +13,15 @@ use Rattle.arith.specs.Step.{value, overflow, passes, exactOf, overflows, cause
 use Rattle.arith.proofs.StepLaws.{step-wraps}
 use Rattle.model.specs.Lists.{All}
 use Rattle.model.specs.Values.{Val, plain, Operation, stepOp, operated, converted}
-use Rattle.model.specs.Conjunct.{Source, field, cell, Atom, Node, const, atom, var, op, conv, Conj, atoms}
+use Rattle.model.specs.Conjunct.{Source, field, cell, Atom, Node, const, atom, var, op, conv, Conj, atoms, has, AtAtom}
 use Rattle.model.specs.Input.{Input}
 use Rattle.model.specs.Filter.{fromTop}
 use Rattle.model.specs.Run.{zeros, reading}
 use Rattle.model.specs.Demands.{IsReading, Safe}
-use Rattle.model.proofs.Atoms.{every-imp, has, has-atoms, atoms-all}
+use Rattle.model.proofs.Atoms.{every-imp, has-atoms, atoms-all}
 use Rattle.model.proofs.Choosing.{IsField, OfFields}
 use Rattle.model.proofs.Lists.{all-imp₂, getD-mem, drop-map}
-use Rattle.model.proofs.Meaning.{AtAtom, Env, pick, push, eval, topMark, LiveAtom, Meets}
+use Rattle.model.proofs.Meaning.{Env, pick, push, eval, topMark, LiveAtom, Meets}
 use Rattle.model.proofs.Tests.{case, true→T}
 use Rattle.model.proofs.Worked.{Stack, stack, stopped, onTop, goOn, outcome, worksOut, worked, evaluate-worked}
 

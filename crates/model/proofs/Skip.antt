@@ -1,25 +1,23 @@
 -- A piece of program that changes nothing a tidy set speaks of leaves it as it is.
--- Assumes nothing.
 use mathlib.Core.Path.{_≡_, refl, _∙_, ap, ap₂}
 use mathlib.Core.Bool.{Bool, true, false, _||_, cond}
 use mathlib.Core.List.{List, [], _∷_, _++_, map, flatMap}
 use Prim.Native.Nat.{ℕ, suc}
 use lib.Dec.{eqb}
 use Rattle.model.specs.Code.{Instr, assign, store, site, Code, done, step, branch, loop}
-use Rattle.model.specs.Conjunct.{Atom, Node, const, atom, var, op, conv, Conj, Conjuncts, unionOf, same, limits, atoms, renumber}
+use Rattle.model.specs.Conjunct.{Atom, Node, const, atom, var, op, conv, Conj, Conjuncts, unionOf, same, limits, atoms, renumber, AtAtom}
 use Rattle.model.specs.Lists.{All}
 use Rattle.model.specs.Refusals.{Out, ok, _>>=_}
 use Rattle.model.specs.Walk.{nodes, replace, onArray, loads, swapAll, subsets, before, gather, back, rounds, joined, walk}
+use Rattle.model.specs.TidySets.{Canon, Numbered, Tidy}
+use Rattle.model.specs.Touch.{isVar, isLoad, some, writes, touches}
 use Rattle.model.proofs.Atoms.{atoms-all}
 use Rattle.model.proofs.Canonical.{union-idem, insert-least}
 use Rattle.model.proofs.Limits.{fine-limits}
 use Rattle.model.proofs.Lists.{all-imp}
-use Rattle.model.proofs.Meaning.{AtAtom}
 use Rattle.model.proofs.Order.{same-self}
 use Rattle.model.proofs.Renumber.{moved, movedAll, renumber-raised}
 use Rattle.model.proofs.Tests.{case, or-left, or-right}
-use Rattle.model.proofs.TidySets.{Canon, Numbered, Tidy}
-use Rattle.model.proofs.Touch.{isVar, isLoad, some, writes, touches}
 
 -- ---- one statement that changes nothing of a conjunct
 

@@ -1,12 +1,11 @@
 -- The analysis is sound: where the condition holds of the zero state, no run of the program logs a marked value.
--- Assumes nothing.
 use mathlib.Core.Path.{_≡_, refl, sym, _∙_, ap, subst}
 use mathlib.Core.Bool.{Bool, true, false, cond}
 use mathlib.Core.List.{List, [], _∷_, _++_, map}
 use Prim.Native.Nat.{ℕ, zero, suc}
 use Rattle.arith.proofs.WrapLaws.{immediate-zero}
 use Rattle.model.specs.Code.{Instr, assign, store, site, Code, done, step, branch, loop}
-use Rattle.model.specs.Conjunct.{Source, field, cell, Node, const, atom, var, op, conv, Conj, Conjuncts, unionOf, same, limits, renumber}
+use Rattle.model.specs.Conjunct.{Source, field, cell, Node, const, atom, var, op, conv, Conj, Conjuncts, unionOf, same, limits, renumber, AtAtom}
 use Rattle.model.specs.Input.{Input}
 use Rattle.model.specs.Lists.{All}
 use Rattle.model.specs.Refusals.{Out, ok, refused, _>>=_}
@@ -19,7 +18,7 @@ use Rattle.model.proofs.Gather.{gather-all}
 use Rattle.model.proofs.Instruction.{before-meets}
 use Rattle.model.proofs.Limits.{limits-cases, limits-inv}
 use Rattle.model.proofs.Lists.{all-imp, all-of, all-left, all-right, all-append, all-map, all-unmap}
-use Rattle.model.proofs.Meaning.{AtAtom, Env, push, pick, eval, topMark, LiveAtom, Meets}
+use Rattle.model.proofs.Meaning.{Env, push, pick, eval, topMark, LiveAtom, Meets}
 use Rattle.model.proofs.Order.{same-eq}
 use Rattle.model.proofs.Results.{Ends, bind-self, bind-assoc}
 use Rattle.model.proofs.Runs.{Leads, leads-all, run-all}

@@ -1,5 +1,4 @@
 -- Every set of an analysis is tidy: canonical, numbered as a rule leaves it, and within the limits; the condition too.
--- Assumes nothing.
 use mathlib.Core.Path.{_≡_, refl}
 use mathlib.Core.List.{List, [], _∷_, map}
 use Prim.Native.Nat.{ℕ, zero-le}
@@ -9,6 +8,7 @@ use Rattle.model.specs.Conjunct.{Conj, var, Conjuncts, unionOf, long, li
 use Rattle.model.specs.Lists.{All}
 use Rattle.model.specs.Refusals.{ok}
 use Rattle.model.specs.Walk.{before, gather, back, walk, sites, zeroed, start, join, derived}
+use Rattle.model.specs.TidySets.{Canon, Numbered, Tidy}
 use Rattle.model.proofs.Canonical.{union-canon, union-every}
 use Rattle.model.proofs.Gather.{gather-canon, gather-every}
 use Rattle.model.proofs.Invariant.{walk-keeps, sites-keep, join-keeps}
@@ -16,7 +16,6 @@ use Rattle.model.proofs.Limits.{limits-cases}
 use Rattle.model.proofs.Lists.{all-of, all-map}
 use Rattle.model.proofs.Renumber.{renumber-idem}
 use Rattle.model.proofs.Results.{Gives, gives-ok}
-use Rattle.model.proofs.TidySets.{Canon, Numbered, Tidy}
 use Rattle.model.proofs.Trees.{each-any}
 
 -- ---- the rules

@@ -1,5 +1,4 @@
 -- In a run of a typed program on a typed input every logged number is inside its type.
--- Assumes nothing.
 use mathlib.Core.Path.{_≡_, sym, _∙_, subst}
 use mathlib.Core.Bool.{Bool, false, true, _&&_, cond}
 use mathlib.Core.List.{List, [], _∷_}
@@ -17,11 +16,11 @@ use Rattle.model.specs.Lists.{All}
 use Rattle.model.specs.Program.{Tables, variableType, fieldType, arrayOf}
 use Rattle.model.specs.Run.{State, zeros, setVar, setCell, reading, takingChoice, index, exec, append, Line, logged, execute}
 use Rattle.model.specs.Values.{Val, stepOp, operated, converted}
+use Rattle.model.specs.Typing.{TypedInstr, Typed, TypedInput, InTypes}
 use Rattle.model.proofs.Lists.{all-getD}
 use Rattle.model.proofs.Runs.{Leads, leads-imp, run-all}
 use Rattle.model.proofs.Tests.{case, and-left}
 use Rattle.model.proofs.Trees.{each-append}
-use Rattle.model.proofs.Typing.{TypedInstr, Typed, TypedInput, InTypes}
 
 module _ (T : Tables) (I : Input) (typed : TypedInput T I) where
   in-var : (σ : State) → InTypes T σ → (a : ℕ) (w : Val) → fits (variableType T a) (w .num) ≡ true → InTypes T (setVar σ a w)
@@ -55,7 +54,7 @@ module _ (T : Tables) (I : Input) (typed : TypedInput T I) where
   exec-in σ h (assign a ty (calc o b c)) t ch = in-var σ h a _ (rw (t .0 .0) (wrap-fits ty (exactOf (stepOp o) (σ .vars b .num) (σ .vars c .num))))
   exec-in σ h (assign a ty (change b u)) t ch = in-var σ h a _ (rw (t .0 .0) (wrap-fits ty (σ .vars b .num)))
   exec-in σ h (assign a ty (read f)) t ch = read-in σ h a f (t .0 .0 ∙ sym (t .1 .0)) (I f) (typed f) ch
-  exec-in σ h (assign a ty (load s k i)) t ch = in-var σ h a _ (rw (t .0 .0 ∙ sym (t .1 .0)) (h .inCells s k (index σ k i)))
+  exec-in σ h (assign a ty (load s k i)) t ch = in-var σ h a _ (rw (t .0 .0 ∙ sym (t .1 .0 .0)) (h .inCells s k (index σ k i)))
   exec-in σ h (store s k i x ty) t ch = in-cell σ h s k (index σ k i) _ (rw (t .0 .0 ∙ sym (t .1 .0)) (h .inVars x))
   exec-in σ h (site a ty) t ch = h
 

@@ -1,5 +1,4 @@
 -- The verdict with its cause, and the filter: an input passes exactly where there is no first failure, and is held where there is one.
--- Assumes nothing.
 use mathlib.Core.Path.{_≡_, refl, sym, ap, ap₂, _∙_}
 use mathlib.Core.Bool.{Bool, true, false, _&&_, cond}
 use mathlib.Core.List.{List, [], _∷_}
@@ -7,6 +6,7 @@ use Prim.Native.Nat.{ℕ}
 use Rattle.arith.specs.declared.Cause.{Cause}
 use Rattle.arith.specs.Step.{Outcome, value, overflow, passes}
 use Rattle.model.specs.Lists.{every}
+use Rattle.model.proofs.Results.{check-mapped}
 use Rattle.model.specs.Refusals.{Out, ok, refused, _>>=_, check, mapped, tooManyCombinations, blankField}
 use Rattle.model.specs.Conjunct.{Conj, Conjuncts, atoms}
 use Rattle.model.specs.Condition.{Condition, readCondition}
@@ -43,10 +43,6 @@ answer-number (found c) = refl
 bind-mapped : {A B C : Type 0} (f : B → C) (o : Out A) (g : A → Out B) (h : A → Out C) → ((a : A) → mapped f (g a) ≡ h a) → mapped f (o >>= g) ≡ (o >>= h)
 bind-mapped f (ok a) g h e = e a
 bind-mapped f (refused n) g h e = refl
-
-check-mapped : {A B : Type 0} (f : A → B) (b : Bool) (n : ℕ) (o : Out A) → mapped f (check b n o) ≡ check b n (mapped f o)
-check-mapped f true n o = refl
-check-mapped f false n o = refl
 
 -- they do not move: the verdict without its cause is the filter's answer
 pub verdict-filter : (condition input : List ℕ) → mapped answerNumber (verdict condition input) ≡ filterInput condition input

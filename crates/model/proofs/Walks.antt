@@ -1,5 +1,4 @@
 -- Laws of the walk that a program over positions uses: one piece before another, and each rule as the walk of a piece.
--- Assumes nothing.
 use mathlib.Core.Path.{_≡_, refl, sym, ap, _∙_}
 use Prim.Native.Nat.{ℕ}
 use Rattle.model.specs.Code.{Instr, Code, done, step, branch, loop}

@@ -1,6 +1,5 @@
 -- Document 01's worked examples (its soundings), by computation from byte strings: A to L as one theorem over one table, of the
 -- definitions that the public operations equal; the examples without a letter, and those of document 02.
--- Assumes nothing.
 use mathlib.Core.Path.{_≡_, refl}
 use mathlib.Core.List.{List, [], _∷_, _++_, map, flatMap}
 use Prim.Native.Nat.{ℕ, zero, suc, _+_, _*_}
@@ -28,6 +27,7 @@ use Rattle.model.specs.Decimal
 use Rattle.model.specs.Failure
 use Rattle.model.specs.Filter
 use Rattle.model.specs.Input
+use Rattle.model.specs.Kinds
 use Rattle.model.specs.Listing
 use Rattle.model.specs.Lists
 use Rattle.model.specs.Program
@@ -38,7 +38,20 @@ use Rattle.model.specs.Walk
 
 -- to unfold this is to unfold all that they are made of
 definitions : Type 0
-unfolding Bytes.bytes2 Bytes.bytes4 Bytes.bytes8 Bytes.entries Bytes.chained Code.taking Code.opened Code.treeOf Condition.conjunctBytes Condition.pairBytes Condition.encode Condition.analysis Condition.nodeAt Condition.nodeRight Condition.typeNode Condition.typeNodes Condition.whole Condition.numbered Condition.rising Condition.readCondition Conjunct.sourceBytes Conjunct.bytes Conjunct.orderNumbers Conjunct.orderNodes Conjunct.order Conjunct.withConjunct Conjunct.unionOf Conjunct.same Conjunct.long Conjunct.limits Conjunct.sameSource Conjunct.sameAtom Conjunct.without Conjunct.atoms Conjunct.rank Conjunct.renamed Conjunct.renumber Decimal.digits Decimal.places Decimal.decimal Decimal.number Filter.evaluate Filter.combinations Filter.valueIn Filter.combinationsOf Filter.holds Filter.productOf Filter.fewCombinations Filter.hasReadings Failure.first Failure.failureIn Failure.verdict Input.width Input.bitsAt Input.readingAt Input.readingsOf Input.lengthsRight Input.readInput Listing.typeText Listing.operationText Listing.atomText Listing.nodeName Listing.nodeType Listing.nodeText Listing.lineText Listing.linesFrom Listing.listingText Listing.refusalText Listing.listing Lists.every Program.layoutOf Program.tablesAt Program.sectionsRight Program.countsRight Program.typesRight Program.formRight Program.typesAgree Program.immediateRight Program.stmtOf Program.readProgram Values.operated Values.converted Walk.nodes Walk.replace Walk.onArray Walk.loads Walk.swap Walk.swapAll Walk.subsets Walk.before Walk.gather Walk.back Walk.rounds Walk.walk Walk.here Walk.sites Walk.zeroed Walk.start Walk.join Walk.derived Types.bits Types.signed Types.depth Types.height Words.wideOf Words.wordOf Words.valueAt Words.immediate mathlib.Core.List.flatMap
+unfolding Bytes.bytes2 Bytes.bytes4 Bytes.bytes8 Bytes.entries Bytes.chained Code.taking Code.opened Code.treeOf Condition.conjunctBytes
+    Condition.pairBytes Condition.encode Condition.analysis Condition.nodeAt Condition.nodeRight Condition.typeNode Condition.typeNodes
+    Condition.whole Condition.numbered Condition.rising Condition.readCondition Conjunct.sourceBytes Conjunct.bytes Conjunct.orderNumbers
+    Conjunct.orderNodes Conjunct.order Conjunct.withConjunct Conjunct.unionOf Conjunct.same Conjunct.long Conjunct.limits Conjunct.sameSource
+    Conjunct.sameAtom Conjunct.without Conjunct.atoms Conjunct.rank Conjunct.renamed Conjunct.renumber Decimal.digits Decimal.places
+    Decimal.decimal Decimal.number Filter.evaluate Filter.combinations Filter.valueIn Filter.combinationsOf Filter.holds Filter.productOf
+    Filter.fewCombinations Filter.hasReadings Failure.first Failure.failureIn Failure.verdict Input.width Input.bitsAt Input.readingAt
+    Input.readingsOf Input.lengthsRight Input.readInput Listing.typeText Listing.operationText Listing.atomText Listing.nodeName
+    Listing.nodeType Listing.nodeText Listing.lineText Listing.linesFrom Listing.listingText Listing.refusalText Listing.listing Kinds.kindOf
+    Lists.every Program.layoutOf Program.tablesAt Program.sectionsRight Program.countsRight Program.typesRight Program.formRight
+    Program.typesAgree Program.immediateRight Program.stmtOf Program.readProgram Values.operated Values.converted Walk.nodes Walk.replace
+    Walk.onArray Walk.loads Walk.swap Walk.swapAll Walk.subsets Walk.before Walk.gather Walk.back Walk.rounds Walk.walk Walk.here Walk.sites
+    Walk.zeroed Walk.start Walk.join Walk.derived Types.bits Types.signed Types.depth Types.height Words.wideOf Words.wordOf Words.valueAt
+    Words.immediate mathlib.Core.List.flatMap
 definitions = Unit {0}
 
 -- the analysis

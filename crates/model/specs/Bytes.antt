@@ -1,10 +1,10 @@
 -- Byte strings: little-endian numbers, parts, and tables of offset and length. A byte string is a list of numbers.
--- Assumes nothing.
 use mathlib.Core.Bool.{Bool, _&&_}
 use mathlib.Core.List.{List, [], _∷_, _++_}
 use Prim.Native.Nat.{ℕ, zero, suc, _+_, _*_, _/_, _%_}
 use lib.Dec.{eqb}
 use lib.ListN.{getD, take, drop}
+use Rattle.model.specs.Sizes.{pairSize}
 
 -- the byte at a place, 0 past the end
 abbrev pub byteAt : List ℕ → ℕ → ℕ
@@ -54,7 +54,7 @@ entries at size s a (suc n) = at s a ∷ entries at size s (a + size) n
 
 -- n pairs from a on
 abbrev pub pairsAt : List ℕ → ℕ → ℕ → List Pair
-pairsAt s a n = entries pairAt 8 s a n
+pairsAt s a n = entries pairAt pairSize s a n
 
 -- the first part begins at `start`, each other where the one before ends, and the last ends at `end`
 unfoldable pub chained : ℕ → List Pair → ℕ → Bool

@@ -1,5 +1,4 @@
 -- The condition file, written and read: document 01, "The condition".
--- Assumes nothing.
 use mathlib.Core.Bool.{Bool, true, false, _&&_}
 use mathlib.Core.List.{List, [], _∷_, _++_, map, flatMap}
 use Prim.Native.Nat.{ℕ, zero, suc, _+_, _*_, _/_, _%_, Ordering, Ordering·lt, Ordering·eq, Ordering·gt}
@@ -7,6 +6,7 @@ use lib.Dec.{leb, ltb, eqb, isEq}
 use lib.ListN.{length, getD}
 use Rattle.arith.specs.Step.{fits}
 use Rattle.arith.specs.Words.{immediate}
+use Rattle.model.specs.Sizes.{fieldSize, mostFields, mostConjuncts, mostNodes, nodeSize, countsSize, pairSize}
 use Rattle.model.specs.Lists.{every}
 use Rattle.model.specs.Refusals.{Out, ok, refused, _>>=_, check, wrongCondition}
 use Rattle.model.specs.Bytes.{byteAt, u16At, u32At, bytes4, part, Pair, entries, pairsAt, chained}
@@ -24,11 +24,11 @@ conjunctBytes e = flatMap bytes e
 -- the pairs of conjuncts that stand one after the other from a place on
 unfoldable pub pairBytes : ℕ → Conjuncts → List ℕ
 pairBytes at [] = []
-pairBytes at (e ∷ S) = bytes4 at ++ bytes4 (8 * length e) ++ pairBytes (at + 8 * length e) S
+pairBytes at (e ∷ S) = bytes4 at ++ bytes4 (nodeSize * length e) ++ pairBytes (at + nodeSize * length e) S
 
 -- where the conjuncts begin: after two counts, f types and c pairs
 abbrev pub conjunctsAt : ℕ → ℕ → ℕ
-conjunctsAt f c = 8 + f + 8 * c
+conjunctsAt f c = countsSize + f + pairSize * c
 
 -- the condition file of a set, with the types of the program's fields
 unfoldable pub encode : List ℕ → Conjuncts → List ℕ
@@ -39,7 +39,7 @@ encode types S =
 
 -- the length of the longest one: two counts, 32 types, 64 pairs, and 64 conjuncts of 120 nodes
 abbrev pub conditionBytes : ℕ
-conditionBytes = 61992
+conditionBytes = countsSize + fieldSize * mostFields + mostConjuncts * (pairSize + nodeSize * mostNodes)
 
 -- the condition file that the analysis writes for a program's bytes, or the refusal
 unfoldable pub analysis : List ℕ → Out (List ℕ)
@@ -64,7 +64,7 @@ nodeAt s a =
 
 -- the conjunct of a pair: a node in each 8 bytes
 abbrev pub conjunctAt : List ℕ → Pair → Conj
-conjunctAt s p = entries nodeAt 8 s (p .offset) (p .len / 8)
+conjunctAt s p = entries nodeAt nodeSize s (p .offset) (p .len / nodeSize)
 
 -- the form of the node at a place, by its kind: a constant inside its type; a reading of a listed field in its type;
 -- an operation or a conversion; unused parts are zero
@@ -136,22 +136,22 @@ rising (d ∷ e ∷ S) = isBefore (order d e) && rising (e ∷ S)
 
 -- the length of a conjunct: 1 to 120 nodes
 abbrev pub lengthRight : Pair → Bool
-lengthRight p = ltb 0 (p .len) && leb (p .len) 960 && eqb (p .len % 8) 0
+lengthRight p = ltb 0 (p .len) && leb (p .len) (nodeSize * mostNodes) && eqb (p .len % nodeSize) 0
 
 -- every node of a pair's conjunct has its form
 abbrev pub nodesRight : List ℕ → List ℕ → Pair → Bool
-nodesRight types s p = every (λ b. b) (entries (nodeRight types) 8 s (p .offset) (p .len / 8))
+nodesRight types s p = every (λ b. b) (entries (nodeRight types) nodeSize s (p .offset) (p .len / nodeSize))
 
 -- the condition of a byte string, or 12
 unfoldable pub readCondition : List ℕ → Out Condition
 readCondition s =
     let c = u32At s 0 in
     let f = u32At s 4 in
-    let types = part s 8 f in
-    let pairs = pairsAt s (8 + f) c in
+    let types = part s countsSize f in
+    let pairs = pairsAt s (countsSize + f) c in
     let conjuncts = map (conjunctAt s) pairs in
     check
-    (leb 8 (length s) && leb c 64 && leb f 32
+    (leb countsSize (length s) && leb c mostConjuncts && leb f mostFields
     && chained (conjunctsAt f c) pairs (length s)
     && every typeRight types
     && every lengthRight pairs

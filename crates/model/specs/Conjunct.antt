@@ -1,13 +1,13 @@
 -- Conjuncts in postfix, their order, sets of them, and their numbering: document 01, "The condition".
--- Assumes nothing.
 use mathlib.Core.Bool.{Bool, true, false, _&&_, _||_, cond}
 use mathlib.Core.List.{List, [], _∷_, _++_, map}
 use Prim.Native.Nat.{ℕ, suc, compare, Ordering, Ordering·lt, Ordering·eq, Ordering·gt}
 use lib.Dec.{ltb, eqb, isEq}
 use lib.ListN.{length}
+use Rattle.model.specs.Sizes.{mostNodes, mostConjuncts}
 use Rattle.model.specs.Refusals.{Out, ok, refused, tooManyNodes, tooManyConjuncts}
 use Rattle.model.specs.Bytes.{bytes2, bytes4}
-use Rattle.model.specs.Values.{Operation, kindOf}
+use Rattle.model.specs.Values.{Operation, operationKind}
 
 -- where an atom comes from: a reading of a field, or a load at a label from an array (its number and its length)
 pub data Source : Type 0 where
@@ -51,7 +51,7 @@ unfoldable pub bytes : Node → List ℕ
 bytes (const ty i) = 0 ∷ ty ∷ 0 ∷ 0 ∷ bytes4 i
 bytes (atom a) = sourceBytes (a .src) (a .n)
 bytes (var x ty) = 7 ∷ ty ∷ 0 ∷ 0 ∷ bytes4 x
-bytes (op o ty) = bare (kindOf o) ty
+bytes (op o ty) = bare (operationKind o) ty
 bytes (conv ty) = bare 6 ty
 
 infixl 20 _then_
@@ -107,11 +107,11 @@ same (d ∷ R) (e ∷ S) = isEq (orderNodes d e) && same R S
 -- has a conjunct over 120 nodes?
 unfoldable pub long : Conjuncts → Bool
 long [] = false
-long (e ∷ S) = ltb 120 (length e) || long S
+long (e ∷ S) = ltb mostNodes (length e) || long S
 
 -- after every rule: no conjunct over 120 nodes, then no more than 64 conjuncts
 unfoldable pub limits : Conjuncts → Out Conjuncts
-limits S = cond (long S) (refused tooManyNodes) (cond (ltb 64 (length S)) (refused tooManyConjuncts) (ok S))
+limits S = cond (long S) (refused tooManyNodes) (cond (ltb mostConjuncts (length S)) (refused tooManyConjuncts) (ok S))
 
 -- ---- the numbering: within a conjunct the n of each source count from 1 by first appearance
 
@@ -153,6 +153,11 @@ rank a (b ∷ bs) = cond (sameSource (a .src) (b .src)) (cond (eqb (a .n) (b .n)
 unfoldable pub renamed : List Atom → Atom → Atom
 renamed ks a = record { src = a .src; n = suc (rank a ks) }
 
+-- is the atom in the list?
+abbrev pub has : Atom → List Atom → Bool
+has a [] = false
+has a (b ∷ bs) = sameAtom a b || has a bs
+
 -- f at each atom, nothing else changed
 abbrev pub onAtom : (Atom → Node) → Node → Node
 onAtom f (const ty i) = const ty i
@@ -160,6 +165,14 @@ onAtom f (atom a) = f a
 onAtom f (var x ty) = var x ty
 onAtom f (op o ty) = op o ty
 onAtom f (conv ty) = conv ty
+
+-- P of the atom, if the node is one
+abbrev pub AtAtom : (Atom → Type 0) → Node → Type 0
+AtAtom P (const ty i) = Unit {0}
+AtAtom P (atom a) = P a
+AtAtom P (var x ty) = Unit {0}
+AtAtom P (op o ty) = Unit {0}
+AtAtom P (conv ty) = Unit {0}
 
 -- a conjunct numbered as a rule leaves it
 unfoldable pub renumber : Conj → Conj

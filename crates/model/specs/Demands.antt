@@ -1,5 +1,4 @@
 -- The demands of the mission as types over byte strings. What proves them is in proofs/.
--- Assumes nothing.
 use mathlib.Core.Path.{_≡_}
 use mathlib.Core.Logic.{_⊎_, _↔_}
 use mathlib.Core.Bool.{Bool, true, false, cond}
@@ -13,6 +12,7 @@ use Rattle.arith.specs.declared.Cause.the-variants.{Above, Below, NoDivisor}
 use Rattle.arith.specs.Types.{lowest, highest}
 use Rattle.arith.specs.Step.{overflow, passes, exactOf, lacksDivisor, stepOf}
 use Rattle.arith.specs.Words.{valueAt}
+use Rattle.model.specs.Sizes.{recordSize}
 use Rattle.model.specs.Lists.{All, every}
 use Rattle.model.specs.Refusals.{Out, ok, refused, _>>=_, mapped, check, lentTooShort, wrongSections, wrongBlocks}
 use Rattle.model.specs.Refusals.{neverSettles, wrongCondition, wrongInput, tooManyCombinations, blankField}
@@ -145,7 +145,7 @@ recordAt s = record { label = u16At s 0; mark = byteAt s 2; pad = byteAt s 3; wo
 -- the first n records of a log
 unfoldable pub recordsOf : ℕ → List ℕ → List Record
 recordsOf zero log = []
-recordsOf (suc n) log = recordAt log ∷ recordsOf n (drop 12 log)
+recordsOf (suc n) log = recordAt log ∷ recordsOf n (drop recordSize log)
 
 -- the exact run, with room for so many bytes, is not refused; and the first records of the log are P of its notes, one for one and
 -- in order

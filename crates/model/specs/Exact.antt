@@ -1,6 +1,5 @@
 -- The exact run (document 01: the whole-number run): the steps of the run, with a whole number and the places of its
 -- making beside each value. It is fed the program, the input, the limit, the choices and the log's length.
--- Assumes nothing.
 use mathlib.Core.Bool.{Bool, true, false, _&&_, _||_, not, cond}
 use mathlib.Core.List.{List, [], _∷_, _++_}
 use Prim.Native.Nat.{ℕ, zero, suc, _+_, _/_, _%_}
@@ -10,6 +9,7 @@ use lib.ListN.{length, getD}
 use Rattle.arith.specs.declared.Op.the-variants.{Convert}
 use Rattle.arith.specs.Step.{exactOf, overflows}
 use Rattle.arith.specs.Words.{immediate}
+use Rattle.model.specs.Sizes.{recordSize}
 use Rattle.model.specs.Refusals.{Out, ok, _>>=_}
 use Rattle.model.specs.Values.{Val, stepOp}
 use Rattle.model.specs.Code.{Right, number, copy, calc, change, read, load, Instr, assign, store, site, Code, done, step, branch, loop}
@@ -127,4 +127,4 @@ notes I (suc n) room σ τ H (loop l v body rest) ch = notes I n room σ τ (fal
 unfoldable pub exactRun : List ℕ → List ℕ → ℕ → List ℕ → ℕ → Out (List Note)
 exactRun program input limit choices room =
     readProgram program >>= λ P. readInput (P .tables .fields) input >>= λ I.
-    ok (notes I limit (room / 12) zeros nothing [] (P .code) (choicesOf choices))
+    ok (notes I limit (room / recordSize) zeros nothing [] (P .code) (choicesOf choices))

@@ -1,6 +1,5 @@
 -- Why an input is held (document 02, card 2): the cause of the first failure. Conjuncts go in file order, combinations in theirs, and within a
 -- combination the first step in postfix order counts, since an evaluation stops there.
--- Assumes nothing.
 use mathlib.Core.List.{List, [], _∷_}
 use Prim.Native.Nat.{ℕ, _+_, _*_}
 use Rattle.arith.specs.declared.Cause.{Cause}

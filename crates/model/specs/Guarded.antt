@@ -1,5 +1,4 @@
 -- The run behind the filter: analysis, filter and run, one after the other on the same bytes.
--- Assumes nothing.
 use mathlib.Core.Bool.{cond}
 use mathlib.Core.List.{List}
 use Prim.Native.Nat.{ℕ}

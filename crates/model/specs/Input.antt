@@ -1,5 +1,4 @@
 -- The input file (document 01: sheet).
--- Assumes nothing.
 use mathlib.Core.Bool.{Bool, true, _&&_, cond}
 use mathlib.Core.List.{List, [], _∷_}
 use Prim.Native.Nat.{ℕ, zero, suc, _*_, _/_, _%_}
@@ -8,6 +7,7 @@ use lib.IntN.{ℤ, pos}
 use lib.ListN.{length, getD}
 use Rattle.arith.specs.Types.{bits}
 use Rattle.arith.specs.Step.{wrap}
+use Rattle.model.specs.Sizes.{mostReadings, pairSize}
 use Rattle.model.specs.Refusals.{Out, ok, check, wrongInput}
 use Rattle.model.specs.Bytes.{byteAt, u16At, u32At, u64At, Pair, pairAt, entries, pairsAt, chained}
 
@@ -35,11 +35,11 @@ readingsOf ty s p = entries (readingAt ty) (width ty) s (p .offset) (p .len / wi
 unfoldable pub lengthsRight : List ℕ → List Pair → Bool
 lengthsRight [] ps = true
 lengthsRight (ty ∷ types) [] = true
-lengthsRight (ty ∷ types) (p ∷ ps) = eqb (p .len % width ty) 0 && leb (p .len) (128 * width ty) && lengthsRight types ps
+lengthsRight (ty ∷ types) (p ∷ ps) = eqb (p .len % width ty) 0 && leb (p .len) (mostReadings * width ty) && lengthsRight types ps
 
 -- the input of a byte string for fields of these types, or 13
 unfoldable pub readInput : List ℕ → List ℕ → Out Input
 readInput types s =
     let pairs = pairsAt s 0 (length types) in
-    check (chained (8 * length types) pairs (length s) && lengthsRight types pairs) wrongInput
-    (ok (λ f. cond (ltb f (length types)) (readingsOf (getD types f 0) s (pairAt s (8 * f))) []))
+    check (chained (pairSize * length types) pairs (length s) && lengthsRight types pairs) wrongInput
+    (ok (λ f. cond (ltb f (length types)) (readingsOf (getD types f 0) s (pairAt s (pairSize * f))) []))

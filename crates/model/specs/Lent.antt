@@ -1,5 +1,4 @@
 -- What an operation leaves in what it is lent.
--- Assumes nothing.
 use mathlib.Core.Path.{_≡_}
 use mathlib.Core.List.{List}
 use Prim.Native.Nat.{ℕ, _≤_}

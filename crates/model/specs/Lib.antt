@@ -1,8 +1,10 @@
 pub mod Lists
+pub mod Sizes
 pub mod Refusals
 pub mod Bytes
 pub mod Values
 pub mod Code
+pub mod Kinds
 pub mod Program
 pub mod Conjunct
 pub mod Walk
@@ -17,3 +19,12 @@ pub mod Exact
 pub mod Guarded
 pub mod Demands
 pub mod Lent
+-- what the contracts between our own crates cite
+pub mod TidySets
+pub mod Formed
+pub mod Touch
+pub mod Typing
+pub mod Nesting
+pub mod Placement
+pub mod Enclosing
+pub mod Progress

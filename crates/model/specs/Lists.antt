@@ -1,5 +1,4 @@
 -- Every element of a list: as a statement and as a test.
--- Assumes nothing.
 use mathlib.Core.Bool.{Bool, true, _&&_}
 use mathlib.Core.List.{List, [], _∷_}
 

@@ -1,5 +1,4 @@
 -- The program file (document 01: recipe) and checks 2 to 8, each over the whole file before the next.
--- Assumes nothing.
 use mathlib.Core.Bool.{Bool, true, false, _&&_, not}
 use mathlib.Core.List.{List, [], _∷_, map}
 use Prim.Native.Nat.{ℕ, zero, suc, _+_, _*_, _/_, _%_}
@@ -8,10 +7,11 @@ use lib.ListN.{length, getD}
 use Rattle.arith.specs.Types.{signed}
 use Rattle.arith.specs.Step.{fits}
 use Rattle.arith.specs.Words.{immediate}
+use Rattle.model.specs.Sizes.{sectionTable, mostProgram, arraySize, statementSize, mostFields, mostVariables, mostArrays, mostStatements, mostCells}
 use Rattle.model.specs.Lists.{every}
 use Rattle.model.specs.Refusals.{Out, ok, _>>=_, check, wrongSections, tooManyEntries, wrongTypes, wrongStatement, typesDisagree, wrongImmediate}
 use Rattle.model.specs.Bytes.{byteAt, u16At, u32At, part, entries, pairsAt, chained}
-use Rattle.model.specs.Values.{add, sub, mul, div}
+use Rattle.model.specs.Kinds.{Kind, aNumber, aCopy, anOperation, aConversion, aRead, aLoad, aStore, aSite, anIf, anElse, anEnd, aWhile, noKind, kindOf}
 use Rattle.model.specs.Code.{Instr, assign, store, site, number, copy, calc, change, read, load, Stmt, plain, if, else, end, while, Code, treeOf}
 
 -- ---- the tables
@@ -64,9 +64,9 @@ layoutOf s = record {
   variablesAt = u32At s 8;
   variables = u32At s 12;
   arraysAt = u32At s 16;
-  arrays = u32At s 20 / 4;
+  arrays = u32At s 20 / arraySize;
   statementsAt = u32At s 24;
-  statements = u32At s 28 / 8;
+  statements = u32At s 28 / statementSize;
 }
 
 -- the tables at a layout
@@ -74,8 +74,8 @@ unfoldable pub tablesAt : List ℕ → Layout → Tables
 tablesAt s L = record {
   fields = part s (L .fieldsAt) (L .fields);
   variables = part s (L .variablesAt) (L .variables);
-  arrays = entries arrayAt 4 s (L .arraysAt) (L .arrays);
-  statements = entries statementAt 8 s (L .statementsAt) (L .statements);
+  arrays = entries arrayAt arraySize s (L .arraysAt) (L .arrays);
+  statements = entries statementAt statementSize s (L .statementsAt) (L .statements);
 }
 
 -- ---- check 2: the length and the section table
@@ -83,17 +83,17 @@ tablesAt s L = record {
 -- at least the table and at most 8,384 bytes; the sections one after the other from 32 to the end; whole entries
 unfoldable pub sectionsRight : List ℕ → Bool
 sectionsRight s =
-    leb 32 (length s) && leb (length s) 8384
-    && chained 32 (pairsAt s 0 4) (length s)
-    && eqb (u32At s 20 % 4) 0 && eqb (u32At s 28 % 8) 0
+    leb sectionTable (length s) && leb (length s) mostProgram
+    && chained sectionTable (pairsAt s 0 4) (length s)
+    && eqb (u32At s 20 % arraySize) 0 && eqb (u32At s 28 % statementSize) 0
 
 -- ---- check 3: the numbers of entries
 
 -- at most 32 fields, 64 variables, 16 arrays and 1,024 statements
 unfoldable pub countsRight : Tables → Bool
 countsRight T =
-    leb (length (T .fields)) 32 && leb (length (T .variables)) 64
-    && leb (length (T .arrays)) 16 && leb (length (T .statements)) 1024
+    leb (length (T .fields)) mostFields && leb (length (T .variables)) mostVariables
+    && leb (length (T .arrays)) mostArrays && leb (length (T .statements)) mostStatements
 
 -- ---- check 4: types and array entries
 
@@ -103,7 +103,7 @@ typeRight ty = ltb ty 8
 
 -- a type code, a zero byte, 1 to 256 cells
 abbrev pub arrayRight : Array → Bool
-arrayRight r = typeRight (r .ty) && eqb (r .pad) 0 && leb 1 (r .len) && leb (r .len) 256
+arrayRight r = typeRight (r .ty) && eqb (r .pad) 0 && leb 1 (r .len) && leb (r .len) mostCells
 
 -- of every field, variable and array
 unfoldable pub typesRight : Tables → Bool
@@ -111,22 +111,39 @@ typesRight T = every typeRight (T .fields) && every typeRight (T .variables) && 
 
 -- ---- check 5: kinds, operands and unused bytes
 
--- by kind, 0 to 14: what a, b, c and the immediate have to be
+module _ (T : Tables) where
+  -- a number that names a variable, a field, an array
+  abbrev pub isVariable : ℕ → Bool
+  isVariable x = ltb x (length (T .variables))
+
+  abbrev pub isField : ℕ → Bool
+  isField x = ltb x (length (T .fields))
+
+  abbrev pub isArray : ℕ → Bool
+  isArray x = ltb x (length (T .arrays))
+
+-- a byte, or an immediate, that is not used
+abbrev pub unused : ℕ → Bool
+unused x = eqb x 0
+
+-- what a, b, c and the immediate have to be, by kind
+abbrev pub formOf : Kind → Tables → Statement → Bool
+formOf aNumber T q = isVariable T (q .a) && unused (q .b) && unused (q .c)
+formOf aCopy T q = isVariable T (q .a) && isVariable T (q .b) && unused (q .c) && unused (q .imm)
+formOf (anOperation o) T q = isVariable T (q .a) && isVariable T (q .b) && isVariable T (q .c) && unused (q .imm)
+formOf aConversion T q = isVariable T (q .a) && isVariable T (q .b) && unused (q .c) && unused (q .imm)
+formOf aRead T q = isVariable T (q .a) && isField T (q .b) && unused (q .c) && unused (q .imm)
+formOf aLoad T q = isVariable T (q .a) && isArray T (q .b) && isVariable T (q .c) && unused (q .imm)
+formOf aStore T q = isArray T (q .a) && isVariable T (q .b) && isVariable T (q .c) && unused (q .imm)
+formOf aSite T q = isVariable T (q .a) && unused (q .b) && unused (q .c) && unused (q .imm)
+formOf anIf T q = isVariable T (q .a) && unused (q .b) && unused (q .c) && unused (q .imm)
+formOf anElse T q = unused (q .a) && unused (q .b) && unused (q .c) && unused (q .imm)
+formOf anEnd T q = unused (q .a) && unused (q .b) && unused (q .c) && unused (q .imm)
+formOf aWhile T q = isVariable T (q .a) && unused (q .b) && unused (q .c) && unused (q .imm)
+formOf noKind T q = false
+
 unfoldable pub formRight : Tables → Statement → Bool
-formRight T q =
-    let isVariable : ℕ → Bool = λ x. ltb x (length (T .variables)) in
-    let isField : ℕ → Bool = λ x. ltb x (length (T .fields)) in
-    let isArray : ℕ → Bool = λ x. ltb x (length (T .arrays)) in
-    let unused : ℕ → Bool = λ x. eqb x 0 in
-    let number = isVariable (q .a) && unused (q .b) && unused (q .c) in
-    let two = isVariable (q .a) && isVariable (q .b) && unused (q .c) && unused (q .imm) in
-    let three = isVariable (q .a) && isVariable (q .b) && isVariable (q .c) && unused (q .imm) in
-    let read = isVariable (q .a) && isField (q .b) && unused (q .c) && unused (q .imm) in
-    let load = isVariable (q .a) && isArray (q .b) && isVariable (q .c) && unused (q .imm) in
-    let store = isArray (q .a) && isVariable (q .b) && isVariable (q .c) && unused (q .imm) in
-    let one = isVariable (q .a) && unused (q .b) && unused (q .c) && unused (q .imm) in
-    let none = unused (q .a) && unused (q .b) && unused (q .c) && unused (q .imm) in
-    getD (number ∷ two ∷ three ∷ three ∷ three ∷ three ∷ two ∷ read ∷ load ∷ store ∷ one ∷ one ∷ none ∷ none ∷ one ∷ []) (q .kind) false
+formRight T q = formOf (kindOf (q .kind)) T q
 
 -- ---- check 6: types
 
@@ -142,47 +159,74 @@ fieldType T x = getD (T .fields) x 0
 abbrev pub arrayOf : Tables → ℕ → Array
 arrayOf T x = getD (T .arrays) x (record { ty = 0; pad = 0; len = 0 })
 
--- by kind: the types in a statement agree, and an index is unsigned; a conversion, a site and a test take any type
+-- two variables of one type
+abbrev pub alike : Tables → ℕ → ℕ → Bool
+alike T x y = eqb (variableType T x) (variableType T y)
+
+-- an array and a variable of one type, and an index of an unsigned one
+abbrev pub cellAlike : Tables → (array x index : ℕ) → Bool
+cellAlike T r x i = eqb (arrayOf T r .ty) (variableType T x) && not (signed (variableType T i))
+
+-- the types in a statement agree, by kind, and an index is unsigned; a conversion, a site and a test take any type
+abbrev pub agreeOf : Kind → Tables → Statement → Bool
+agreeOf aNumber T q = true
+agreeOf aCopy T q = alike T (q .b) (q .a)
+agreeOf (anOperation o) T q = alike T (q .b) (q .a) && alike T (q .c) (q .a)
+agreeOf aConversion T q = true
+agreeOf aRead T q = eqb (fieldType T (q .b)) (variableType T (q .a))
+agreeOf aLoad T q = cellAlike T (q .b) (q .a) (q .c)
+agreeOf aStore T q = cellAlike T (q .a) (q .c) (q .b)
+agreeOf aSite T q = true
+agreeOf anIf T q = true
+agreeOf anElse T q = true
+agreeOf anEnd T q = true
+agreeOf aWhile T q = true
+agreeOf noKind T q = true
+
 unfoldable pub typesAgree : Tables → Statement → Bool
-typesAgree T q =
-    let v = variableType T in
-    let two = eqb (v (q .b)) (v (q .a)) in
-    let three = eqb (v (q .b)) (v (q .a)) && eqb (v (q .c)) (v (q .a)) in
-    let read = eqb (fieldType T (q .b)) (v (q .a)) in
-    let load = eqb (arrayOf T (q .b) .ty) (v (q .a)) && not (signed (v (q .c))) in
-    let store = eqb (arrayOf T (q .a) .ty) (v (q .c)) && not (signed (v (q .b))) in
-    getD (true ∷ two ∷ three ∷ three ∷ three ∷ three ∷ true ∷ read ∷ load ∷ store ∷ []) (q .kind) true
+typesAgree T q = agreeOf (kindOf (q .kind)) T q
 
 -- ---- check 7: immediates
 
--- the number of kind 0 is inside its variable's type
+-- an immediate is inside its variable's type; no other kind has one
+abbrev pub immediateOf : Kind → Tables → Statement → Bool
+immediateOf aNumber T q = let ty = variableType T (q .a) in fits ty (immediate ty (q .imm))
+immediateOf aCopy T q = true
+immediateOf (anOperation o) T q = true
+immediateOf aConversion T q = true
+immediateOf aRead T q = true
+immediateOf aLoad T q = true
+immediateOf aStore T q = true
+immediateOf aSite T q = true
+immediateOf anIf T q = true
+immediateOf anElse T q = true
+immediateOf anEnd T q = true
+immediateOf aWhile T q = true
+immediateOf noKind T q = true
+
 unfoldable pub immediateRight : Tables → Statement → Bool
-immediateRight T q =
-    let ty = variableType T (q .a) in
-    getD (fits ty (immediate ty (q .imm)) ∷ []) (q .kind) true
+immediateRight T q = immediateOf (kindOf (q .kind)) T q
 
 -- ---- check 8: blocks
 
--- a statement with its types, by kind
+-- a statement with its types, by kind; what is no kind counts as an end
+abbrev pub meaningOf : Kind → Tables → Statement → Stmt
+meaningOf aNumber T q = plain (assign (q .a) (variableType T (q .a)) (number (q .imm)))
+meaningOf aCopy T q = plain (assign (q .a) (variableType T (q .a)) (copy (q .b)))
+meaningOf (anOperation o) T q = plain (assign (q .a) (variableType T (q .a)) (calc o (q .b) (q .c)))
+meaningOf aConversion T q = plain (assign (q .a) (variableType T (q .a)) (change (q .b) (variableType T (q .b))))
+meaningOf aRead T q = plain (assign (q .a) (variableType T (q .a)) (read (q .b)))
+meaningOf aLoad T q = plain (assign (q .a) (variableType T (q .a)) (load (q .b) (arrayOf T (q .b) .len) (q .c)))
+meaningOf aStore T q = plain (store (q .a) (arrayOf T (q .a) .len) (q .b) (q .c) (arrayOf T (q .a) .ty))
+meaningOf aSite T q = plain (site (q .a) (variableType T (q .a)))
+meaningOf anIf T q = if (q .a)
+meaningOf anElse T q = else
+meaningOf anEnd T q = end
+meaningOf aWhile T q = while (q .a)
+meaningOf noKind T q = end
+
 unfoldable pub stmtOf : Tables → Statement → Stmt
-stmtOf T q =
-    let ty = variableType T (q .a) in
-    let r = arrayOf T (q .b) in
-    let w = arrayOf T (q .a) in
-    getD
-    (plain (assign (q .a) ty (number (q .imm)))
-    ∷ plain (assign (q .a) ty (copy (q .b)))
-    ∷ plain (assign (q .a) ty (calc add (q .b) (q .c)))
-    ∷ plain (assign (q .a) ty (calc sub (q .b) (q .c)))
-    ∷ plain (assign (q .a) ty (calc mul (q .b) (q .c)))
-    ∷ plain (assign (q .a) ty (calc div (q .b) (q .c)))
-    ∷ plain (assign (q .a) ty (change (q .b) (variableType T (q .b))))
-    ∷ plain (assign (q .a) ty (read (q .b)))
-    ∷ plain (assign (q .a) ty (load (q .b) (r .len) (q .c)))
-    ∷ plain (store (q .a) (w .len) (q .b) (q .c) (w .ty))
-    ∷ plain (site (q .a) ty)
-    ∷ if (q .a) ∷ else ∷ end ∷ while (q .a) ∷ [])
-    (q .kind) end
+stmtOf T q = meaningOf (kindOf (q .kind)) T q
 
 -- ---- the whole
 

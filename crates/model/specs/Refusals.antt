@@ -1,5 +1,4 @@
 -- Results and refusals: document 01, "Causes of refusal". The operations give the numbers by these names.
--- Assumes nothing.
 use mathlib.Core.Bool.{Bool, true, false}
 use Prim.Native.Nat.{ℕ}
 

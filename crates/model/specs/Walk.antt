@@ -1,10 +1,10 @@
 -- The backward walk that turns each critical site into a condition at the start: document 01, "The condition"
 -- (document 002, figure 6). Figure 6 as printed names the body for a site inside a loop; the whole while is meant.
--- Assumes nothing.
 use mathlib.Core.Bool.{Bool, true, false, _&&_, cond}
 use mathlib.Core.List.{List, [], _∷_, _++_, map, flatMap}
 use Prim.Native.Nat.{ℕ, zero, suc}
 use lib.Dec.{eqb}
+use Rattle.model.specs.Sizes.{mostRounds}
 use Rattle.model.specs.Refusals.{Out, ok, refused, _>>=_, neverSettles}
 use Rattle.model.specs.Code.{Right, number, copy, calc, change, read, load, Instr, assign, store, site, Code, done, step, branch, loop}
 use Rattle.model.specs.Conjunct.{Source, field, cell, Atom, Node, const, atom, var, op, conv, Conj, Conjuncts, withConjunct, unionOf, same, limits, sameAtom, atoms, onAtom, renumber}
@@ -83,7 +83,7 @@ unfoldable pub walk : Code → Conjuncts → Out Conjuncts
 walk done C = ok C
 walk (step l i rest) C = walk rest C >>= back l i
 walk (branch l v yes′ no′ rest) C = walk rest C >>= joined (λ D. walk yes′ D) (λ D. walk no′ D)
-walk (loop l v body rest) C = walk rest C >>= λ D. rounds 16 (λ S. walk body S) D D
+walk (loop l v body rest) C = walk rest C >>= λ D. rounds mostRounds (λ S. walk body S) D D
 
 -- ---- sites
 
@@ -98,7 +98,7 @@ unfoldable pub sites : Code → List (Out Conjuncts)
 sites done = []
 sites (step l i rest) = here i ++ map (_>>= back l i) (sites rest)
 sites (branch l v yes′ no′ rest) = sites yes′ ++ (sites no′ ++ map (_>>= joined (walk yes′) (walk no′)) (sites rest))
-sites (loop l v body rest) = map (_>>= λ D. rounds 16 (walk body) D D) (sites body ++ sites rest)
+sites (loop l v body rest) = map (_>>= λ D. rounds mostRounds (walk body) D D) (sites body ++ sites rest)
 
 -- at the program's start variables and loads are 0
 unfoldable pub zeroed : Node → Node

@@ -8,16 +8,13 @@ use Rattle.model.specs.Code.{Code, treeOf}
 use Rattle.model.specs.Lists.{every}
 use Rattle.model.specs.Program.{Layout as Sections, Program, layoutOf, sectionsRight, countsRight, typesRight, formRight, typesAgree, immediateRight, readProgram}
 use Rattle.model.specs.Refusals.{Out, ok, refused, _>>=_, mapped, check}
-use Rattle.model.proofs.Results.{refused-ok}
+use Rattle.model.proofs.Results.{check-mapped, refused-ok}
 use Rattle.program.specs.declared.Layout.{Layout}
 use Rattle.program.specs.Reading.{layoutFrom, Placed, tablesOf, stmtsOf, statementChecks, blockCheck, tableChecks}
 
 -- ---- the whole
 
 -- a part of a result behind a test
-mapped-past : {A B : Type 0} (f : A → B) (b : Bool) (n : ℕ) (o : Out A) → mapped f (check b n o) ≡ check b n (mapped f o)
-mapped-past f true n o = refl
-mapped-past f false n o = refl
 
 mapped-bind : {A B C : Type 0} (g : B → C) (h : A → C) (f : A → B) (o : Out A) → ((a : A) → g (f a) ≡ h a) → mapped g (o >>= λ a. ok (f a)) ≡ mapped h o
 mapped-bind g h f (ok a) e = ap ok (e a)
@@ -33,12 +30,12 @@ by-checks s =
     let in₆ = check (every (typesAgree T) (T .statements)) 6 in₇ in
     let in₅ = check (every (formRight T) (T .statements)) 5 in₆ in
     let in₄ = check (typesRight T) 4 in₅ in
-    mapped-past g (sectionsRight s) 2 (check (countsRight T) 3 in₄)
-    ∙ ap (check (sectionsRight s) 2) (mapped-past g (countsRight T) 3 in₄
-    ∙ ap (check (countsRight T) 3) (mapped-past g (typesRight T) 4 in₅
-    ∙ ap (check (typesRight T) 4) (mapped-past g (every (formRight T) (T .statements)) 5 in₆
-    ∙ ap (check (every (formRight T) (T .statements)) 5) (mapped-past g (every (typesAgree T) (T .statements)) 6 in₇
-    ∙ ap (check (every (typesAgree T) (T .statements)) 6) (mapped-past g (every (immediateRight T) (T .statements)) 7 tree
+    check-mapped g (sectionsRight s) 2 (check (countsRight T) 3 in₄)
+    ∙ ap (check (sectionsRight s) 2) (check-mapped g (countsRight T) 3 in₄
+    ∙ ap (check (countsRight T) 3) (check-mapped g (typesRight T) 4 in₅
+    ∙ ap (check (typesRight T) 4) (check-mapped g (every (formRight T) (T .statements)) 5 in₆
+    ∙ ap (check (every (formRight T) (T .statements)) 5) (check-mapped g (every (typesAgree T) (T .statements)) 6 in₇
+    ∙ ap (check (every (typesAgree T) (T .statements)) 6) (check-mapped g (every (immediateRight T) (T .statements)) 7 tree
     ∙ ap (check (every (immediateRight T) (T .statements)) 7) (mapped-bind g (λ c. layoutOf s) (λ c. record { tables = T; code = c }) (treeOf (stmtsOf T)) (λ c. refl)))))))
 
 -- ---- checks 5 to 7

@@ -1,5 +1,4 @@
 -- The section table: what check 2 says of the offsets and lengths, and that the sections then lie in the byte string.
--- Assumes nothing.
 use mathlib.Core.Path.{_≡_, refl, sym, ap, subst, _∙_}
 use mathlib.Core.Bool.{Bool, true, false, _&&_, true≢false}
 use mathlib.Core.List.{List}

@@ -1,5 +1,4 @@
 -- What a caller knows of a program that is read: its layout, its counts and what checks 4 to 8 left.
--- Assumes nothing.
 use mathlib.Core.Path.{_≡_, refl, sym, ap, subst, _∙_}
 use mathlib.Core.Bool.{true, false, _&&_, true≢false}
 use mathlib.Core.List.{List}

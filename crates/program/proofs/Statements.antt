@@ -1,5 +1,4 @@
 -- The tests of one statement, and which statement of the model it is, by its kind.
--- Assumes nothing.
 use mathlib.Core.Path.{_≡_, refl, _∙_}
 use mathlib.Core.Bool.{Bool, true, false, _&&_, not}
 use mathlib.Core.Logic.{⊎-elim}
@@ -16,7 +15,9 @@ use Rattle.model.proofs.Tests.{decide, case, and-left, and-right}
 use Rattle.program.specs.Reading.{noStatement, statementOf, stmtsOf, Sized}
 use Rattle.program.specs.declared.Layout.{Layout}
 use Rattle.model.proofs.Every.{every-at}
-use Rattle.model.specs.Program.{Statement, Tables, typeRight, arrayRight, typesRight, formRight, variableType, typesAgree, immediateRight, stmtOf}
+use Rattle.model.specs.Program.{Statement, Tables, typeRight, arrayRight, typesRight, formRight, variableType, agreeOf, typesAgree, immediateOf, immediateRight, meaningOf, stmtOf}
+use Rattle.model.specs.Kinds.{Kind, aNumber, aCopy, anOperation, aConversion, aRead, aLoad, aStore, aSite, anIf, anElse, anEnd, aWhile, noKind, kindOf}
+use Rattle.model.proofs.KindNumbers.{IsNumber, kind-number, no-kind, operation-most}
 
 -- a limit of 1 leaves 0 only
 pub below-one : (x : ℕ) → ltb x 1 ≡ eqb x 0
@@ -27,17 +28,47 @@ module _ (T : Tables) (q : Statement) where
   -- no kind above 14
   pub form-none : 15 ≤ q .kind → formRight T q ≡ false
   unfolding formRight
-  form-none h = let e : q .kind ≡ suc (suc (suc (suc (suc (suc (suc (suc (suc (suc (suc (suc (suc (suc (suc (q .kind - 15))))))))))))))) = omega arith in rw e
+  form-none h = rw (no-kind (q .kind) h)
 
   -- from kind 10 on no types have to agree
   pub agree-none : 10 ≤ q .kind → typesAgree T q ≡ true
   unfolding typesAgree
-  agree-none h = let e : q .kind ≡ suc (suc (suc (suc (suc (suc (suc (suc (suc (suc (q .kind - 10)))))))))) = omega arith in rw e
+  agree-none h = go (kindOf (q .kind)) (kind-number (q .kind))
+    where
+      go : (k : Kind) → IsNumber k (q .kind) → agreeOf k T q ≡ true
+      go aNumber n = refl
+      go aCopy n = absurd (omega arith)
+      go (anOperation o) n = absurd (omega (arith, operation-most o))
+      go aConversion n = refl
+      go aRead n = absurd (omega arith)
+      go aLoad n = absurd (omega arith)
+      go aStore n = absurd (omega arith)
+      go aSite n = refl
+      go anIf n = refl
+      go anElse n = refl
+      go anEnd n = refl
+      go aWhile n = refl
+      go noKind n = refl
 
   -- only kind 0 has an immediate
   pub immediate-none : 1 ≤ q .kind → immediateRight T q ≡ true
   unfolding immediateRight
-  immediate-none h = let e : q .kind ≡ suc (q .kind - 1) = omega arith in rw e
+  immediate-none h = go (kindOf (q .kind)) (kind-number (q .kind))
+    where
+      go : (k : Kind) → IsNumber k (q .kind) → immediateOf k T q ≡ true
+      go aNumber n = absurd (omega arith)
+      go aCopy n = refl
+      go (anOperation o) n = refl
+      go aConversion n = refl
+      go aRead n = refl
+      go aLoad n = refl
+      go aStore n = refl
+      go aSite n = refl
+      go anIf n = refl
+      go anElse n = refl
+      go anEnd n = refl
+      go aWhile n = refl
+      go noKind n = refl
 
 -- a type below 4 is unsigned
 pub below-four : (t : ℕ) → ltb t 4 ≡ not (signed t)
@@ -64,46 +95,58 @@ type-small T h x = go (leb (length vs) x) refl
 module _ (T : Tables) (q : Statement) where
   pub stmt-plain : q .kind < 11 → (x : Instr) × (stmtOf T q ≡ plain x)
   unfolding stmtOf
-  stmt-plain = go (q .kind)
+  stmt-plain h = go (kindOf (q .kind)) (kind-number (q .kind))
     where
-      go : (k : ℕ) → k < 11 → (x : Instr) × (stmtOf T (record { kind = k; a = q .a; b = q .b; c = q .c; imm = q .imm }) ≡ plain x)
-      go zero h = (_, refl)
-      go (suc zero) h = (_, refl)
-      go (suc (suc zero)) h = (_, refl)
-      go (suc (suc (suc zero))) h = (_, refl)
-      go (suc (suc (suc (suc zero)))) h = (_, refl)
-      go (suc (suc (suc (suc (suc zero))))) h = (_, refl)
-      go (suc (suc (suc (suc (suc (suc zero)))))) h = (_, refl)
-      go (suc (suc (suc (suc (suc (suc (suc zero))))))) h = (_, refl)
-      go (suc (suc (suc (suc (suc (suc (suc (suc zero)))))))) h = (_, refl)
-      go (suc (suc (suc (suc (suc (suc (suc (suc (suc zero))))))))) h = (_, refl)
-      go (suc (suc (suc (suc (suc (suc (suc (suc (suc (suc zero)))))))))) h = (_, refl)
-      go (suc (suc (suc (suc (suc (suc (suc (suc (suc (suc (suc k))))))))))) h = absurd (omega arith)
+      go : (k : Kind) → IsNumber k (q .kind) → (x : Instr) × (meaningOf k T q ≡ plain x)
+      go aNumber n = (_, refl)
+      go aCopy n = (_, refl)
+      go (anOperation o) n = (_, refl)
+      go aConversion n = (_, refl)
+      go aRead n = (_, refl)
+      go aLoad n = (_, refl)
+      go aStore n = (_, refl)
+      go aSite n = (_, refl)
+      go anIf n = absurd (omega arith)
+      go anElse n = absurd (omega arith)
+      go anEnd n = absurd (omega arith)
+      go aWhile n = absurd (omega arith)
+      go noKind n = absurd (omega arith)
 
   pub stmt-if : q .kind ≡ 11 → stmtOf T q ≡ if (q .a)
-  unfolding stmtOf
+  unfolding stmtOf kindOf
   stmt-if e = rw e
 
   pub stmt-else : q .kind ≡ 12 → stmtOf T q ≡ else
-  unfolding stmtOf
+  unfolding stmtOf kindOf
   stmt-else e = rw e
 
   pub stmt-while : q .kind ≡ 14 → stmtOf T q ≡ while (q .a)
-  unfolding stmtOf
+  unfolding stmtOf kindOf
   stmt-while e = rw e
 
   -- kind 13, and what is no kind
   pub stmt-end : 11 ≤ q .kind → (q .kind ≡ 11 → ⊥) → (q .kind ≡ 12 → ⊥) → (q .kind ≡ 14 → ⊥) → stmtOf T q ≡ end
   unfolding stmtOf
-  stmt-end h a b d =
-      ⊎-elim
-      (λ e. let n : q .kind ≡ suc (suc (suc (suc (suc (suc (suc (suc (suc (suc (suc (suc (suc (suc (suc (q .kind - 15))))))))))))))) = omega (arith, leb-true 15 (q .kind) e) in rw n)
-      (λ e. let n : q .kind ≡ 13 = omega (arith, leb-false 15 (q .kind) e) in rw n)
-      (decide (leb 15 (q .kind)))
+  stmt-end h no-if no-else no-while = go (kindOf (q .kind)) (kind-number (q .kind))
+    where
+      go : (k : Kind) → IsNumber k (q .kind) → meaningOf k T q ≡ end
+      go aNumber n = absurd (omega arith)
+      go aCopy n = absurd (omega arith)
+      go (anOperation o) n = absurd (omega (arith, operation-most o))
+      go aConversion n = absurd (omega arith)
+      go aRead n = absurd (omega arith)
+      go aLoad n = absurd (omega arith)
+      go aStore n = absurd (omega arith)
+      go aSite n = absurd (omega arith)
+      go anIf n = absurd (no-if n)
+      go anElse n = absurd (no-else n)
+      go anEnd n = refl
+      go aWhile n = absurd (no-while n)
+      go noKind n = refl
 
 -- the statement of the list with a label
 pub stmt-at : (T : Tables) (i : ℕ) → getD (stmtsOf T) i end ≡ stmtOf T (statementOf T i)
-unfolding stmtOf
+unfolding stmtOf kindOf
 stmt-at T i = List·getD-map (stmtOf T) (T .statements) i noStatement
 
 pub plain-at : (T : Tables) (i : ℕ) → statementOf T i .kind < 11 → (x : Instr) × (getD (stmtsOf T) i end ≡ plain x)

@@ -1,5 +1,4 @@
 -- The tables of a byte string whose sections lie in it: which entries they have, and how many.
--- Assumes nothing.
 use mathlib.Core.Path.{_≡_}
 use mathlib.Core.List.{List}
 use Prim.Native.Nat.{ℕ, _+_, _*_, _≤_, _<_}

@@ -1,5 +1,4 @@
 -- What the reader's answers and entries stand for, and what its functions may assume of a layout.
--- Assumes nothing.
 use mathlib.Core.Path.{_≡_}
 use mathlib.Core.List.{List, map}
 use Prim.Native.Nat.{ℕ, _+_, _*_, _≤_, _<_, _^_}
@@ -10,6 +9,7 @@ use Rattle.model.specs.Bytes.{Pair}
 use Rattle.model.specs.Code.{Stmt, end, treeOf}
 use Rattle.model.specs.Program.{Statement, Tables, tablesAt, layoutOf, countsRight, typesRight, formRight, typesAgree, immediateRight, stmtOf, Program, readProgram}
 use Rattle.model.specs.Program.{Layout as Sections}
+use Rattle.model.specs.Placement.{Laid}
 use Rattle.program.specs.declared.Layout.{Layout}
 use Rattle.program.specs.declared.Entry.{Entry}
 use Rattle.program.specs.declared.ProgramRead.{ProgramRead}
@@ -75,6 +75,14 @@ stmtsOf T = map (stmtOf T) (T .statements)
 -- the statement with a label; past the last one an end
 abbrev pub stmtAt : Tables → ℕ → Stmt
 stmtAt T i = getD (stmtsOf T) i end
+
+-- the statement with a label, behind check 5
+abbrev pub formChecked : Tables → ℕ → Out Statement
+formChecked T i = check (formRight T (statementOf T i)) wrongStatement (ok (statementOf T i))
+
+-- a table of mates lays the program's blocks out over its labels
+abbrev pub LaidBy : (program table : List ℕ) → ℕ → Type 0
+LaidBy s table n = (P : Program) → readProgram s ≡ ok P → Laid (stmtAt (tablesOf s)) (λ i. getD table i 0) (P .code) 0 n
 
 -- checks 5, 6 and 7, each over all statements, and then o
 abbrev pub statementChecks : List ℕ → Out Sections → Out Sections

@@ -1,5 +1,4 @@
 -- What an insertion, a refusal or the next of several insertions has added to the set of a region.
--- Assumes nothing.
 use mathlib.Core.Bool.{Bool, true, false}
 use mathlib.Core.List.{List, [], _∷_, map}
 use mathlib.Core.Logic.{_≢_, inl, ⊎-elim}
@@ -11,9 +10,11 @@ use lib.ListN.{length, getD, drop, length-map, List·getD-map}
 use borrow.Author.Tests.{eqb-true, eqb-false}
 use Rattle.model.specs.Conjunct.{Atom, Conj, Conjuncts, withConjunct, unionOf, atoms, renumber}
 use Rattle.model.specs.Walk.{loads, subsets}
+use Rattle.model.specs.Sizes.{mostConjuncts, mostNodes}
+use Rattle.model.specs.Refusals.{tooManyConjuncts, tooManyNodes}
 use Rattle.model.proofs.Canonical.{insert-length, union-canon, union-left, sub-length}
 use Rattle.model.proofs.Tests.{decide, true→T}
-use Rattle.model.proofs.TidySets.{Canon}
+use Rattle.model.specs.TidySets.{Canon}
 use Rattle.sets.proofs.Inserting.{union-next, union-over}
 use Rattle.sets.specs.Region.{setOf, Inserted}
 use Rattle.rules.proofs.Distinct.{subsets-length, subsets-many, seven-many}
@@ -23,7 +24,8 @@ use Rattle.rules.specs.declared.Answer.{Answer}
 use Rattle.rules.specs.declared.Answer.the-variants.{Done, Refused}
 
 -- what is added for a store, with its premise as the other kinds have it
-pub added-store : (a : Answer) (K : Type 0) (R : Conjuncts) (b : ℕ) (s t : List ℕ) → K → Added a NoneLong R b s t → Added a (λ G. K → NoneLong G) R b s t
+pub added-store : (a : Answer) (K : Type 0) (R : Conjuncts) (b : ℕ) (s t : List ℕ) → K → Added a NoneLong R b s t
+    → Added a (λ G. K → NoneLong G) R b s t
 added-store Done K R b s t k h = h
 added-store (Refused n) K R b s t k h = λ G c f p. h G c f (p k)
 
@@ -31,11 +33,11 @@ added-store (Refused n) K R b s t k h = λ G c f p. h G c f (p k)
 
 module _ (x : Conj) (b : ℕ) (s t : List ℕ) where
   -- it has over 120 nodes
-  pub added-nine : (P : Conjuncts → Type 0) → 120 < length x → Added (Refused 9) P (x ∷ []) b s t
+  pub added-nine : (P : Conjuncts → Type 0) → mostNodes < length x → Added (Refused tooManyNodes) P (x ∷ []) b s t
   added-nine P h G c f p = limits-nine G x (f x (union-left x (x ∷ []) (setOf s b) (inl refl))) h
 
   -- it was inserted, for the set had fewer than 64
-  pub added-one : (r : Bool) (P : Conjuncts → Type 0) → length (setOf s b) < 64 → Inserted r b x s t → Added Done P (x ∷ []) b s t
+  pub added-one : (r : Bool) (P : Conjuncts → Type 0) → length (setOf s b) < mostConjuncts → Inserted r b x s t → Added Done P (x ∷ []) b s t
   unfolding unionOf
   added-one true P h i = i
   added-one false P h i = absurd (omega (arith, i .1, insert-length x (setOf s b)))
@@ -46,17 +48,19 @@ module _ (x : Conj) (b : ℕ) (s t : List ℕ) where
   added-in false q i = absurd (true→T q)
 
   -- there was no room for it
-  pub added-out : (r : Bool) → r ≡ false → Canon (setOf s b) → Inserted r b x s t → Added (Refused 10) NoneLong (x ∷ []) b s t
+  pub added-out : (r : Bool) → r ≡ false → Canon (setOf s b) → Inserted r b x s t → Added (Refused tooManyConjuncts) NoneLong (x ∷ []) b s t
   unfolding unionOf
   added-out true q d i = absurd (true→T (sym q))
-  added-out false q d i = λ G c f p. limits-ten G p (omega (arith, i .1, sub-length (unionOf (x ∷ []) (setOf s b)) G (union-canon (x ∷ []) (setOf s b) d) c f))
+  added-out false q d i =
+      λ G c f p. limits-ten G p (omega (arith, i .1, sub-length (unionOf (x ∷ []) (setOf s b)) G (union-canon (x ∷ []) (setOf s b) d) c f))
 
   -- there was no room for it, which happens for a store alone
-  pub added-full : (r : Bool) → r ≡ false → (k : ℕ) → (k ≢ 9 → length (setOf s b) < 64) → Canon (setOf s b) → Inserted r b x s t → Added (Refused 10) (λ G. k ≡ 9 → NoneLong G) (x ∷ []) b s t
+  pub added-full : (r : Bool) → r ≡ false → (k : ℕ) → (k ≢ 9 → length (setOf s b) < mostConjuncts) → Canon (setOf s b) → Inserted r b x s t
+      → Added (Refused tooManyConjuncts) (λ G. k ≡ 9 → NoneLong G) (x ∷ []) b s t
   added-full true q k few d i = absurd (true→T (sym q))
   added-full false q k few d i =
       ⊎-elim
-      (λ p. added-store (Refused 10) (k ≡ 9) (x ∷ []) b s t (eqb-true k 9 p) (added-out false q d i))
+      (λ p. added-store (Refused tooManyConjuncts) (k ≡ 9) (x ∷ []) b s t (eqb-true k 9 p) (added-out false q d i))
       (λ p. absurd (omega (arith, i .1, few (eqb-false k 9 p), insert-length x (setOf s b))))
       (decide (eqb k 9))
 
@@ -71,10 +75,11 @@ module _ (F : Conjuncts) (b : ℕ) (s₀ s t : List ℕ) (k j : ℕ) (x : Conj) 
   turn-in true q i = i ∙ step
   turn-in false q i = absurd (true→T q)
 
-  pub turn-out : (r : Bool) → r ≡ false → Inserted r b x s t → Added (Refused 10) NoneLong F b s₀ t
+  pub turn-out : (r : Bool) → r ≡ false → Inserted r b x s t → Added (Refused tooManyConjuncts) NoneLong F b s₀ t
   turn-out true q i = absurd (true→T (sym q))
   turn-out false q i = λ G c f p.
-      limits-ten G p (omega (arith, i .1, ap length step, union-over F (setOf s₀ b) j, sub-length (unionOf F (setOf s₀ b)) G (union-canon F (setOf s₀ b) canon) c f))
+      limits-ten G p
+      (omega (arith, i .1, ap length step, union-over F (setOf s₀ b) j, sub-length (unionOf F (setOf s₀ b)) G (union-canon F (setOf s₀ b) canon) c f))
 
 -- ---- the subsets
 
@@ -93,6 +98,7 @@ module _ (t k x ty : ℕ) (e : Conj) where
   abbrev onto : List Atom
   onto = loads t k (atoms e)
 
-  pub chosen-many : 7 ≤ length onto → (b : ℕ) (s u : List ℕ) → Added (Refused 10) NoneLong (Chosen onto x ty e) b s u
+  pub chosen-many : 7 ≤ length onto → (b : ℕ) (s u : List ℕ) → Added (Refused tooManyConjuncts) NoneLong (Chosen onto x ty e) b s u
   chosen-many h b s u G c f p =
-      limits-ten G p (omega (arith, seven-many (length onto) h, subsets-many t k x ty e G c (λ y m. f y (union-left y (Chosen onto x ty e) (setOf s b) m))))
+      limits-ten G p
+      (omega (arith, seven-many (length onto) h, subsets-many t k x ty e G c (λ y m. f y (union-left y (Chosen onto x ty e) (setOf s b) m))))

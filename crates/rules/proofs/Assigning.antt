@@ -1,5 +1,4 @@
 -- What a substitution in one conjunct has added to the set of a region.
--- Assumes nothing.
 use mathlib.Core.Bool.{Bool}
 use mathlib.Core.List.{List, map, flatMap}
 use mathlib.Core.Path.{_≡_, ap, subst, _∙_}
@@ -8,13 +7,15 @@ use native.Mathlib.Omega.{arith}
 use lib.ListN.{length}
 use Rattle.model.specs.Conjunct.{Conj, Conjuncts, renumber}
 use Rattle.model.specs.Walk.{nodes, replace, before}
-use Rattle.machine.specs.Decoding.{instrOf}
-use Rattle.machine.specs.declared.Decoded.{Decoded}
+use Rattle.model.specs.Sizes.{mostConjuncts, mostNodes}
+use Rattle.model.specs.Refusals.{tooManyNodes}
+use Rattle.code_table.specs.Statements.{instrOf}
+use Rattle.code_table.specs.declared.Decoded.{Decoded}
 use Rattle.conjunct.specs.Value.{conjOf}
-use Rattle.numbering.specs.Behind.{rightOf, Replaced}
-use Rattle.numbering.specs.declared.Right.{Right}
-use Rattle.numbering.specs.declared.Substituted.{Substituted}
-use Rattle.numbering.specs.declared.Substituted.the-variants.{Over, Nodes}
+use Rattle.conjunct.specs.Behind.{rightOf, Replaced}
+use Rattle.conjunct.specs.declared.numbering.Right.{Right}
+use Rattle.conjunct.specs.declared.numbering.Substituted.{Substituted}
+use Rattle.conjunct.specs.declared.numbering.Substituted.the-variants.{Over, Nodes}
 use Rattle.sets.specs.Region.{setOf, Inserted}
 use Rattle.rules.proofs.Additions.{added-nine, added-one}
 use Rattle.rules.proofs.ByKind.{before-assign}
@@ -23,10 +24,11 @@ use Rattle.rules.specs.Adding.{sideOf, Added}
 use Rattle.rules.specs.declared.Answer.the-variants.{Done, Refused}
 
 -- no more than 120 nodes, where there are any
-pub assigned-few : (u : Substituted) (m : ℕ) → u ≡ Nodes m → (e : Conj) (x : ℕ) (r : Right) (out : List ℕ) → Replaced u e x r out → m ≤ 120
+pub assigned-few : (u : Substituted) (m : ℕ) → u ≡ Nodes m → (e : Conj) (x : ℕ) (r : Right) (out : List ℕ) → Replaced u e x r out → m ≤ mostNodes
 assigned-few u m q e x r out h = subst (λ v. Replaced v e x r out) q h .0
 
-module _ (d : Decoded) (l : ℕ) (e : Conj) (small : d .kind ≤ 8) (r : Right) (right : rightOf r ≡ nodes l (d .ty) (sideOf d)) (u : Substituted) (out : List ℕ)
+module _ (d : Decoded) (l : ℕ) (e : Conj) (small : d .kind ≤ 8) (r : Right) (right : rightOf r ≡ nodes l (d .ty) (sideOf d)) (u : Substituted)
+    (out : List ℕ)
     (replaced : Replaced u e (d .a) r out) where
   abbrev whole : Conj
   whole = flatMap (replace (d .a) (nodes l (d .ty) (sideOf d))) e
@@ -34,13 +36,16 @@ module _ (d : Decoded) (l : ℕ) (e : Conj) (small : d .kind ≤ 8) (r : Right) 
   abbrev new : Conjuncts
   new = map renumber (before l (instrOf d) e)
 
-  pub assigned-over : u ≡ Over → (b : ℕ) (s t : List ℕ) (P : Conjuncts → Type 0) → Added (Refused 9) P new b s t
+  pub assigned-over : u ≡ Over → (b : ℕ) (s t : List ℕ) (P : Conjuncts → Type 0) → Added (Refused tooManyNodes) P new b s t
   assigned-over q b s t P =
-      let o : 120 < length (flatMap (replace (d .a) (rightOf r)) e) = subst (λ v. Replaced v e (d .a) r out) q replaced in
-      let n : 120 < length whole = rw right at o in
-      subst (λ R. Added (Refused 9) P R b s t) (before-assign d l e small) (added-nine (renumber whole) b s t P (omega (arith, renumber-length whole)))
+      let o : mostNodes < length (flatMap (replace (d .a) (rightOf r)) e) = subst (λ v. Replaced v e (d .a) r out) q replaced in
+      let n : mostNodes < length whole = rw right at o in
+      subst (λ R. Added (Refused tooManyNodes) P R b s t) (before-assign d l e small)
+      (added-nine (renumber whole) b s t P (omega (arith, renumber-length whole)))
 
-  pub assigned-in : (m : ℕ) → u ≡ Nodes m → (b : ℕ) (s t : List ℕ) (P : Conjuncts → Type 0) → length (setOf s b) < 64 → (z : Bool) → Inserted z b (conjOf out m) s t → Added Done P new b s t
+  pub assigned-in : (m : ℕ) → u ≡ Nodes m → (b : ℕ) (s t : List ℕ) (P : Conjuncts → Type 0) → length (setOf s b) < mostConjuncts → (z : Bool)
+      → Inserted z b (conjOf out m) s t → Added Done P new b s t
   assigned-in m q b s t P few z i =
-      let c : conjOf out m ≡ renumber whole = subst (λ v. Replaced v e (d .a) r out) q replaced .1 ∙ ap (λ n. renumber (flatMap (replace (d .a) n) e)) right in
+      let c : conjOf out m ≡ renumber whole =
+      subst (λ v. Replaced v e (d .a) r out) q replaced .1 ∙ ap (λ n. renumber (flatMap (replace (d .a) n) e)) right in
       subst (λ R. Added Done P R b s t) (before-assign d l e small) (added-one (renumber whole) b s t z P few (subst (λ x. Inserted z b x s t) c i))

@@ -1,25 +1,24 @@
 -- The conjuncts for the subsets of a conjunct's loads are all different, renumbered too: for two of them there is a place where one
 -- has an atom and the other the variable. So a set that has them all has at least 2 ^ n conjuncts for n loads.
--- Assumes nothing.
 use mathlib.Core.Bool.{Bool, true, false, cond}
-use mathlib.Core.List.{List, [], _∷_, _++_, map}
+use mathlib.Core.List.{List, [], _∷_, _++_, map, map-append}
 use mathlib.Core.Logic.{_⊎_, inl, inr, ⊎-elim}
 use mathlib.Core.Path.{_≡_, refl, sym, ap, subst, _∙_}
 use Prim.Native.Nat.{ℕ, suc, _+_, _^_, _≤_, _<_, Ordering, Ordering·lt, Ordering·eq, Ordering·gt}
 use native.Mathlib.Nat.{pow-suc, pow-le-pow-right}
 use native.Mathlib.Omega.{arith}
 use lib.ListN.{length, getD, length-append, length-map, List·getD-map}
-use Rattle.model.specs.Conjunct.{Atom, Node, const, atom, var, op, conv, Conj, Conjuncts, order, place, withConjunct, unionOf, sameAtom, without, atoms, renamed, onAtom, renumber}
+use Rattle.model.specs.Conjunct.{Atom, Node, const, atom, var, op, conv, Conj, Conjuncts, order, place, withConjunct, unionOf, sameAtom, AtAtom}
+use Rattle.model.specs.Conjunct.{without, atoms, renamed, onAtom, renumber}
 use Rattle.model.specs.Lists.{All}
 use Rattle.model.specs.Walk.{onArray, loads, swap, subsets}
+use Rattle.model.specs.Sizes.{mostConjuncts}
 use Rattle.model.proofs.Atoms.{atom-eq, atom-self, at-imp, atoms-all}
 use Rattle.model.proofs.Canonical.{all-mem, union-from, union-canon, union-least, sub-length}
 use Rattle.model.proofs.Lists.{all-imp, all-append, all-map}
-use Rattle.model.proofs.Meaning.{AtAtom}
 use Rattle.model.proofs.Order.{order-eq}
 use Rattle.model.proofs.Tests.{case, true→T}
-use Rattle.model.proofs.TidySets.{Canon, Mem, Sub}
-use Rattle.conjunct.proofs.Words.{map-join}
+use Rattle.model.specs.TidySets.{Canon, Mem, Sub}
 
 -- ---- lists without repetition
 
@@ -38,7 +37,8 @@ distinct-append [] S h k f = k
 distinct-append (e ∷ R) S h k f =
     (λ m. ⊎-elim (h .0) (f e (inl refl)) (mem-append e R S m), distinct-append R S (h .1) k (λ x m. f x (inr m)))
 
-placed-new : (o : Ordering) (e d : Conj) (S rest : Conjuncts) → (o ≡ Ordering·eq → ⊥) → length rest ≡ suc (length S) → length (place o e d S rest) ≡ suc (suc (length S))
+placed-new : (o : Ordering) (e d : Conj) (S rest : Conjuncts) → (o ≡ Ordering·eq → ⊥) → length rest ≡ suc (length S)
+    → length (place o e d S rest) ≡ suc (suc (length S))
 placed-new Ordering·lt e d S rest n h = refl
 placed-new Ordering·eq e d S rest n h = absurd (n refl)
 placed-new Ordering·gt e d S rest n h = ap suc h
@@ -147,7 +147,8 @@ without-all : (P : Atom → Type 0) (a : Atom) (ks : List Atom) → All P ks →
 unfolding without
 without-all P a [] h = tt
 without-all P a (b ∷ ks) h =
-    case (sameAtom a b) (λ z. All P (cond z (without a ks) (b ∷ without a ks))) (λ q. without-all P a ks (h .1)) (λ q. (h .0, without-all P a ks (h .1)))
+    case (sameAtom a b) (λ z. All P (cond z (without a ks) (b ∷ without a ks))) (λ q. without-all P a ks (h .1))
+    (λ q. (h .0, without-all P a ks (h .1)))
 
 without-self : (a : Atom) (ks : List Atom) → All (λ b. sameAtom a b ≡ false) (without a ks)
 unfolding without
@@ -191,7 +192,9 @@ module _ (t k : ℕ) where
   loads-all : (P : Atom → Type 0) (ks : List Atom) → All P ks → All P (loads t k ks)
   unfolding loads
   loads-all P [] h = tt
-  loads-all P (a ∷ ks) h = case (onArray t k (a .src)) (λ z. All P (cond z (a ∷ loads t k ks) (loads t k ks))) (λ q. (h .0, loads-all P ks (h .1))) (λ q. loads-all P ks (h .1))
+  loads-all P (a ∷ ks) h =
+      case (onArray t k (a .src)) (λ z. All P (cond z (a ∷ loads t k ks) (loads t k ks))) (λ q. (h .0, loads-all P ks (h .1)))
+      (λ q. loads-all P ks (h .1))
 
   loads-different : (ks : List Atom) → Different ks → Different (loads t k ks)
   unfolding loads
@@ -217,7 +220,9 @@ module _ (x ty : ℕ) where
       ((h .0 .0, swap-other x ty b a e (h .0 .0) (flip d) (h .0 .1)), stand-after a e ks (d .1) (h .1))
     where
       flip : All (λ c. sameAtom a c ≡ false) (b ∷ ks) → sameAtom b a ≡ false
-      flip d = case (sameAtom b a) (λ z. sameAtom b a ≡ z → z ≡ false) (λ q r. absurd (true→T (sym (d .0) ∙ ap (sameAtom a) (atom-eq b a r) ∙ atom-self a))) (λ q r. refl) refl
+      flip d =
+          case (sameAtom b a) (λ z. sameAtom b a ≡ z → z ≡ false)
+          (λ q r. absurd (true→T (sym (d .0) ∙ ap (sameAtom a) (atom-eq b a r) ∙ atom-self a))) (λ q r. refl) refl
 
   subsets-distinct : (ks : List Atom) (e : Conj) → Different ks → All (Occurs e) ks → Distinct (map renumber (subsets ks x ty e))
   unfolding subsets
@@ -227,20 +232,25 @@ module _ (x ty : ℕ) where
       let B = subsets ks x ty (swap a x ty e) in
       let p = h .0 .0 in
       let kept : All (λ c. atomic (at c p) ≡ true) (map renumber A) = renumbered-at true p A (subsets-keep x ty a p ks e (d .0) (h .0 .1)) in
-      let gone : All (λ c. atomic (at c p) ≡ false) (map renumber B) = renumbered-at false p B (subsets-plain x ty p ks (swap a x ty e) (swap-here x ty a e p (h .0 .1))) in
-      subst Distinct (sym (map-join renumber A B))
+      let gone : All (λ c. atomic (at c p) ≡ false) (map renumber B) =
+      renumbered-at false p B (subsets-plain x ty p ks (swap a x ty e) (swap-here x ty a e p (h .0 .1))) in
+      subst Distinct (sym (map-append renumber A B))
       (distinct-append (map renumber A) (map renumber B) (subsets-distinct ks e (d .1) (h .1))
       (subsets-distinct ks (swap a x ty e) (d .1) (stand-after a e ks (d .0) (h .1)))
-      (λ c m n. true→T (sym (all-mem (λ d. atomic (at d p) ≡ false) (map renumber B) gone c n) ∙ all-mem (λ d. atomic (at d p) ≡ true) (map renumber A) kept c m)))
+      (λ c m n.
+      true→T (sym (all-mem (λ d. atomic (at d p) ≡ false) (map renumber B) gone c n)
+      ∙ all-mem (λ d. atomic (at d p) ≡ true) (map renumber A) kept c m)))
 
 -- a canonical set with the conjuncts for every subset of the loads
-pub subsets-many : (t k x ty : ℕ) (e : Conj) (G : Conjuncts) → Canon G → Sub (map renumber (subsets (loads t k (atoms e)) x ty e)) G → 2 ^ length (loads t k (atoms e)) ≤ length G
+pub subsets-many : (t k x ty : ℕ) (e : Conj) (G : Conjuncts) → Canon G → Sub (map renumber (subsets (loads t k (atoms e)) x ty e)) G
+    → 2 ^ length (loads t k (atoms e)) ≤ length G
 subsets-many t k x ty e G c f =
     let ks = loads t k (atoms e) in
     let many = distinct-within (map renumber (subsets ks x ty e)) G
-    (subsets-distinct x ty ks e (loads-different t k (atoms e) (atoms-different e)) (loads-all t k (Occurs e) (atoms e) (atoms-all (Occurs e) e (occurs-each e)))) c f in
+    (subsets-distinct x ty ks e (loads-different t k (atoms e) (atoms-different e))
+    (loads-all t k (Occurs e) (atoms e) (atoms-all (Occurs e) e (occurs-each e)))) c f in
     omega (arith, length-map (subsets ks x ty e) renumber, subsets-length x ty ks e)
 
 -- for seven loads or more, more than 64
-pub seven-many : (n : ℕ) → 7 ≤ n → 64 < 2 ^ n
+pub seven-many : (n : ℕ) → 7 ≤ n → mostConjuncts < 2 ^ n
 seven-many n h = omega (arith, pow-le-pow-right {n = 2} (omega arith) {i = 7} {j = n} h)

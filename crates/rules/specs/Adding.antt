@@ -1,34 +1,43 @@
--- What the functions for one conjunct promise: the right side of an assignment, and what is added to the set of a region.
--- Assumes nothing.
+-- What the functions for one conjunct are given and promise: the right side of an assignment, and what is added to the set of a region.
 use mathlib.Core.Bool.{false}
-use mathlib.Core.List.{List, [], _∷_}
+use mathlib.Core.List.{List, []}
+use mathlib.Core.Logic.{_≢_}
 use mathlib.Core.Path.{_≡_}
-use Prim.Native.Nat.{ℕ, _+_, _≤_}
-use lib.ListN.{length, getD}
+use Prim.Native.Nat.{ℕ, _+_, _≤_, _<_, _^_}
+use lib.ListN.{length}
 use Rattle.model.specs.Code.{Right, number, copy, calc, change, read, load}
 use Rattle.model.specs.Conjunct.{Conjuncts, unionOf, long, limits}
+use Rattle.model.specs.Lists.{All}
 use Rattle.model.specs.Refusals.{refused}
-use Rattle.model.specs.Values.{add, sub, mul, div}
-use Rattle.model.proofs.TidySets.{Canon, Sub}
-use Rattle.machine.specs.declared.Decoded.{Decoded}
-use Rattle.sets.specs.Region.{setOf}
+use Rattle.model.specs.Kinds.{Kind, aNumber, aCopy, anOperation, aConversion, aRead, aLoad, aStore, aSite, anIf, anElse, anEnd, aWhile, noKind, kindOf}
+use Rattle.model.specs.Sizes.{mostConjuncts, mostNodes}
+use Rattle.model.specs.TidySets.{Canon, Sub, Numbered}
+use Rattle.code_table.specs.declared.Decoded.{Decoded}
+use Rattle.code_table.specs.Statements.{Known}
+use Rattle.conjunct.specs.Value.{conjOf}
+use Rattle.sets.specs.Region.{setOf, regionWords}
 use Rattle.rules.specs.declared.Answer.{Answer}
 use Rattle.rules.specs.declared.Answer.the-variants.{Done, Refused}
 
--- the right side of an assignment of a kind
-abbrev pub sideAt : Decoded → ℕ → Right
-sideAt d k =
-    getD
-    (number (d .imm)
-    ∷ copy (d .b)
-    ∷ calc add (d .b) (d .c) ∷ calc sub (d .b) (d .c) ∷ calc mul (d .b) (d .c) ∷ calc div (d .b) (d .c)
-    ∷ change (d .b) (d .from)
-    ∷ read (d .b) ∷ [])
-    k (load (d .b) (d .len) (d .c))
+-- the right side of an assignment of a kind; a load for every kind that is none
+abbrev pub sideFor : Kind → Decoded → Right
+sideFor aNumber d = number (d .imm)
+sideFor aCopy d = copy (d .b)
+sideFor (anOperation o) d = calc o (d .b) (d .c)
+sideFor aConversion d = change (d .b) (d .from)
+sideFor aRead d = read (d .b)
+sideFor aLoad d = load (d .b) (d .len) (d .c)
+sideFor aStore d = load (d .b) (d .len) (d .c)
+sideFor aSite d = load (d .b) (d .len) (d .c)
+sideFor anIf d = load (d .b) (d .len) (d .c)
+sideFor anElse d = load (d .b) (d .len) (d .c)
+sideFor anEnd d = load (d .b) (d .len) (d .c)
+sideFor aWhile d = load (d .b) (d .len) (d .c)
+sideFor noKind d = load (d .b) (d .len) (d .c)
 
 -- the right side of an assignment
 unfoldable pub sideOf : Decoded → Right
-sideOf d = sideAt d (d .kind)
+sideOf d = sideFor (kindOf (d .kind)) d
 
 -- no conjunct has over 120 nodes
 abbrev pub NoneLong : Conjuncts → Type 0
@@ -41,9 +50,39 @@ Added Done P R b s t = setOf t b ≡ unionOf R (setOf s b)
 Added (Refused n) P R b s t = (G : Conjuncts) → Canon G → Sub (unionOf R (setOf s b)) G → P G → limits G ≡ refused n
 
 -- a region to add to: it lies in the words, and its set is canonical
-abbrev pub Room : List ℕ → ℕ → Type 0
-Room s b = (b + 7745 ≤ length s) × Canon (setOf s b)
+pub record Room (s : List ℕ) (b : ℕ) : Type 0 where
+  pub there : b + regionWords ≤ length s
+  pub canon : Canon (setOf s b)
 
 -- two lists of words to work in, each of 120 or more
 abbrev pub Buffers : List ℕ → List ℕ → Type 0
-Buffers out seen = (120 ≤ length out) × (120 ≤ length seen)
+Buffers out seen = (mostNodes ≤ length out) × (mostNodes ≤ length seen)
+
+-- what is given with one conjunct: a region to add to, the conjunct in the first n words of e, and words to work in
+pub record Given (s : List ℕ) (b : ℕ) (e : List ℕ) (n : ℕ) (out seen : List ℕ) : Type 0 where
+  pub room : Room s b
+  pub few : n ≤ mostNodes
+  pub there : n ≤ length e
+  pub buffers : Buffers out seen
+
+-- a statement with its label, of a kind up to the last
+pub record Labelled (l : ℕ) (d : Decoded) (last : ℕ) : Type 0 where
+  pub label : l < 2 ^ 16
+  pub kind : d .kind ≤ last
+  pub known : Known d
+
+-- what is given with one conjunct and a statement of a kind up to the last: the conjunct is numbered, and where the statement is no
+-- store, so that a conjunct comes to one, the set has room for one
+pub record GivenStatement (s : List ℕ) (b : ℕ) (e : List ℕ) (n : ℕ) (out seen : List ℕ) (label : ℕ) (d : Decoded) (last : ℕ) : Type 0 where
+  pub given : Given s b e n out seen
+  pub space : d .kind ≢ 9 → length (setOf s b) < mostConjuncts
+  pub statement : Labelled label d last
+  pub numbered : Numbered (conjOf e n)
+
+-- what is given with the set of the region at b: a statement, an empty room after the region, and that each conjunct is numbered
+pub record GivenSet (s : List ℕ) (b room label : ℕ) (d : Decoded) : Type 0 where
+  pub apart : b + regionWords ≤ room
+  pub there : room + regionWords ≤ length s
+  pub empty : setOf s room ≡ []
+  pub statement : Labelled label d 10
+  pub numbered : All Numbered (setOf s b)

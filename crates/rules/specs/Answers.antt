@@ -1,5 +1,4 @@
 -- What the answer of a rule or a walk on a region of sets stands for, and what it leaves.
--- Assumes nothing.
 use mathlib.Core.List.{List}
 use mathlib.Core.Path.{_≡_}
 use Prim.Native.Nat.{ℕ, _<_}

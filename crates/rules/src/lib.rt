@@ -1,26 +1,32 @@
 // The rule of one statement on a set of conjuncts. A conjunct is the first n of lent words; `out` and
-// `seen` are room for 120 words each to work in. Assumes nothing.
+// `seen` are room for 120 words each to work in.
 ghost use mathlib.Core.Path.{_≡_};
 ghost use mathlib.Core.Logic.{_≢_};
 ghost use mathlib.Core.List.{List, [], _∷_, map};
-ghost use Prim.Native.Nat.{ℕ, _+_, _≤_, _<_, _^_};
+ghost use Prim.Native.Nat.{ℕ, _+_, _*_, _≤_, _<_, _^_};
 ghost use lib.ListN.{length, getD, take};
 ghost use Rattle.model.specs.Conjunct.{Atom, atom, var, atoms, renumber};
 ghost use Rattle.model.specs.Lists.{All};
 ghost use Rattle.model.specs.Walk.{nodes, loads, swapAll, subsets, before, back};
-ghost use Rattle.model.proofs.TidySets.{Numbered};
-ghost use Rattle.model.proofs.Touch.{writes};
-ghost use Rattle.machine.specs.Decoding.{instrOf};
-ghost use Rattle.decoding.specs.Known.{Known};
-ghost use Rattle.node.specs.Word.{nodeOf};
+ghost use Rattle.model.specs.Sizes.{mostNodes};
+ghost use Rattle.model.specs.TidySets.{Numbered};
+ghost use Rattle.model.specs.Touch.{writes};
+ghost use Rattle.code_table.specs.Statements.{instrOf, Known};
+ghost use Rattle.conjunct.specs.Word.{nodeOf, nodesOf};
 ghost use Rattle.conjunct.specs.Value.{conjOf};
-ghost use Rattle.numbering.specs.Behind.{rightOf};
-ghost use Rattle.sets.specs.Region.{setOf, Within, Inserted};
-ghost use Rattle.rules.specs.Adding.{sideOf, NoneLong, Added, Room, Buffers};
+ghost use Rattle.conjunct.specs.Behind.{rightOf};
+ghost use Rattle.sets.specs.Region.{setOf, Within, Inserted, regionWords};
+ghost use Rattle.rules.specs.Adding.{sideOf, NoneLong, Added, Buffers, Given, GivenStatement, GivenSet, Labelled};
 ghost use Rattle.rules.specs.Answers.{answered, Below};
-use machine::Decoded;
-use numbering::Right;
-use numbering::Substituted;
+use code_table::Decoded;
+use conjunct::MOST_NODES;
+use conjunct::numbering::Right;
+use conjunct::numbering::Substituted;
+
+// the refusals of a rule
+const TOO_MANY_NODES: u8 = 9;
+
+const TOO_MANY_CONJUNCTS: u8 = 10;
 
 // The set is in its region, or a refusal: 9, 10 or 11.
 pub enum Answer {
@@ -59,33 +65,36 @@ fn three_nodes(u: u64, v: u64, w: u64) -> Right
 
 // the right side's nodes; a read or a load is a fresh atom
 fn right_side(label: u64, d: Decoded) -> Right
-    requires { ⌜ (label < 2 ^ 16) × (d .kind ≤ 8) × Known d ⌝ }
+    requires { ⌜ Labelled label d 8 ⌝ }
     ensures { λ r. ⌜ (r .len ≤ 3) × (rightOf r ≡ nodes label (d .ty) (sideOf d)) ⌝ }
 {
     let kind = d.kind;
     let ty = d.ty as u64;
     let b = d.b as u64;
     if kind == 0 {
-        return one_node(node::constant(ty, d.imm));
+        return one_node(conjunct::node::constant(ty, d.imm));
     }
     if kind == 1 {
-        return one_node(node::variable(b, ty));
+        return one_node(conjunct::node::variable(b, ty));
     }
     if kind <= 5 {
         let c = d.c as u64;
         return three_nodes(
-            node::variable(b, ty),
-            node::variable(c, ty),
-            node::operation(kind as u64, ty),
+            conjunct::node::variable(b, ty),
+            conjunct::node::variable(c, ty),
+            conjunct::node::operation(kind as u64, ty),
         );
     }
     if kind == 6 {
-        return two_nodes(node::variable(b, d.from as u64), node::conversion(ty));
+        return two_nodes(
+            conjunct::node::variable(b, d.from as u64),
+            conjunct::node::conversion(ty),
+        );
     }
     if kind == 7 {
-        return one_node(node::reading(b, ty));
+        return one_node(conjunct::node::reading(b, ty));
     }
-    one_node(node::load(label, b, d.len, ty))
+    one_node(conjunct::node::load(label, b, d.len, ty))
 }
 
 // The right side for the variable in one conjunct. The set has room: each conjunct comes to one.
@@ -99,13 +108,17 @@ fn assign_one(
     out: &mut [u64],
     seen: &mut [u64],
 ) -> Answer
-    requires { ⌜ (room + 7745 ≤ length (now s)) × (length (setOf (now s) room) < 64) × (n ≤ 120) × (n ≤ length (now e)) × Buffers (now out) (now seen) × (label < 2 ^ 16) × (d .kind ≤ 8) × Known d × Numbered (conjOf (now e) n) ⌝ }
-    ensures { λ r. ⌜ Added r (λ G. d .kind ≡ 9 → NoneLong G) (map renumber (before label (instrOf d) (conjOf (now (e .entry)) n))) room (now (s .entry)) (now (s .exit)) × Within room (now (s .entry)) (now (s .exit)) ⌝ }
+    requires { ⌜ GivenStatement (now s) room (now e) n (now out) (now seen) label d 8 ⌝ }
+    ensures { λ r. ⌜
+        Added r (λ G. d .kind ≡ 9 → NoneLong G) (map renumber (before label (instrOf d) (conjOf (now (e .entry)) n)))
+        room (now (s .entry)) (now (s .exit))
+        × Within room (now (s .entry)) (now (s .exit))
+        ⌝ }
 {
     let right = right_side(label, d);
-    let t = numbering::substitute(e, n, d.a as u64, right, out, seen);
+    let t = conjunct::numbering::substitute(e, n, d.a as u64, right, out, seen);
     match t {
-        Substituted::Over => Answer::Refused(9),
+        Substituted::Over => Answer::Refused(TOO_MANY_NODES),
         Substituted::Nodes(m) => {
             sets::insert(s, room, out, m);
             Answer::Done
@@ -117,10 +130,13 @@ fn assign_one(
 
 // One conjunct more, renumbered; false where the set would have over 64.
 fn add(s: &mut [u64], room: usize, e: &mut [u64], n: usize, seen: &mut [u64]) -> bool
-    requires { ⌜ (room + 7745 ≤ length (now s)) × (n ≤ 120) × Buffers (now e) (now seen) ⌝ }
-    ensures { λ r. ⌜ Inserted r room (renumber (conjOf (now (e .entry)) n)) (now (s .entry)) (now (s .exit)) × Within room (now (s .entry)) (now (s .exit)) ⌝ }
+    requires { ⌜ (room + regionWords ≤ length (now s)) × (n ≤ mostNodes) × Buffers (now e) (now seen) ⌝ }
+    ensures { λ r. ⌜
+        Inserted r room (renumber (conjOf (now (e .entry)) n)) (now (s .entry)) (now (s .exit))
+        × Within room (now (s .entry)) (now (s .exit))
+        ⌝ }
 {
-    numbering::renumber(e, n, seen);
+    conjunct::numbering::renumber(e, n, seen);
     sets::insert(s, room, e, n)
 }
 
@@ -156,7 +172,10 @@ fn power(n: usize) -> u64
 // on, it is left in the lower half of them and replaced by the variable v in the upper half.
 fn choose(w: &mut [u64], n: usize, atoms: &[u64], k: usize, j: u64, v: u64)
     requires { ⌜ (n ≤ length (now w)) × (k ≤ 6) × (k ≤ length (now atoms)) × (j < 2 ^ k) ⌝ }
-    ensures { λ _. ⌜ ((ks : List Atom) (x ty : ℕ) → conjOf (now (atoms .entry)) k ≡ map atom ks → nodeOf v ≡ var x ty → conjOf (now (w .exit)) n ≡ getD (subsets ks x ty (conjOf (now (w .entry)) n)) j []) ⌝ }
+    ensures { λ _. ⌜
+        ((ks : List Atom) (x ty : ℕ) → conjOf (now (atoms .entry)) k ≡ map atom ks → nodeOf v ≡ var x ty
+        → conjOf (now (w .exit)) n ≡ getD (subsets ks x ty (conjOf (now (w .entry)) n)) j [])
+        ⌝ }
 {
     let mut rest = j;
     let mut half = power(k);
@@ -171,31 +190,42 @@ fn choose(w: &mut [u64], n: usize, atoms: &[u64], k: usize, j: u64, v: u64)
     }
 }
 
-// The conjunct of each subset of k loads.
+// The conjunct of each subset of the loads.
 fn add_subsets(
     s: &mut [u64],
     room: usize,
     e: &[u64],
     n: usize,
     atoms: &[u64],
-    k: usize,
     v: u64,
     out: &mut [u64],
     seen: &mut [u64],
 ) -> Answer
-    requires { ⌜ Room (now s) room × (n ≤ 120) × (n ≤ length (now e)) × (k ≤ 6) × (k ≤ length (now atoms)) × Buffers (now out) (now seen) ⌝ }
-    ensures { λ r. ⌜ ((ks : List Atom) (x ty : ℕ) → conjOf (now (atoms .entry)) k ≡ map atom ks → nodeOf v ≡ var x ty → Added r NoneLong (map renumber (subsets ks x ty (conjOf (now (e .entry)) n))) room (now (s .entry)) (now (s .exit))) × Within room (now (s .entry)) (now (s .exit)) ⌝ }
+    requires { ⌜ Given (now s) room (now e) n (now out) (now seen) × (length (now atoms) ≤ 6) ⌝ }
+    ensures { λ r. ⌜
+        ((ks : List Atom) (x ty : ℕ) → nodesOf (now (atoms .entry)) ≡ map atom ks → nodeOf v ≡ var x ty
+        → Added r NoneLong (map renumber (subsets ks x ty (conjOf (now (e .entry)) n))) room (now (s .entry)) (now (s .exit)))
+        × Within room (now (s .entry)) (now (s .exit))
+        ⌝ }
 {
+    let k = atoms.len();
     let mut j = power(k);
     while j > 0 {
         j -= 1;
         copy(e, n, out);
         choose(out, n, atoms, k, j, v);
         if !add(s, room, out, n, seen) {
-            return Answer::Refused(10);
+            return Answer::Refused(TOO_MANY_CONJUNCTS);
         }
     }
     Answer::Done
+}
+
+// a store: the array with its length, and the stored variable as a node
+struct Store {
+    array: u64,
+    len: u64,
+    variable: u64,
 }
 
 // A store to an array of several cells: a conjunct for each subset of the loads. For seven loads
@@ -205,21 +235,24 @@ fn store_subsets(
     room: usize,
     e: &[u64],
     n: usize,
-    array: u64,
-    len: u64,
-    v: u64,
+    t: Store,
     out: &mut [u64],
     seen: &mut [u64],
 ) -> Answer
-    requires { ⌜ Room (now s) room × (n ≤ 120) × (n ≤ length (now e)) × Buffers (now out) (now seen) ⌝ }
-    ensures { λ r. ⌜ ((x ty : ℕ) → nodeOf v ≡ var x ty → Added r NoneLong (map renumber (subsets (loads array len (atoms (conjOf (now (e .entry)) n))) x ty (conjOf (now (e .entry)) n))) room (now (s .entry)) (now (s .exit))) × Within room (now (s .entry)) (now (s .exit)) ⌝ }
+    requires { ⌜ Given (now s) room (now e) n (now out) (now seen) ⌝ }
+    ensures { λ r. ⌜
+        ((x ty : ℕ) → nodeOf (t .variable) ≡ var x ty
+        → Added r NoneLong (map renumber (subsets (loads (t .array) (t .len) (atoms (conjOf (now (e .entry)) n))) x ty (conjOf (now (e .entry)) n)))
+        room (now (s .entry)) (now (s .exit)))
+        × Within room (now (s .entry)) (now (s .exit))
+        ⌝ }
 {
-    let mut atoms: [u64; 120] = [0; 120];
-    let k = numbering::loads(e, n, array, len, &mut atoms);
+    let mut atoms: [u64; MOST_NODES] = [0; MOST_NODES];
+    let k = conjunct::numbering::loads(e, n, t.array, t.len, &mut atoms);
     if k >= 7 {
-        return Answer::Refused(10);
+        return Answer::Refused(TOO_MANY_CONJUNCTS);
     }
-    add_subsets(s, room, e, n, &atoms, k, v, out, seen)
+    add_subsets(s, room, e, n, &atoms[0..k], t.variable, out, seen)
 }
 
 // A store to an array of one cell: every load is the stored variable.
@@ -228,19 +261,21 @@ fn store_cell(
     room: usize,
     e: &[u64],
     n: usize,
-    array: u64,
-    len: u64,
-    v: u64,
+    t: Store,
     out: &mut [u64],
     seen: &mut [u64],
 ) -> Answer
-    requires { ⌜ Room (now s) room × (n ≤ 120) × (n ≤ length (now e)) × Buffers (now out) (now seen) ⌝ }
-    ensures { λ r. ⌜ ((x ty : ℕ) → nodeOf v ≡ var x ty → Added r NoneLong (renumber (swapAll array len x ty (conjOf (now (e .entry)) n)) ∷ []) room (now (s .entry)) (now (s .exit))) × Within room (now (s .entry)) (now (s .exit)) ⌝ }
+    requires { ⌜ Given (now s) room (now e) n (now out) (now seen) ⌝ }
+    ensures { λ r. ⌜
+        ((x ty : ℕ) → nodeOf (t .variable) ≡ var x ty
+        → Added r NoneLong (renumber (swapAll (t .array) (t .len) x ty (conjOf (now (e .entry)) n)) ∷ []) room (now (s .entry)) (now (s .exit)))
+        × Within room (now (s .entry)) (now (s .exit))
+        ⌝ }
 {
     copy(e, n, out);
-    conjunct::replace_all(out, n, array, len, v);
+    conjunct::replace_all(out, n, t.array, t.len, t.variable);
     if !add(s, room, out, n, seen) {
-        return Answer::Refused(10);
+        return Answer::Refused(TOO_MANY_CONJUNCTS);
     }
     Answer::Done
 }
@@ -254,16 +289,22 @@ fn store_one(
     out: &mut [u64],
     seen: &mut [u64],
 ) -> Answer
-    requires { ⌜ Room (now s) room × (n ≤ 120) × (n ≤ length (now e)) × Buffers (now out) (now seen) × (d .kind ≡ 9) × Known d ⌝ }
-    ensures { λ r. ⌜ ((label : ℕ) → Added r NoneLong (map renumber (before label (instrOf d) (conjOf (now (e .entry)) n))) room (now (s .entry)) (now (s .exit))) × Within room (now (s .entry)) (now (s .exit)) ⌝ }
+    requires { ⌜ Given (now s) room (now e) n (now out) (now seen) × (d .kind ≡ 9) × Known d ⌝ }
+    ensures { λ r. ⌜
+        ((label : ℕ) → Added r NoneLong (map renumber (before label (instrOf d) (conjOf (now (e .entry)) n)))
+        room (now (s .entry)) (now (s .exit)))
+        × Within room (now (s .entry)) (now (s .exit))
+        ⌝ }
 {
-    let array = d.a as u64;
-    let len = d.len;
-    let v = node::variable(d.c as u64, d.ty as u64);
-    if len == 1 {
-        return store_cell(s, room, e, n, array, len, v, out, seen);
+    let t = Store {
+        array: d.a as u64,
+        len: d.len,
+        variable: conjunct::node::variable(d.c as u64, d.ty as u64),
+    };
+    if d.len == 1 {
+        return store_cell(s, room, e, n, t, out, seen);
     }
-    store_subsets(s, room, e, n, array, len, v, out, seen)
+    store_subsets(s, room, e, n, t, out, seen)
 }
 
 // ---- the set
@@ -296,12 +337,16 @@ fn add_before(
     out: &mut [u64],
     seen: &mut [u64],
 ) -> Answer
-    requires { ⌜ Room (now s) room × (d .kind ≢ 9 → length (setOf (now s) room) < 64) × (n ≤ 120) × (n ≤ length (now e)) × Buffers (now out) (now seen) × (label < 2 ^ 16) × (d .kind ≤ 10) × Known d × Numbered (conjOf (now e) n) ⌝ }
-    ensures { λ r. ⌜ Added r (λ G. d .kind ≡ 9 → NoneLong G) (map renumber (before label (instrOf d) (conjOf (now (e .entry)) n))) room (now (s .entry)) (now (s .exit)) × Within room (now (s .entry)) (now (s .exit)) ⌝ }
+    requires { ⌜ GivenStatement (now s) room (now e) n (now out) (now seen) label d 10 ⌝ }
+    ensures { λ r. ⌜
+        Added r (λ G. d .kind ≡ 9 → NoneLong G) (map renumber (before label (instrOf d) (conjOf (now (e .entry)) n)))
+        room (now (s .entry)) (now (s .exit))
+        × Within room (now (s .entry)) (now (s .exit))
+        ⌝ }
 {
     if !touched(e, n, d) {
         if !sets::insert(s, room, e, n) {
-            return Answer::Refused(10);
+            return Answer::Refused(TOO_MANY_CONJUNCTS);
         }
         return Answer::Done;
     }
@@ -324,8 +369,11 @@ fn gather(
     out: &mut [u64],
     seen: &mut [u64],
 ) -> Answer
-    requires { ⌜ (b + 7745 ≤ room) × (room + 7745 ≤ length (now s)) × (setOf (now s) room ≡ []) × (120 ≤ length (now e)) × Buffers (now out) (now seen) × (label < 2 ^ 16) × (d .kind ≤ 10) × Known d × All Numbered (setOf (now s) b) ⌝ }
-    ensures { λ r. ⌜ (back label (instrOf d) (setOf (now (s .entry)) b) ≡ answered r (setOf (now (s .exit)) room)) × Within room (now (s .entry)) (now (s .exit)) ⌝ }
+    requires { ⌜ GivenSet (now s) b room label d × (mostNodes ≤ length (now e)) × Buffers (now out) (now seen) ⌝ }
+    ensures { λ r. ⌜
+        (back label (instrOf d) (setOf (now (s .entry)) b) ≡ answered r (setOf (now (s .exit)) room))
+        × Within room (now (s .entry)) (now (s .exit))
+        ⌝ }
 {
     let mut k = sets::size(s, b);
     while k > 0 {
@@ -342,22 +390,30 @@ fn gather(
 
 // The same, with room to work in.
 fn gather_all(s: &mut [u64], b: usize, room: usize, label: u64, d: Decoded) -> Answer
-    requires { ⌜ (b + 7745 ≤ room) × (room + 7745 ≤ length (now s)) × (setOf (now s) room ≡ []) × (label < 2 ^ 16) × (d .kind ≤ 10) × Known d × All Numbered (setOf (now s) b) ⌝ }
-    ensures { λ r. ⌜ (back label (instrOf d) (setOf (now (s .entry)) b) ≡ answered r (setOf (now (s .exit)) room)) × Within room (now (s .entry)) (now (s .exit)) ⌝ }
+    requires { ⌜ GivenSet (now s) b room label d ⌝ }
+    ensures { λ r. ⌜
+        (back label (instrOf d) (setOf (now (s .entry)) b) ≡ answered r (setOf (now (s .exit)) room))
+        × Within room (now (s .entry)) (now (s .exit))
+        ⌝ }
 {
-    let mut e: [u64; 120] = [0; 120];
-    let mut out: [u64; 120] = [0; 120];
-    let mut seen: [u64; 120] = [0; 120];
+    let mut e: [u64; MOST_NODES] = [0; MOST_NODES];
+    let mut out: [u64; MOST_NODES] = [0; MOST_NODES];
+    let mut seen: [u64; MOST_NODES] = [0; MOST_NODES];
     gather(s, b, room, label, d, &mut e, &mut out, &mut seen)
 }
 
 // The rule of the statement d with a label on the set of the region at b. The region after it, at
-// b + 7745, is room to work in.
+// b + sets::REGION, is room to work in.
 pub fn rule(s: &mut [u64], b: usize, label: u64, d: Decoded) -> Answer
-    requires { ⌜ (b + 15490 ≤ length (now s)) × (label < 2 ^ 16) × (d .kind ≤ 10) × Known d × All Numbered (setOf (now s) b) ⌝ }
-    ensures { λ r. ⌜ (back label (instrOf d) (setOf (now (s .entry)) b) ≡ answered r (setOf (now (s .exit)) b)) × Below b (now (s .entry)) (now (s .exit)) ⌝ }
+    requires { ⌜
+        (b + 2 * regionWords ≤ length (now s)) × (label < 2 ^ 16) × (d .kind ≤ 10) × Known d × All Numbered (setOf (now s) b)
+        ⌝ }
+    ensures { λ r. ⌜
+        (back label (instrOf d) (setOf (now (s .entry)) b) ≡ answered r (setOf (now (s .exit)) b))
+        × Below b (now (s .entry)) (now (s .exit))
+        ⌝ }
 {
-    let room = b + 7745;
+    let room = b + sets::REGION;
     sets::clear(s, room);
     let answer = gather_all(s, b, room, label, d);
     match answer {

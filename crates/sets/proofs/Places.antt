@@ -1,5 +1,4 @@
 -- Where a conjunct goes in a set, found place by place.
--- Assumes nothing.
 use mathlib.Core.List.{[], _∷_, _++_, append-assoc}
 use mathlib.Core.Path.{_≡_, refl, sym, ap, _∙_}
 use Prim.Native.Nat.{ℕ, _+_, _<_, Ordering·lt, Ordering·eq, Ordering·gt}

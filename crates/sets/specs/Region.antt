@@ -1,30 +1,42 @@
--- What a region of lent scratch holds: a set of at most 64 conjuncts. A region has 7745 words: the count, then 64 slots of 121 words,
--- each a conjunct's node count and room for 120 nodes.
--- Assumes nothing.
+-- What a region of lent scratch holds: a set of at most 64 conjuncts. Its words are the count, then 64 slots, each a conjunct's node
+-- count and room for 120 nodes.
 use mathlib.Core.Bool.{Bool, true, false, cond}
 use mathlib.Core.List.{List, [], _∷_, _++_, map}
 use mathlib.Core.Logic.{_⊎_}
 use mathlib.Core.Path.{_≡_}
-use Prim.Native.Nat.{ℕ, zero, suc, _+_, _≤_, _<_}
+use Prim.Native.Nat.{ℕ, zero, suc, _+_, _*_, _≤_, _<_}
 use lib.Dec.{ltb}
 use lib.ListN.{length, getD, take, drop}
 use Rattle.model.specs.Conjunct.{Conj, Conjuncts, withConjunct, unionOf}
-use Rattle.node.specs.Word.{nodesOf}
+use Rattle.model.specs.Sizes.{mostConjuncts, mostNodes}
+use Rattle.conjunct.specs.Word.{nodesOf}
 use Rattle.sets.specs.declared.Spot.the-variants.{Here, Before}
 use Rattle.sets.specs.declared.Spot.{Spot}
 
+-- the words of a slot
+abbrev pub slotWords : ℕ
+slotWords = 1 + mostNodes
+
+-- the words of a region
+abbrev pub regionWords : ℕ
+regionWords = 1 + mostConjuncts * slotWords
+
 -- at most 64
 unfoldable pub few : ℕ → ℕ
-few c = cond (ltb c 64) c 64
+few c = cond (ltb c mostConjuncts) c mostConjuncts
 
 -- the words of the conjunct whose slot begins at a
 unfoldable pub slotAt : List ℕ → ℕ → List ℕ
-slotAt s a = take (getD s a 0) (take 120 (drop (a + 1) s))
+slotAt s a = take (getD s a 0) (take mostNodes (drop (a + 1) s))
 
 -- the words of n conjuncts, slot after slot from a on
 unfoldable pub rowsFrom : List ℕ → ℕ → ℕ → List (List ℕ)
 rowsFrom s a zero = []
-rowsFrom s a (suc n) = slotAt s a ∷ rowsFrom s (a + 121) n
+rowsFrom s a (suc n) = slotAt s a ∷ rowsFrom s (a + slotWords) n
+
+-- the first n conjuncts of a region that begins at b
+abbrev pub firstOf : List ℕ → ℕ → ℕ → Conjuncts
+firstOf s b n = map nodesOf (rowsFrom s (b + 1) n)
 
 -- the conjuncts of a region that begins at b
 unfoldable pub rowsOf : List ℕ → ℕ → List (List ℕ)
@@ -40,11 +52,15 @@ Outside b n s t = (i : ℕ) → (i < b) ⊎ (b + n ≤ i) → getD t i 0 ≡ get
 
 -- nothing outside of the region at b differs
 abbrev pub Within : ℕ → List ℕ → List ℕ → Type 0
-Within b s t = Outside b 7745 s t
+Within b s t = Outside b regionWords s t
 
 -- two regions have no word in common
 abbrev pub Apart : ℕ → ℕ → Type 0
-Apart a b = (a + 7745 ≤ b) ⊎ (b + 7745 ≤ a)
+Apart a b = (a + regionWords ≤ b) ⊎ (b + regionWords ≤ a)
+
+-- two regions that lie in the words and have no word in common
+abbrev pub TwoRegions : List ℕ → ℕ → ℕ → Type 0
+TwoRegions s a b = (a + regionWords ≤ length s) × (b + regionWords ≤ length s) × Apart a b
 
 -- where a conjunct goes in a set: it is there, or it is put before the i-th
 abbrev pub Spotted : Spot → Conj → Conjuncts → Type 0
@@ -54,9 +70,9 @@ Spotted (Before i) e S = (i ≤ length S) × (withConjunct e S ≡ take i S ++ (
 -- an insertion: done, or the set would have over 64
 abbrev pub Inserted : Bool → ℕ → Conj → List ℕ → List ℕ → Type 0
 Inserted true b e s t = setOf t b ≡ withConjunct e (setOf s b)
-Inserted false b e s t = (t ≡ s) × (64 < length (withConjunct e (setOf s b)))
+Inserted false b e s t = (t ≡ s) × (mostConjuncts < length (withConjunct e (setOf s b)))
 
 -- a union of the region at a into that at b: done, or the set would have over 64
 abbrev pub Joined : Bool → ℕ → ℕ → List ℕ → List ℕ → Type 0
 Joined true a b s t = setOf t b ≡ unionOf (setOf s a) (setOf s b)
-Joined false a b s t = 64 < length (unionOf (setOf s a) (setOf s b))
+Joined false a b s t = mostConjuncts < length (unionOf (setOf s a) (setOf s b))

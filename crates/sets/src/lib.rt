@@ -1,5 +1,5 @@
 // Sets of conjuncts in regions of one lent slice. specs/Region.antt says what a region holds. Every
-// operation leaves what lies outside of the region that it names. Assumes nothing.
+// operation leaves what lies outside of the region that it names.
 ghost use mathlib.Core.Path.{_≡_};
 ghost use mathlib.Core.List.{[], _∷_, _++_, map};
 ghost use mathlib.Core.Logic.{_⊎_};
@@ -7,11 +7,23 @@ ghost use Prim.Native.Nat.{_+_, _*_, _<_, _≤_};
 ghost use lib.Dec.{isEq};
 ghost use lib.ListN.{length, getD, take, drop};
 ghost use Rattle.model.specs.Conjunct.{order, orderNodes, same};
+ghost use Rattle.model.specs.Sizes.{mostConjuncts, mostNodes};
 ghost use Rattle.bytes_le.specs.Overlay.{overlay};
-ghost use Rattle.node.specs.Word.{nodesOf};
+ghost use Rattle.conjunct.specs.Word.{nodesOf};
 ghost use Rattle.conjunct.specs.Value.{conjOf, orderingOf};
-ghost use Rattle.sets.specs.Region.{few, slotAt, rowsFrom, setOf, Outside, Within, Apart, Spotted, Inserted, Joined};
+ghost use Rattle.sets.specs.Region.{few, slotAt, rowsFrom, firstOf, setOf, Outside, Within, TwoRegions, Spotted, Inserted, Joined};
+ghost use Rattle.sets.specs.Region.{regionWords, slotWords};
+use conjunct::MOST_NODES;
 use conjunct::Order;
+
+// the conjuncts of the largest set
+const MOST_CONJUNCTS: usize = 64;
+
+// the words of a slot: a node count and room for the nodes
+const SLOT: usize = 1 + MOST_NODES;
+
+// the words of a region: the count of the conjuncts, and a slot for each
+pub const REGION: usize = 1 + MOST_CONJUNCTS * SLOT;
 
 // where a conjunct goes: it is there, or before a place
 pub enum Spot {
@@ -21,20 +33,20 @@ pub enum Spot {
 
 // at most 64
 fn at_most(c: u64) -> usize
-    ensures { λ r. ⌜ (r ≡ few c) × (r ≤ 64) ⌝ }
+    ensures { λ r. ⌜ (r ≡ few c) × (r ≤ mostConjuncts) ⌝ }
 {
-    if c < 64 {
+    if c < MOST_CONJUNCTS as u64 {
         return c as usize;
     }
-    64
+    MOST_CONJUNCTS
 }
 
 // ---- one slot
 
 // the words of the slot at a to `out`; how many they are
 fn read_slot(s: &[u64], a: usize, out: &mut [u64]) -> usize
-    requires { ⌜ (a + 121 ≤ length (now s)) × (120 ≤ length (now out)) ⌝ }
-    ensures { λ n. ⌜ (n ≤ 120) × (take n (now (out .exit)) ≡ slotAt (now (s .entry)) a) ⌝ }
+    requires { ⌜ (a + slotWords ≤ length (now s)) × (mostNodes ≤ length (now out)) ⌝ }
+    ensures { λ n. ⌜ (n ≤ mostNodes) × (take n (now (out .exit)) ≡ slotAt (now (s .entry)) a) ⌝ }
 {
     let n = conjunct::capped(s[a] as usize);
     let mut j: usize = 0;
@@ -47,7 +59,7 @@ fn read_slot(s: &[u64], a: usize, out: &mut [u64]) -> usize
 
 // n words to the slot at a
 fn write_slot(s: &mut [u64], a: usize, w: &[u64], n: usize)
-    requires { ⌜ (a + 121 ≤ length (now s)) × (n ≤ 120) × (n ≤ length (now w)) ⌝ }
+    requires { ⌜ (a + slotWords ≤ length (now s)) × (n ≤ mostNodes) × (n ≤ length (now w)) ⌝ }
     ensures { λ _. ⌜ now (s .exit) ≡ overlay (now (s .entry)) a (n ∷ take n (now (w .entry))) ⌝ }
 {
     s[a] = n as u64;
@@ -60,8 +72,8 @@ fn write_slot(s: &mut [u64], a: usize, w: &[u64], n: usize)
 
 // the conjunct of the slot at `from` to the slot at `to`
 fn copy_slot(s: &mut [u64], to: usize, from: usize)
-    requires { ⌜ (to + 121 ≤ length (now s)) × (from + 121 ≤ length (now s)) × ((to + 121 ≤ from) ⊎ (from + 121 ≤ to)) ⌝ }
-    ensures { λ _. ⌜ (slotAt (now (s .exit)) to ≡ slotAt (now (s .entry)) from) × Outside to 121 (now (s .entry)) (now (s .exit)) ⌝ }
+    requires { ⌜ (to + slotWords ≤ length (now s)) × (from + slotWords ≤ length (now s)) × ((to + slotWords ≤ from) ⊎ (from + slotWords ≤ to)) ⌝ }
+    ensures { λ _. ⌜ (slotAt (now (s .exit)) to ≡ slotAt (now (s .entry)) from) × Outside to slotWords (now (s .entry)) (now (s .exit)) ⌝ }
 {
     let n = 1 + conjunct::capped(s[from] as usize);
     let mut j: usize = 0;
@@ -73,7 +85,7 @@ fn copy_slot(s: &mut [u64], to: usize, from: usize)
 
 // m words against the conjunct of the slot at a
 fn compare_slot(w: &[u64], m: usize, s: &[u64], a: usize) -> Order
-    requires { ⌜ (m ≤ length (now w)) × (a + 121 ≤ length (now s)) ⌝ }
+    requires { ⌜ (m ≤ length (now w)) × (a + slotWords ≤ length (now s)) ⌝ }
     ensures { λ r. ⌜ orderingOf r ≡ order (nodesOf (take m (now (w .entry)))) (nodesOf (slotAt (now (s .entry)) a)) ⌝ }
 {
     let n = conjunct::capped(s[a] as usize);
@@ -83,39 +95,39 @@ fn compare_slot(w: &[u64], m: usize, s: &[u64], a: usize) -> Order
 // ---- a region
 
 pub fn size(s: &[u64], base: usize) -> usize
-    requires { ⌜ base + 7745 ≤ length (now s) ⌝ }
-    ensures { λ r. ⌜ (r ≡ length (setOf (now (s .entry)) base)) × (r ≤ 64) ⌝ }
+    requires { ⌜ base + regionWords ≤ length (now s) ⌝ }
+    ensures { λ r. ⌜ (r ≡ length (setOf (now (s .entry)) base)) × (r ≤ mostConjuncts) ⌝ }
 {
     at_most(s[base])
 }
 
 // the i-th conjunct, to `out`; how many nodes it has. None past the end.
 pub fn get(s: &[u64], base: usize, i: usize, out: &mut [u64]) -> usize
-    requires { ⌜ (base + 7745 ≤ length (now s)) × (120 ≤ length (now out)) ⌝ }
-    ensures { λ n. ⌜ (n ≤ 120) × (conjOf (now (out .exit)) n ≡ getD (setOf (now (s .entry)) base) i []) ⌝ }
+    requires { ⌜ (base + regionWords ≤ length (now s)) × (mostNodes ≤ length (now out)) ⌝ }
+    ensures { λ n. ⌜ (n ≤ mostNodes) × (conjOf (now (out .exit)) n ≡ getD (setOf (now (s .entry)) base) i []) ⌝ }
 {
     let n = at_most(s[base]);
     if i < n {
-        return read_slot(s, base + 1 + 121 * i, out);
+        return read_slot(s, base + 1 + SLOT * i, out);
     }
     0
 }
 
 // how many nodes the i-th conjunct has; 0 past the end
 pub fn node_count(s: &[u64], base: usize, i: usize) -> usize
-    requires { ⌜ base + 7745 ≤ length (now s) ⌝ }
-    ensures { λ n. ⌜ (n ≤ 120) × (n ≡ length (getD (setOf (now (s .entry)) base) i [])) ⌝ }
+    requires { ⌜ base + regionWords ≤ length (now s) ⌝ }
+    ensures { λ n. ⌜ (n ≤ mostNodes) × (n ≡ length (getD (setOf (now (s .entry)) base) i [])) ⌝ }
 {
     let n = at_most(s[base]);
     if i < n {
-        return conjunct::capped(s[base + 1 + 121 * i] as usize);
+        return conjunct::capped(s[base + 1 + SLOT * i] as usize);
     }
     0
 }
 
 // the empty set
 pub fn clear(s: &mut [u64], base: usize)
-    requires { ⌜ base + 7745 ≤ length (now s) ⌝ }
+    requires { ⌜ base + regionWords ≤ length (now s) ⌝ }
     ensures { λ _. ⌜ (setOf (now (s .exit)) base ≡ []) × Within base (now (s .entry)) (now (s .exit)) ⌝ }
 {
     s[base] = 0;
@@ -123,24 +135,27 @@ pub fn clear(s: &mut [u64], base: usize)
 
 // n slots from a on moved up by one slot
 fn shift(s: &mut [u64], a: usize, n: usize)
-    requires { ⌜ a + 121 * n + 121 ≤ length (now s) ⌝ }
-    ensures { λ _. ⌜ (rowsFrom (now (s .exit)) (a + 121) n ≡ rowsFrom (now (s .entry)) a n) × Outside (a + 121) (121 * n) (now (s .entry)) (now (s .exit)) ⌝ }
+    requires { ⌜ a + slotWords * n + slotWords ≤ length (now s) ⌝ }
+    ensures { λ _. ⌜
+        (rowsFrom (now (s .exit)) (a + slotWords) n ≡ rowsFrom (now (s .entry)) a n)
+        × Outside (a + slotWords) (slotWords * n) (now (s .entry)) (now (s .exit))
+        ⌝ }
 {
     let mut k = n;
     while k > 0 {
         k -= 1;
-        copy_slot(s, a + 121 * k + 121, a + 121 * k);
+        copy_slot(s, a + SLOT * k + SLOT, a + SLOT * k);
     }
 }
 
 // where m words go among the first n slots
 fn find(s: &[u64], base: usize, n: usize, w: &[u64], m: usize) -> Spot
-    requires { ⌜ (n ≤ 64) × (base + 7745 ≤ length (now s)) × (m ≤ length (now w)) ⌝ }
-    ensures { λ r. ⌜ Spotted r (nodesOf (take m (now (w .entry)))) (map nodesOf (rowsFrom (now (s .entry)) (base + 1) n)) ⌝ }
+    requires { ⌜ (n ≤ mostConjuncts) × (base + regionWords ≤ length (now s)) × (m ≤ length (now w)) ⌝ }
+    ensures { λ r. ⌜ Spotted r (nodesOf (take m (now (w .entry)))) (firstOf (now (s .entry)) base n) ⌝ }
 {
     let mut i: usize = 0;
     while i < n {
-        let o = compare_slot(w, m, s, base + 1 + 121 * i);
+        let o = compare_slot(w, m, s, base + 1 + SLOT * i);
         match o {
             Order::Less => return Spot::Before(i),
             Order::Same => return Spot::Here,
@@ -153,10 +168,14 @@ fn find(s: &[u64], base: usize, n: usize, w: &[u64], m: usize) -> Spot
 
 // m words put before the i-th conjunct of the n of a region
 fn place_at(s: &mut [u64], base: usize, n: usize, i: usize, w: &[u64], m: usize)
-    requires { ⌜ (n < 64) × (i ≤ n) × (base + 7745 ≤ length (now s)) × (m ≤ 120) × (m ≤ length (now w)) ⌝ }
-    ensures { λ _. ⌜ (setOf (now (s .exit)) base ≡ take i (map nodesOf (rowsFrom (now (s .entry)) (base + 1) n)) ++ (conjOf (now (w .entry)) m ∷ drop i (map nodesOf (rowsFrom (now (s .entry)) (base + 1) n)))) × Within base (now (s .entry)) (now (s .exit)) ⌝ }
+    requires { ⌜ (n < mostConjuncts) × (i ≤ n) × (base + regionWords ≤ length (now s)) × (m ≤ mostNodes) × (m ≤ length (now w)) ⌝ }
+    ensures { λ _. ⌜
+        (setOf (now (s .exit)) base
+        ≡ take i (firstOf (now (s .entry)) base n) ++ (conjOf (now (w .entry)) m ∷ drop i (firstOf (now (s .entry)) base n)))
+        × Within base (now (s .entry)) (now (s .exit))
+        ⌝ }
 {
-    let a = base + 1 + 121 * i;
+    let a = base + 1 + SLOT * i;
     shift(s, a, n - i);
     write_slot(s, a, w, m);
     s[base] = (n + 1) as u64;
@@ -164,7 +183,7 @@ fn place_at(s: &mut [u64], base: usize, n: usize, i: usize, w: &[u64], m: usize)
 
 // the first m words as one conjunct more; false where the set would have over 64
 pub fn insert(s: &mut [u64], base: usize, w: &[u64], m: usize) -> bool
-    requires { ⌜ (base + 7745 ≤ length (now s)) × (m ≤ 120) × (m ≤ length (now w)) ⌝ }
+    requires { ⌜ (base + regionWords ≤ length (now s)) × (m ≤ mostNodes) × (m ≤ length (now w)) ⌝ }
     ensures { λ r. ⌜ Inserted r base (conjOf (now (w .entry)) m) (now (s .entry)) (now (s .exit)) × Within base (now (s .entry)) (now (s .exit)) ⌝ }
 {
     let n = at_most(s[base]);
@@ -172,7 +191,7 @@ pub fn insert(s: &mut [u64], base: usize, w: &[u64], m: usize) -> bool
     match spot {
         Spot::Here => true,
         Spot::Before(i) => {
-            if n >= 64 {
+            if n >= MOST_CONJUNCTS {
                 return false;
             }
             place_at(s, base, n, i, w, m);
@@ -183,13 +202,13 @@ pub fn insert(s: &mut [u64], base: usize, w: &[u64], m: usize) -> bool
 
 // the set of another region
 pub fn copy(s: &mut [u64], to: usize, from: usize)
-    requires { ⌜ (to + 7745 ≤ length (now s)) × (from + 7745 ≤ length (now s)) × Apart to from ⌝ }
+    requires { ⌜ TwoRegions (now s) to from ⌝ }
     ensures { λ _. ⌜ (setOf (now (s .exit)) to ≡ setOf (now (s .entry)) from) × Within to (now (s .entry)) (now (s .exit)) ⌝ }
 {
     let n = at_most(s[from]);
     let mut i: usize = 0;
     while i < n {
-        copy_slot(s, to + 1 + 121 * i, from + 1 + 121 * i);
+        copy_slot(s, to + 1 + SLOT * i, from + 1 + SLOT * i);
         i += 1;
     }
     s[to] = n as u64;
@@ -198,7 +217,7 @@ pub fn copy(s: &mut [u64], to: usize, from: usize)
 // with all conjuncts of another region; false where the set would have over 64. `words` is room to
 // work in.
 fn join(s: &mut [u64], to: usize, from: usize, words: &mut [u64]) -> bool
-    requires { ⌜ (to + 7745 ≤ length (now s)) × (from + 7745 ≤ length (now s)) × Apart to from × (120 ≤ length (now words)) ⌝ }
+    requires { ⌜ TwoRegions (now s) to from × (mostNodes ≤ length (now words)) ⌝ }
     ensures { λ r. ⌜ Joined r from to (now (s .entry)) (now (s .exit)) × Within to (now (s .entry)) (now (s .exit)) ⌝ }
 {
     let mut k = size(s, from);
@@ -215,16 +234,16 @@ fn join(s: &mut [u64], to: usize, from: usize, words: &mut [u64]) -> bool
 
 // with all conjuncts of another region; false where the set would have over 64
 pub fn union(s: &mut [u64], to: usize, from: usize) -> bool
-    requires { ⌜ (to + 7745 ≤ length (now s)) × (from + 7745 ≤ length (now s)) × Apart to from ⌝ }
+    requires { ⌜ TwoRegions (now s) to from ⌝ }
     ensures { λ r. ⌜ Joined r from to (now (s .entry)) (now (s .exit)) × Within to (now (s .entry)) (now (s .exit)) ⌝ }
 {
-    let mut words: [u64; 120] = [0; 120];
+    let mut words: [u64; MOST_NODES] = [0; MOST_NODES];
     join(s, to, from, &mut words)
 }
 
 // are the conjuncts of two slots the same?
 fn same_slot(s: &[u64], a: usize, b: usize) -> bool
-    requires { ⌜ (a + 121 ≤ length (now s)) × (b + 121 ≤ length (now s)) ⌝ }
+    requires { ⌜ (a + slotWords ≤ length (now s)) × (b + slotWords ≤ length (now s)) ⌝ }
     ensures { λ r. ⌜ r ≡ isEq (orderNodes (nodesOf (slotAt (now (s .entry)) a)) (nodesOf (slotAt (now (s .entry)) b))) ⌝ }
 {
     let n = conjunct::capped(s[a] as usize);
@@ -238,7 +257,7 @@ fn same_slot(s: &[u64], a: usize, b: usize) -> bool
 
 // are two sets the same?
 pub fn equal(s: &[u64], a: usize, b: usize) -> bool
-    requires { ⌜ (a + 7745 ≤ length (now s)) × (b + 7745 ≤ length (now s)) ⌝ }
+    requires { ⌜ (a + regionWords ≤ length (now s)) × (b + regionWords ≤ length (now s)) ⌝ }
     ensures { λ r. ⌜ r ≡ same (setOf (now (s .entry)) a) (setOf (now (s .entry)) b) ⌝ }
 {
     let n = at_most(s[a]);
@@ -248,7 +267,7 @@ pub fn equal(s: &[u64], a: usize, b: usize) -> bool
     }
     let mut i: usize = 0;
     while i < n {
-        if !same_slot(s, a + 1 + 121 * i, b + 1 + 121 * i) {
+        if !same_slot(s, a + 1 + SLOT * i, b + 1 + SLOT * i) {
             return false;
         }
         i += 1;

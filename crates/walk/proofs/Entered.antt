@@ -1,14 +1,15 @@
 -- A single statement or block by the statement at its first label: the parts that a walk goes into, and its own walk.
--- Assumes nothing.
 use mathlib.Core.Path.{_≡_, sym, ap, subst, _∙_}
 use Prim.Native.Nat.{ℕ, zero, suc, _+_, _-_, _≤_, _<_}
 use native.Mathlib.Omega.{arith}
 use native.Mathlib.Numerals.{add-one}
 use Rattle.model.specs.Code.{Instr, Code, done, step, branch, loop, Stmt, plain, if, else, end, while}
 use Rattle.model.specs.Conjunct.{Conjuncts}
+use Rattle.model.specs.Sizes.{mostRounds}
 use Rattle.model.specs.Walk.{back, joined, rounds, walk}
-use Rattle.model.proofs.Depth.{Nested}
-use Rattle.model.proofs.Laid.{Laid, laid-le}
+use Rattle.model.specs.Nesting.{Nested}
+use Rattle.model.specs.Placement.{Laid}
+use Rattle.model.proofs.Laid.{laid-le}
 use Rattle.model.proofs.Walks.{back-piece, joined-piece, rounds-piece}
 use Rattle.walk.specs.Turn.{Sole}
 use Rattle.walk.proofs.Unique.{laid-unique, plain-if, plain-while, if-while, same-plain, plain-else, plain-end, if-else, if-end, while-else, while-end}
@@ -33,7 +34,7 @@ module _ (stmt : ℕ → Stmt) (mate : ℕ → ℕ) where
     pub nested : Nested (depth - 1) body
     pub deep : 1 ≤ depth
     pub some : p < q
-    pub walked : (d : Code) (S : Conjuncts) → Laid stmt mate d p q → walk d S ≡ rounds 16 (walk body) S S
+    pub walked : (d : Code) (S : Conjuncts) → Laid stmt mate d p q → walk d S ≡ rounds mostRounds (walk body) S S
 
   -- the statement at the first label of a piece is an if, a while or plain
   pub begins : (c : Code) (p q : ℕ) → Laid stmt mate c p q → Sole c → (stmt p ≡ else → ⊥) × (stmt p ≡ end → ⊥)

@@ -5,3 +5,4 @@ pub mod Turns
 pub mod Joining
 pub mod Regions
 pub mod Rounding
+pub mod Walking

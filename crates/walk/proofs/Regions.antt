@@ -1,10 +1,9 @@
 -- Regions of one slice: what is left below a change, and what a union within the limits gives.
--- Assumes nothing.
 use mathlib.Core.Path.{_≡_, refl, sym, ap, ap₂, subst, _∙_}
 use mathlib.Core.Bool.{true, false}
 use mathlib.Core.List.{List, [], _∷_}
 use mathlib.Core.Logic.{inl, inr}
-use Prim.Native.Nat.{ℕ, _+_, _≤_, _<_}
+use Prim.Native.Nat.{ℕ, _+_, _-_, _*_, _≤_, _<_}
 use native.Mathlib.Omega.{arith}
 use lib.ListN.{length, getD}
 use borrow.Author.Tests.{lt-ltb, le-ltb}
@@ -12,17 +11,23 @@ use Rattle.model.specs.Code.{Code, Stmt}
 use Rattle.model.specs.Conjunct.{Conjuncts, unionOf, same, long, limits}
 use Rattle.model.specs.Lists.{All}
 use Rattle.model.specs.Refusals.{Out, ok, refused}
+use Rattle.model.specs.Sizes.{mostNested, mostNodes}
 use Rattle.model.specs.Walk.{walk}
+use Rattle.model.specs.Placement.{Laid}
+use Rattle.model.specs.TidySets.{Tidy}
 use Rattle.model.proofs.Canonical.{union-every}
-use Rattle.model.proofs.Laid.{Laid}
 use Rattle.model.proofs.Limits.{short-each}
-use Rattle.model.proofs.TidySets.{Tidy}
+use Rattle.rules.proofs.Limiting.{all-short}
 use Rattle.rules.specs.Answers.{answered, Below}
 use Rattle.rules.specs.declared.Answer.the-variants.{Done, Refused}
 use Rattle.rules.specs.declared.Answer.{Answer}
 use Rattle.sets.proofs.Rows.{few-most, set-length, set-same, frame}
-use Rattle.sets.specs.Region.{setOf, Within}
-use Rattle.walk.specs.Turn.{Closed}
+use Rattle.sets.specs.Region.{regionWords, setOf, Within}
+use Rattle.code_table.proofs.Packs.{table-kept}
+use Rattle.code_table.specs.Table.{tableWords, tableOf, stmtIn, mateIn, KnownBelow, stmts, mates, Knows}
+use Rattle.walk.specs.Piece.{Lies, Piece, Ready, Walked}
+use Rattle.walk.specs.Turn.{BranchOpened, BranchSwitched, RoundsOpened, Closed}
+use Rattle.walk.specs.declared.Round.{Round}
 use Rattle.walk.specs.declared.Round.the-variants.{Settled, Again}
 
 -- ---- what lies below
@@ -40,22 +45,14 @@ pub within-below : (a b : ℕ) (s t : List ℕ) → a ≤ b → Within b s t →
 within-below a b s t l f i h = f i (inl (omega arith))
 
 -- a change from b on leaves a region below b
-pub below-set : (s t : List ℕ) (a b : ℕ) → length t ≡ length s → a + 7745 ≤ b → b ≤ length s → Below b s t → setOf t a ≡ setOf s a
+pub below-set : (s t : List ℕ) (a b : ℕ) → length t ≡ length s → a + regionWords ≤ b → b ≤ length s → Below b s t → setOf t a ≡ setOf s a
 below-set s t a b e h k f = set-same s t a a (omega arith) (omega arith) (λ x g. f (a + x) (omega (arith, few-most (getD s a 0))))
-
-pub set-few : (s : List ℕ) (b : ℕ) → length (setOf s b) ≤ 64
-set-few s b = omega (arith, set-length s b, few-most (getD s b 0))
 
 -- ---- the limits of a union
 
-long-none : (S : Conjuncts) → All (λ e. length e ≤ 120) S → long S ≡ false
-unfolding long
-long-none [] h = refl
-long-none (e ∷ S) h = rw (le-ltb 120 (length e) (h .0)) (long-none S (h .1))
-
 union-short : (R S : Conjuncts) → Tidy R → Tidy S → long (unionOf R S) ≡ false
 union-short R S h k =
-    long-none (unionOf R S) (union-every (λ e. length e ≤ 120) R S (short-each R (h .fine .short)) (short-each S (k .fine .short)))
+    all-short (unionOf R S) (union-every (λ e. length e ≤ mostNodes) R S (short-each R (h .fine .short)) (short-each S (k .fine .short)))
 
 pub union-within : (R S : Conjuncts) → Tidy R → Tidy S → length (unionOf R S) ≤ 64 → limits (unionOf R S) ≡ ok (unionOf R S)
 unfolding limits
@@ -73,10 +70,6 @@ answer-done r o S h e = subst (λ x. o ≡ answered x S) e h
 pub answer-refused : (r : Answer) (o : Out Conjuncts) (S : Conjuncts) (n : ℕ) → o ≡ answered r S → r ≡ Refused n → o ≡ refused n
 answer-refused r o S n h e = subst (λ x. o ≡ answered x S) e h
 
--- the walk of the piece on the labels from p up to q, on the region at b, that answered r and took s to t
-abbrev pub Walked : (ℕ → Stmt) → (ℕ → ℕ) → Answer → (p q b : ℕ) → (s t : List ℕ) → Type 0
-Walked stmt mate r p q b s t = ((c : Code) → Laid stmt mate c p q → walk c (setOf s b) ≡ answered r (setOf t b)) × Below b s t
-
 module _ (stmt : ℕ → Stmt) (mate : ℕ → ℕ) (r : Answer) (p q b : ℕ) (s t : List ℕ) (w : Walked stmt mate r p q b s t) where
   pub walked-done : r ≡ Done → (c : Code) → Laid stmt mate c p q → walk c (setOf s b) ≡ ok (setOf t b)
   walked-done e c h = answer-done r (walk c (setOf s b)) (setOf t b) (w .0 c h) e
@@ -84,56 +77,112 @@ module _ (stmt : ℕ → Stmt) (mate : ℕ → ℕ) (r : Answer) (p q b : ℕ) (
   pub walked-refused : (n : ℕ) → r ≡ Refused n → (c : Code) → Laid stmt mate c p q → walk c (setOf s b) ≡ refused n
   walked-refused n e c h = answer-refused r (walk c (setOf s b)) (setOf t b) n (w .0 c h) e
 
+-- ---- the table
+
+-- a change behind the table leaves it
+pub below-table : (b : ℕ) (s t : List ℕ) → tableWords ≤ b → b ≤ length s → length t ≡ length s → Below b s t → tableOf 0 t ≡ tableOf 0 s
+below-table b s t h k e f = table-kept 0 s t (omega arith) e (λ x l m. f x (omega arith))
+
+module _ (s t : List ℕ) (e : tableOf 0 t ≡ tableOf 0 s) where
+  -- what lies in the words before lies in those after
+  pub lies-on : (c : Code) (p q : ℕ) → Lies s c p q → Lies t c p q
+  lies-on c p q h = subst (λ k. Laid (stmtIn k) (mateIn k) c p q) (sym e) h
+
+  pub piece-on : (depth p q : ℕ) → Piece s depth p q → Piece t depth p q
+  piece-on depth p q h = record { code = h .code; lies = lies-on (h .code) p q (h .lies); nested = h .nested }
+
+  pub knows-on : (q : ℕ) → Knows q s → Knows q t
+  knows-on q h = subst (KnownBelow q) (sym e) h
+
+  -- a walk by the words after is one by the words before
+  pub walked-from : (r : Answer) (p q b : ℕ) (u : List ℕ) → Walked (stmts t) (mates t) r p q b t u → Walked (stmts s) (mates s) r p q b t u
+  walked-from r p q b u w = subst (λ k. Walked (stmtIn k) (mateIn k) r p q b t u) e w
+
+-- the statements before a label are those before a later one too
+pub knows-less : (p q : ℕ) (s : List ℕ) → p ≤ q → Knows q s → Knows p s
+knows-less p q s h k = record { few = omega (arith, k .few); known = λ i l. k .known i (omega arith) }
+
+-- the words are ready for the walk of a part of a block that they are ready for, in the second region after the block's own
+pub inner-ready : (s₀ s : List ℕ) (depth b f q : ℕ) → Ready 3 4 s₀ depth b f → tableOf 0 s ≡ tableOf 0 s₀ → length s ≡ length s₀ → q ≤ f
+    → Tidy (setOf s (b + 2 * regionWords)) → Ready mostNested 2 s depth (b + 2 * regionWords) q
+inner-ready s₀ s depth b f q g e same h d = record {
+  knows = knows-on s₀ s e q (knows-less q f s₀ h (g .knows));
+  shallow = omega (arith, g .shallow);
+  behind = omega (arith, g .behind);
+  room = omega (arith, g .room);
+  tidy = d;
+}
+
+-- the words are ready for a block in the piece that they are ready for
+pub block-ready : (s : List ℕ) (depth b q f : ℕ) → Ready mostNested 2 s depth b q → 1 ≤ depth → f ≤ q → Ready 3 4 s (depth - 1) b f
+block-ready s depth b q f g d h = record {
+  knows = knows-less f q s h (g .knows);
+  shallow = omega (arith, g .shallow);
+  behind = g .behind;
+  room = omega (arith, g .room);
+  tidy = g .tidy;
+}
+
 -- ---- the working functions of a walk: s became t and then u
 
-module _ (s t : List ℕ) (b : ℕ) (room : b + 23235 ≤ length s) (same-length : length t ≡ length s) where
-  pub branch-opened : setOf t (b + 15490) ≡ setOf s b → Within (b + 15490) s t
-      → (setOf t (b + 15490) ≡ setOf s b) × (setOf t b ≡ setOf s b) × Below b s t
-  branch-opened e w = (e, frame s t (b + 15490) b same-length (omega arith) (inr (omega arith)) w, within-below b (b + 15490) s t (omega arith) w)
+module _ (s t : List ℕ) (b : ℕ) (room : b + 3 * regionWords ≤ length s) (same-length : length t ≡ length s) where
+  pub branch-opened : setOf t (b + 2 * regionWords) ≡ setOf s b → Within (b + 2 * regionWords) s t → BranchOpened b s t
+  branch-opened e w = record {
+    second = e;
+    same = frame s t (b + 2 * regionWords) b same-length (omega arith) (inr (omega arith)) w;
+    below = within-below b (b + 2 * regionWords) s t (omega arith) w;
+  }
 
   module _ (u : List ℕ) (same-length′ : length u ≡ length t) where
-    pub branch-switched : setOf t (b + 7745) ≡ setOf s (b + 15490) → Within (b + 7745) s t → setOf u (b + 15490) ≡ setOf t b → Within (b + 15490) t u
-        → (setOf u (b + 7745) ≡ setOf s (b + 15490)) × (setOf u (b + 15490) ≡ setOf s b) × Below b s u
-    branch-switched e w f v = (
-      frame t u (b + 15490) (b + 7745) same-length′ (omega arith) (inr (omega arith)) v ∙ e,
-      f ∙ frame s t (b + 7745) b same-length (omega arith) (inr (omega arith)) w,
-      below-trans b s t u (within-below b (b + 7745) s t (omega arith) w) (within-below b (b + 15490) t u (omega arith) v),
-    )
+    pub branch-switched : setOf t (b + regionWords) ≡ setOf s (b + 2 * regionWords) → Within (b + regionWords) s t
+        → setOf u (b + 2 * regionWords) ≡ setOf t b → Within (b + 2 * regionWords) t u → BranchSwitched b s u
+    branch-switched e w f v = record {
+      first = frame t u (b + 2 * regionWords) (b + regionWords) same-length′ (omega arith) (inr (omega arith)) v ∙ e;
+      second = f ∙ frame s t (b + regionWords) b same-length (omega arith) (inr (omega arith)) w;
+      below = below-trans b s t u (within-below b (b + regionWords) s t (omega arith) w) (within-below b (b + 2 * regionWords) t u (omega arith) v);
+    }
 
-    pub branch-closed : (o : Out Conjuncts) → o ≡ ok (setOf t (b + 15490)) → Within (b + 15490) s t → setOf u b ≡ setOf t (b + 15490) → Within b t u
-        → (o ≡ ok (setOf u b)) × Below b s u
+    pub branch-closed : (o : Out Conjuncts) → o ≡ ok (setOf t (b + 2 * regionWords)) → Within (b + 2 * regionWords) s t
+        → setOf u b ≡ setOf t (b + 2 * regionWords) → Within b t u → (o ≡ ok (setOf u b)) × Below b s u
     branch-closed o e w f v =
-        (e ∙ ap ok (sym f), below-trans b s t u (within-below b (b + 15490) s t (omega arith) w) (within-below b b t u (omega arith) v))
+        (e ∙ ap ok (sym f), below-trans b s t u (within-below b (b + 2 * regionWords) s t (omega arith) w) (within-below b b t u (omega arith) v))
 
-    pub rounds-opened : setOf t (b + 7745) ≡ setOf s b → Within (b + 7745) s t → setOf u (b + 15490) ≡ setOf t b → Within (b + 15490) t u
-        → (setOf u b ≡ setOf s b) × (setOf u (b + 7745) ≡ setOf s b) × (setOf u (b + 15490) ≡ setOf s b) × Below b s u
+    pub rounds-opened : setOf t (b + regionWords) ≡ setOf s b → Within (b + regionWords) s t → setOf u (b + 2 * regionWords) ≡ setOf t b
+        → Within (b + 2 * regionWords) t u → RoundsOpened b s u
     rounds-opened e w f v =
-        let k = frame s t (b + 7745) b same-length (omega arith) (inr (omega arith)) w in (
-          frame t u (b + 15490) b same-length′ (omega arith) (inr (omega arith)) v ∙ k,
-          frame t u (b + 15490) (b + 7745) same-length′ (omega arith) (inr (omega arith)) v ∙ e,
-          f ∙ k,
-          below-trans b s t u (within-below b (b + 7745) s t (omega arith) w) (within-below b (b + 15490) t u (omega arith) v),
-        )
+        let k = frame s t (b + regionWords) b same-length (omega arith) (inr (omega arith)) w in
+        record {
+          same = frame t u (b + 2 * regionWords) b same-length′ (omega arith) (inr (omega arith)) v ∙ k;
+          first = frame t u (b + 2 * regionWords) (b + regionWords) same-length′ (omega arith) (inr (omega arith)) v ∙ e;
+          second = f ∙ k;
+          below = below-trans b s t u (within-below b (b + regionWords) s t (omega arith) w) (within-below b (b + 2 * regionWords) t u (omega arith) v);
+        }
 
-    module _ (w : Within (b + 15490) s t) (united : limits (unionOf (setOf s b) (setOf s (b + 15490))) ≡ ok (setOf t (b + 15490))) where
-      before : setOf t (b + 7745) ≡ setOf s (b + 7745)
-      before = frame s t (b + 15490) (b + 7745) same-length (omega arith) (inr (omega arith)) w
+    module _ (w : Within (b + 2 * regionWords) s t) (united : limits (unionOf (setOf s b) (setOf s (b + 2 * regionWords))) ≡ ok (setOf t (b + 2 * regionWords))) where
+      before : setOf t (b + regionWords) ≡ setOf s (b + regionWords)
+      before = frame s t (b + 2 * regionWords) (b + regionWords) same-length (omega arith) (inr (omega arith)) w
 
-      pub closed-settled : same (setOf t (b + 7745)) (setOf t (b + 15490)) ≡ true → setOf u b ≡ setOf t (b + 15490) → Within b t u
-          → Closed Settled (setOf s b) (setOf s (b + 7745)) (setOf s (b + 15490)) b u × Below b s u
+      -- the set that a round starts from, that of the last round, and what the body gave
+      abbrev pub ClosedAs : Round → Type 0
+      ClosedAs r = Closed r (setOf s b) (setOf s (b + regionWords)) (setOf s (b + 2 * regionWords)) b u × Below b s u
+
+      pub closed-settled : same (setOf t (b + regionWords)) (setOf t (b + 2 * regionWords)) ≡ true → setOf u b ≡ setOf t (b + 2 * regionWords) → Within b t u
+          → ClosedAs Settled
       closed-settled q f v = (
         (united ∙ ap ok (sym f), ap₂ same (sym before) f ∙ q),
-        below-trans b s t u (within-below b (b + 15490) s t (omega arith) w) (within-below b b t u (omega arith) v),
+        below-trans b s t u (within-below b (b + 2 * regionWords) s t (omega arith) w) (within-below b b t u (omega arith) v),
       )
 
-      pub closed-again : same (setOf t (b + 7745)) (setOf t (b + 15490)) ≡ false → setOf u (b + 7745) ≡ setOf t (b + 15490) → Within (b + 7745) t u
-          → Closed Again (setOf s b) (setOf s (b + 7745)) (setOf s (b + 15490)) b u × Below b s u
+      pub closed-again : same (setOf t (b + regionWords)) (setOf t (b + 2 * regionWords)) ≡ false → setOf u (b + regionWords) ≡ setOf t (b + 2 * regionWords)
+          → Within (b + regionWords) t u → ClosedAs Again
       closed-again q f v = (
-        (
-          united ∙ ap ok (sym f),
-          ap₂ same (sym before) f ∙ q,
-          frame t u (b + 7745) b same-length′ (omega arith) (inr (omega arith)) v ∙ frame s t (b + 15490) b same-length (omega arith) (inr (omega arith)) w,
-          frame t u (b + 7745) (b + 15490) same-length′ (omega arith) (inl (omega arith)) v ∙ sym f,
-        ),
-        below-trans b s t u (within-below b (b + 15490) s t (omega arith) w) (within-below b (b + 7745) t u (omega arith) v),
+        record {
+          next = united ∙ ap ok (sym f);
+          differs = ap₂ same (sym before) f ∙ q;
+          same-start =
+              frame t u (b + regionWords) b same-length′ (omega arith) (inr (omega arith)) v
+              ∙ frame s t (b + 2 * regionWords) b same-length (omega arith) (inr (omega arith)) w;
+          copied = frame t u (b + regionWords) (b + 2 * regionWords) same-length′ (omega arith) (inl (omega arith)) v ∙ sym f;
+        },
+        below-trans b s t u (within-below b (b + 2 * regionWords) s t (omega arith) w) (within-below b (b + regionWords) t u (omega arith) v),
       )

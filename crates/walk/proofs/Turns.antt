@@ -1,5 +1,4 @@
 -- One statement or block of a piece of program, walked from its end: the laws of each kind of turn.
--- Assumes nothing.
 use mathlib.Core.Path.{_≡_, refl, sym, ap, subst, _∙_}
 use Prim.Native.Nat.{ℕ, zero, suc, _+_, _-_, _≤_, _<_}
 use native.Mathlib.Omega.{arith}
@@ -8,12 +7,14 @@ use Rattle.model.specs.Conjunct.{Conjuncts}
 use Rattle.model.specs.Refusals.{ok, refused, _>>=_}
 use Rattle.model.specs.Run.{append}
 use Rattle.model.specs.Walk.{walk}
-use Rattle.model.proofs.Depth.{Nested, nested-append}
-use Rattle.model.proofs.Laid.{IfAt, WhileAt, Laid, laid-le, Last, last-plain, last-if, last-while, laid-last}
+use Rattle.model.specs.Nesting.{Nested}
+use Rattle.model.specs.Placement.{IfAt, WhileAt, Laid}
+use Rattle.model.specs.TidySets.{Tidy}
+use Rattle.model.proofs.Depth.{nested-append}
+use Rattle.model.proofs.Laid.{laid-le, Last, last-plain, last-if, last-while, laid-last}
 use Rattle.model.proofs.Results.{gives-ok}
 use Rattle.model.proofs.Skip.{walk-skip}
 use Rattle.model.proofs.Tidied.{walk-tidy}
-use Rattle.model.proofs.TidySets.{Tidy}
 use Rattle.model.proofs.Walks.{walk-append}
 use Rattle.footprint.specs.Footprints.{CoversSet, SparedAll, PlainAndSpared}
 use Rattle.footprint.specs.declared.Footprint.{Footprint}

@@ -1,11 +1,11 @@
 -- Two pieces of program that lie on the same labels are equal.
--- Assumes nothing.
 use mathlib.Core.Path.{_≡_, refl, sym, ap, subst, _∙_}
 use mathlib.Core.Bool.{true, false, true≢false}
 use Prim.Native.Nat.{ℕ, suc, _≤_}
 use native.Mathlib.Omega.{arith}
 use Rattle.model.specs.Code.{Instr, Code, done, step, branch, loop, Stmt, plain, if, else, end, while}
-use Rattle.model.proofs.Laid.{Laid, laid-le}
+use Rattle.model.specs.Placement.{Laid}
+use Rattle.model.proofs.Laid.{laid-le}
 
 pub plain-if : (s : Stmt) (x : Instr) (v : ℕ) → s ≡ plain x → s ≡ if v → ⊥
 plain-if s x v p q = let z : true ≡ false = cc in true≢false z

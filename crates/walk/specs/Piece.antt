@@ -1,17 +1,37 @@
--- A piece of program by its labels.
--- Assumes nothing.
+-- A piece of program by its labels, in words that begin with the code table: what a walk is given, and what it leaves.
 use mathlib.Core.List.{List}
-use Prim.Native.Nat.{ℕ}
-use lib.ListN.{getD}
-use Rattle.model.specs.Code.{Code}
-use Rattle.model.proofs.Laid.{Laid}
-use Rattle.model.proofs.Depth.{Nested}
-use Rattle.program.specs.Reading.{tablesOf, stmtAt}
+use mathlib.Core.Path.{_≡_}
+use Prim.Native.Nat.{ℕ, _+_, _*_, _≤_}
+use lib.ListN.{length}
+use Rattle.model.specs.Code.{Code, Stmt}
+use Rattle.model.specs.Nesting.{Nested}
+use Rattle.model.specs.Placement.{Laid}
+use Rattle.model.specs.TidySets.{Tidy}
+use Rattle.model.specs.Walk.{walk}
+use Rattle.code_table.specs.Table.{tableWords, stmts, mates, Knows}
+use Rattle.sets.specs.Region.{regionWords, setOf}
+use Rattle.rules.specs.Answers.{answered, Below}
+use Rattle.rules.specs.declared.Answer.{Answer}
 
--- the piece c of the program's bytes lies on the labels from p up to q, by a table of mates
-abbrev pub Lies : List ℕ → List ℕ → Code → ℕ → ℕ → Type 0
-Lies program table c p q = Laid (stmtAt (tablesOf program)) (λ i. getD table i 0) c p q
+-- the piece c lies on the labels from p up to q
+abbrev pub Lies : List ℕ → Code → ℕ → ℕ → Type 0
+Lies s c p q = Laid (stmts s) (mates s) c p q
 
 -- some piece lies on these labels, its blocks nested at most `depth` deep
-abbrev pub Piece : List ℕ → List ℕ → ℕ → ℕ → ℕ → Type 0
-Piece program table depth p q = (c : Code) × Lies program table c p q × Nested depth c
+pub record Piece (s : List ℕ) (depth p q : ℕ) : Type 0 where
+  pub code : Code
+  pub lies : Lies s code p q
+  pub nested : Nested depth code
+
+-- the words are ready for work on the set of the region at b: all statements up to the label q are known, the blocks that may still be
+-- entered are at most `most`, the region lies behind the table, there are regions to work in, and the set is tidy
+pub record Ready (most regions : ℕ) (s : List ℕ) (depth b q : ℕ) : Type 0 where
+  pub knows : Knows q s
+  pub shallow : depth ≤ most
+  pub behind : tableWords ≤ b
+  pub room : b + (2 * depth + regions) * regionWords ≤ length s
+  pub tidy : Tidy (setOf s b)
+
+-- the walk of the piece on the labels from p up to q, on the region at b, that answered r and took s to t
+abbrev pub Walked : (ℕ → Stmt) → (ℕ → ℕ) → Answer → (p q b : ℕ) → (s t : List ℕ) → Type 0
+Walked stmt mate r p q b s t = ((c : Code) → Laid stmt mate c p q → walk c (setOf s b) ≡ answered r (setOf t b)) × Below b s t

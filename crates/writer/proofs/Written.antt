@@ -1,5 +1,4 @@
 -- The parts of a condition file, stored one behind the other: nodes, conjuncts, pairs, and the whole.
--- Assumes nothing.
 use mathlib.Core.List.{List, [], _∷_, _++_, flatMap, append-assoc, append-nil}
 use mathlib.Core.Path.{_≡_, refl, sym, ap, _∙_}
 use Prim.Native.Nat.{ℕ, zero, suc, _+_, _*_, _<_, _≤_}
@@ -7,21 +6,21 @@ use native.Mathlib.Numerals.{add-one}
 use native.Mathlib.Omega.{arith}
 use lib.ListN.{length, getD, take, set, length-append, length-map, List·getD-map}
 use lib.Seq.{getD-take, length-take-le}
-use Rattle.model.proofs.FileBytes.{size, conjuncts-size, table-size, length-encode}
-use Rattle.model.proofs.Formed.{FileNode, Formed}
+use Rattle.model.proofs.FileBytes.{conjuncts-size, table-size, length-encode}
 use Rattle.model.proofs.Lists.{all-imp, all-getD}
 use Rattle.model.proofs.NodeBytes.{conjunct-size}
 use Rattle.model.specs.Bytes.{bytes4}
 use Rattle.model.specs.Condition.{conjunctBytes, pairBytes, conjunctsAt, encode}
 use Rattle.model.specs.Conjunct.{Conj, Conjuncts, bytes}
 use Rattle.model.specs.Lists.{All}
+use Rattle.model.specs.Formed.{size, FileNode, Formed}
 use Rattle.bytes_le.proofs.Overlays.{overlay-append}
 use Rattle.bytes_le.specs.Overlay.{overlay}
 use Rattle.program.proofs.Known.{counts-known}
 use Rattle.program.proofs.Tables.{sized}
 use Rattle.program.specs.Reading.{ProgramIsRead, tablesOf}
 use Rattle.program.specs.declared.Layout.{Layout}
-use Rattle.node.specs.Word.{nodeOf, nodesOf, fileBytes}
+use Rattle.conjunct.specs.Word.{nodeOf, nodesOf, fileBytes}
 
 -- ---- stores
 
@@ -56,11 +55,13 @@ module _ {A : Type 0} where
   all-take P (suc i) (x ∷ xs) h = (h .0, all-take P i xs (h .1))
 
   -- the bytes of one thing more
-  more-things : (put : A → List ℕ) (xs : List A) (i : ℕ) (d : A) → i < length xs → flatMap put (take (suc i) xs) ≡ flatMap put (take i xs) ++ put (getD xs i d)
+  more-things : (put : A → List ℕ) (xs : List A) (i : ℕ) (d : A) → i < length xs
+      → flatMap put (take (suc i) xs) ≡ flatMap put (take i xs) ++ put (getD xs i d)
   unfolding flatMap
   more-things put [] i d h = absurd (omega arith)
   more-things put (x ∷ xs) zero d h = append-nil (put x)
-  more-things put (x ∷ xs) (suc i) d h = ap (put x ++_) (more-things put xs i d (omega arith)) ∙ sym (append-assoc (put x) (flatMap put (take i xs)) (put (getD xs i d)))
+  more-things put (x ∷ xs) (suc i) d h =
+      ap (put x ++_) (more-things put xs i d (omega arith)) ∙ sym (append-assoc (put x) (flatMap put (take i xs)) (put (getD xs i d)))
 
 -- ---- the nodes of a conjunct
 
@@ -91,14 +92,17 @@ size-more [] i h = absurd (omega arith)
 size-more (e ∷ S) zero h = omega arith
 size-more (e ∷ S) (suc i) h = omega (arith, size-more S i (omega arith))
 
-module _ (types : List ℕ) (S : Conjuncts) (h : All (All (FileNode types)) S) (o m k : List ℕ) (a i j : ℕ) (l : i < length S) (d : Conj) (one : d ≡ getD S i []) where
-  pub conjuncts-more : j ≡ a + 8 * size (take i S) → m ≡ overlay o a (flatMap conjunctBytes (take i S)) → (All (FileNode types) d → k ≡ overlay m j (conjunctBytes d))
+module _ (types : List ℕ) (S : Conjuncts) (h : All (All (FileNode types)) S) (o m k : List ℕ) (a i j : ℕ) (l : i < length S) (d : Conj)
+    (one : d ≡ getD S i []) where
+  pub conjuncts-more : j ≡ a + 8 * size (take i S) → m ≡ overlay o a (flatMap conjunctBytes (take i S))
+      → (All (FileNode types) d → k ≡ overlay m j (conjunctBytes d))
       → k ≡ overlay o a (flatMap conjunctBytes (take (i + 1) S))
   conjuncts-more e p q =
       let place : j ≡ a + length (flatMap conjunctBytes (take i S)) =
       omega (arith, conjuncts-size types (take i S) (all-take (All (FileNode types)) i S h)) in
       let nodes : All (FileNode types) d = rw one (all-getD (All (FileNode types)) S i [] h l) in
-      rw (add-one i, more-things conjunctBytes S i [] l, ← one) (stored-then o m k (flatMap conjunctBytes (take i S)) (conjunctBytes d) a j place p (q nodes))
+      rw (add-one i, more-things conjunctBytes S i [] l, ← one)
+      (stored-then o m k (flatMap conjunctBytes (take i S)) (conjunctBytes d) a j place p (q nodes))
 
 -- ---- the pairs
 
@@ -110,14 +114,17 @@ more-pairs [] at i h = absurd (omega arith)
 more-pairs (e ∷ S) at zero h = let z : at + 8 * 0 ≡ at = omega arith in rw z (append-nil (bytes4 at ++ bytes4 (8 * length e)))
 more-pairs (e ∷ S) at (suc i) h =
     let z : at + 8 * length e + 8 * size (take i S) ≡ at + 8 * (length e + size (take i S)) = omega arith in
-    ap (bytes4 at ++ bytes4 (8 * length e) ++_) (more-pairs S (at + 8 * length e) i (omega arith)) ∙ rw z (sym (append-assoc (bytes4 at ++ bytes4 (8 * length e)) _ _))
+    ap (bytes4 at ++ bytes4 (8 * length e) ++_) (more-pairs S (at + 8 * length e) i (omega arith))
+    ∙ rw z (sym (append-assoc (bytes4 at ++ bytes4 (8 * length e)) _ _))
 
 module _ (S : Conjuncts) (o m k : List ℕ) (a begin i at n : ℕ) (l : i < length S) where
   pub pairs-more : at ≡ begin + 8 * size (take i S) → n ≡ length (getD S i []) → m ≡ overlay o a (pairBytes begin (take i S))
       → k ≡ overlay m (a + 8 * i) (bytes4 at ++ bytes4 (8 * n)) → k ≡ overlay o a (pairBytes begin (take (i + 1) S))
   pairs-more e f p q =
-      let place : a + 8 * i ≡ a + length (pairBytes begin (take i S)) = omega (arith, table-size (take i S) begin, length-take-le i S (omega arith)) in
-      rw (add-one i, more-pairs S begin i l, ← e, ← f) (stored-then o m k (pairBytes begin (take i S)) (bytes4 at ++ bytes4 (8 * n)) a (a + 8 * i) place p q)
+      let place : a + 8 * i ≡ a + length (pairBytes begin (take i S)) =
+      omega (arith, table-size (take i S) begin, length-take-le i S (omega arith)) in
+      rw (add-one i, more-pairs S begin i l, ← e, ← f)
+      (stored-then o m k (pairBytes begin (take i S)) (bytes4 at ++ bytes4 (8 * n)) a (a + 8 * i) place p q)
 
 -- ---- the file
 

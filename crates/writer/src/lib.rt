@@ -1,19 +1,20 @@
 // The condition file of a set of conjuncts, written to the start of a lent output. Every byte past
-// the file stays as it was. Assumes nothing.
+// the file stays as it was.
 ghost use mathlib.Core.Path.{_≡_};
-ghost use mathlib.Core.List.{List, _++_, flatMap};
-ghost use Prim.Native.Nat.{ℕ, _+_, _*_, _≤_, _<_, _^_};
+ghost use mathlib.Core.List.{_++_};
+ghost use Prim.Native.Nat.{_+_, _*_, _≤_, _<_, _^_};
 ghost use lib.ListN.{length};
 ghost use Rattle.model.specs.Bytes.{bytes4};
-ghost use Rattle.model.specs.Lists.{All};
-ghost use Rattle.model.specs.Condition.{conjunctBytes, pairBytes, encode, conditionBytes};
-ghost use Rattle.model.proofs.Formed.{FileNode, Formed};
-ghost use Rattle.model.proofs.FileBytes.{size};
+ghost use Rattle.model.specs.Condition.{pairBytes};
+ghost use Rattle.model.specs.Sizes.{mostNodes};
 ghost use Rattle.bytes_le.specs.Overlay.{overlay};
-ghost use Rattle.program.specs.Reading.{ProgramIsRead, tablesOf};
-ghost use Rattle.node.specs.Word.{fileBytes};
+ghost use Rattle.program.specs.Reading.{tablesOf};
+ghost use Rattle.conjunct.specs.Word.{fileBytes};
 ghost use Rattle.conjunct.specs.Value.{conjOf};
-ghost use Rattle.sets.specs.Region.{setOf};
+ghost use Rattle.sets.specs.Region.{setOf, regionWords};
+ghost use Rattle.writer.specs.Writing.{conjunctRoom, pairsRoom, conjunctsRoom, lastBegin};
+ghost use Rattle.writer.specs.Writing.{ConjunctWritten, ConjunctsWritten, Writable, FileWritten};
+use conjunct::MOST_NODES;
 use program::Layout;
 
 // the 8 bytes of a number, from the highest on
@@ -21,24 +22,24 @@ fn put_high_first(out: &mut [u8], a: usize, v: u64)
     requires { ⌜ a + 8 ≤ length (now out) ⌝ }
     ensures { λ _. ⌜ now (out .exit) ≡ overlay (now (out .entry)) a (fileBytes v) ⌝ }
 {
-    out[a] = (v / 72057594037927936) as u8;
-    out[a + 1] = (v / 281474976710656 % 256) as u8;
-    out[a + 2] = (v / 1099511627776 % 256) as u8;
-    out[a + 3] = (v / 4294967296 % 256) as u8;
-    out[a + 4] = (v / 16777216 % 256) as u8;
-    out[a + 5] = (v / 65536 % 256) as u8;
+    out[a] = (v / 0x01_00_0000_0000_0000) as u8;
+    out[a + 1] = (v / 0x01_0000_0000_0000 % 256) as u8;
+    out[a + 2] = (v / 0x0100_0000_0000 % 256) as u8;
+    out[a + 3] = (v / 0x01_0000_0000 % 256) as u8;
+    out[a + 4] = (v / 0x0100_0000 % 256) as u8;
+    out[a + 5] = (v / 0x01_0000 % 256) as u8;
     out[a + 6] = (v / 256 % 256) as u8;
     out[a + 7] = (v % 256) as u8;
 }
 
 // the nodes of the conjunct of the first n words; where the next one begins
 fn put_conjunct(out: &mut [u8], a: usize, w: &[u64], n: usize) -> usize
-    requires { ⌜ (a + 960 ≤ length (now out)) × (n ≤ 120) × (n ≤ length (now w)) ⌝ }
-    ensures { λ r. ⌜ (r ≡ a + 8 * length (conjOf (now (w .entry)) n)) × (r ≤ a + 960) × ((types : List ℕ) → All (FileNode types) (conjOf (now (w .entry)) n) → now (out .exit) ≡ overlay (now (out .entry)) a (conjunctBytes (conjOf (now (w .entry)) n))) ⌝ }
+    requires { ⌜ (a + conjunctRoom ≤ length (now out)) × (n ≤ mostNodes) × (n ≤ length (now w)) ⌝ }
+    ensures { λ r. ⌜ ConjunctWritten (conjOf (now (w .entry)) n) a (now (out .entry)) (now (out .exit)) r ⌝ }
 {
     let mut i: usize = 0;
     while i < n {
-        put_high_first(out, a + 8 * i, node::filed(w[i]));
+        put_high_first(out, a + 8 * i, conjunct::node::filed(w[i]));
         i += 1;
     }
     a + 8 * n
@@ -46,7 +47,7 @@ fn put_conjunct(out: &mut [u8], a: usize, w: &[u64], n: usize) -> usize
 
 // the pair of a conjunct of n nodes that begins at a place
 fn put_pair(out: &mut [u8], a: usize, place: usize, n: usize)
-    requires { ⌜ (a + 8 ≤ length (now out)) × (place < 2 ^ 32) × (n ≤ 120) ⌝ }
+    requires { ⌜ (a + 8 ≤ length (now out)) × (place < 2 ^ 32) × (n ≤ mostNodes) ⌝ }
     ensures { λ _. ⌜ now (out .exit) ≡ overlay (now (out .entry)) a (bytes4 place ++ bytes4 (8 * n)) ⌝ }
 {
     bytes_le::put_u32(out, a, place as u64);
@@ -55,7 +56,7 @@ fn put_pair(out: &mut [u8], a: usize, place: usize, n: usize)
 
 // the pairs of the conjuncts of a set, of which the first begins at a place
 fn put_pairs(out: &mut [u8], a: usize, s: &[u64], b: usize, begin: usize)
-    requires { ⌜ (b + 7745 ≤ length (now s)) × (a + 512 ≤ length (now out)) × (begin ≤ 552) ⌝ }
+    requires { ⌜ (b + regionWords ≤ length (now s)) × (a + pairsRoom ≤ length (now out)) × (begin ≤ lastBegin) ⌝ }
     ensures { λ _. ⌜ now (out .exit) ≡ overlay (now (out .entry)) a (pairBytes begin (setOf (now (s .entry)) b)) ⌝ }
 {
     let count = sets::size(s, b);
@@ -71,8 +72,8 @@ fn put_pairs(out: &mut [u8], a: usize, s: &[u64], b: usize, begin: usize)
 
 // the conjuncts of a set, one after the other; where the last one ends. `words` is room to work in.
 fn put_conjuncts(out: &mut [u8], a: usize, s: &[u64], b: usize, words: &mut [u64]) -> usize
-    requires { ⌜ (b + 7745 ≤ length (now s)) × (a + 61440 ≤ length (now out)) × (120 ≤ length (now words)) ⌝ }
-    ensures { λ r. ⌜ (r ≡ a + 8 * size (setOf (now (s .entry)) b)) × (r ≤ a + 61440) × ((types : List ℕ) → All (All (FileNode types)) (setOf (now (s .entry)) b) → now (out .exit) ≡ overlay (now (out .entry)) a (flatMap conjunctBytes (setOf (now (s .entry)) b))) ⌝ }
+    requires { ⌜ (b + regionWords ≤ length (now s)) × (a + conjunctsRoom ≤ length (now out)) × (mostNodes ≤ length (now words)) ⌝ }
+    ensures { λ r. ⌜ ConjunctsWritten (setOf (now (s .entry)) b) a (now (out .entry)) (now (out .exit)) r ⌝ }
 {
     let count = sets::size(s, b);
     let mut place = a;
@@ -88,8 +89,10 @@ fn put_conjuncts(out: &mut [u8], a: usize, s: &[u64], b: usize, words: &mut [u64
 // The condition file of the set in the region at b of s, with the types of the program's fields;
 // how many bytes it has.
 pub fn write(program: &[u8], layout: Layout, s: &[u64], b: usize, out: &mut [u8]) -> usize
-    requires { ⌜ ProgramIsRead (now program) layout × (b + 7745 ≤ length (now s)) × (conditionBytes ≤ length (now out)) × All (Formed (tablesOf (now program) .fields)) (setOf (now s) b) ⌝ }
-    ensures { λ r. ⌜ (r ≡ length (encode (tablesOf (now (program .entry)) .fields) (setOf (now (s .entry)) b))) × (r ≤ conditionBytes) × (now (out .exit) ≡ overlay (now (out .entry)) 0 (encode (tablesOf (now (program .entry)) .fields) (setOf (now (s .entry)) b))) ⌝ }
+    requires { ⌜ Writable (now program) layout (now s) b (now out) ⌝ }
+    ensures { λ r. ⌜
+        FileWritten (tablesOf (now (program .entry)) .fields) (setOf (now (s .entry)) b) (now (out .entry)) (now (out .exit)) r
+        ⌝ }
 {
     let types = program::field_types(program, layout);
     let fields = types.len();
@@ -99,6 +102,6 @@ pub fn write(program: &[u8], layout: Layout, s: &[u64], b: usize, out: &mut [u8]
     bytes_le::put_u32(out, 4, fields as u64);
     bytes_le::put_bytes(out, 8, types, fields);
     put_pairs(out, 8 + fields, s, b, begin);
-    let mut words: [u64; 120] = [0; 120];
+    let mut words: [u64; MOST_NODES] = [0; MOST_NODES];
     put_conjuncts(out, begin, s, b, &mut words)
 }

@@ -1,4 +1,4 @@
--- `analysis::derive` meets its contract; the work is handed the documented words alone. Assumes nothing.
+-- `analysis::derive` meets its contract; the work is handed the documented words alone.
 use mathlib.Core.Path.{_≡_, refl}
 use lib.ListN.{length}
 use borrow.Author.Needs.{needs}

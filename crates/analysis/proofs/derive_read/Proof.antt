@@ -1,37 +1,53 @@
--- `analysis::derive_read` meets its contract. Assumes nothing.
-use mathlib.Core.Path.{ap, _∙_}
+-- `analysis::derive_read` meets its contract.
+use mathlib.Core.Path.{_≡_, ap, _∙_}
 use native.Mathlib.Omega.{arith}
-use borrow.Author.Needs.{needs}
+use Rattle.model.specs.Refusals.{Out}
+use Rattle.model.specs.Walk.{derived}
 use Rattle.model.proofs.Depth.{program-nested}
-use Rattle.program.proofs.Known.{counts-known}
-use Rattle.sets.specs.Region.{setOf}
+use Rattle.code_table.specs.Table.{tableOf, Coded}
 use Rattle.rules.specs.Answers.{answered}
+use Rattle.sets.specs.Region.{setOf}
+use Rattle.analysis.specs.Deriving.{unionAt}
 use Rattle.analysis.proofs.Files.{derives-refusal, set-formed, derives-file}
+use borrow.Author.Needs.{needs}
 use Rattle.analysis.proofs.derive_read.Statement.{statement}
 use Rattle.analysis.proofs.derive_read.Tie as tie
 
-slice-aggregate-ends : tie.Need-slice-aggregate-ends
-slice-aggregate-ends c = search needs
+-- the places: where the function begins, behind the table, and behind the sites
+abbrev entered : tie.After-load → tie.Start
+entered c = c .before .before .before .before .before
 
-ends-requires : tie.Need-ends-requires
-ends-requires c κs =
-    let a = c .before .before .before .before .args in
-    let p = c .before .before .before .before .pre in
-    (p .0, counts-known (a .program .now) (a .layout) (p .0) .3)
+abbrev loaded : tie.After-sites → tie.After-load
+loaded c = c .before .before .before .before
 
-slice-aggregate-sites : tie.Need-slice-aggregate-sites
-slice-aggregate-sites c = search needs
+abbrev found : tie.After-enum-told → tie.After-sites
+found c = c .before .before .before .before
+
+-- the table holds the program's code
+coded : (c : tie.After-load) → let g = entered c in Coded (g .args .layout .statements) (tableOf 0 (c .load .last .1 .1 .0)) (g .pre .0 .program .code)
+coded c = let r = entered c .pre .0 in c .load .ensures .coded (r .program) (r .read)
+
+-- places on the way, by the place from which they are seen
+abbrev after-sites-from-known-told : tie.After-known-told → tie.After-sites
+after-sites-from-known-told c = c .before .before .before .before .before
+
+-- the sites come to what is derived from it
+derives : (c : tie.After-sites) → derived (entered (loaded c) .pre .0 .program .code) ≡ answered (c .sites .result) (setOf (c .sites .last .0) unionAt)
+derives c =
+    let g = entered (loaded c) in
+    let r = g .pre .0 in
+    c .sites .ensures (r .program .code) (coded (loaded c) .laid) (program-nested (g .args .program .now) (r .program) (r .read))
+
+load-requires : tie.Need-load-requires
+load-requires c κs = search needs
 
 sites-requires : tie.Need-sites-requires
 sites-requires c κs =
-    let a = c .before .before .before .before .before .before .before .before .args in
-    let p = c .before .before .before .before .before .before .before .before .pre in
-    let r = p .0 in (
-      r,
-      omega (arith, counts-known (a .program .now) (a .layout) r .3, c .before .before .before .ends .kept .1 .1 .0),
-      p .2,
-      (r .program .code, c .before .before .before .ends .ensures (r .program) (r .read), program-nested (a .program .now) (r .program) (r .read)),
-    )
+    let l = c .before .before .before in
+    let g = entered l in
+    let r = g .pre .0 in
+    let k = coded l in
+    (omega (arith, g .pre .2, l .load .kept .1 .1 .0), k .below, record { code = r .program .code; lies = k .laid; nested = program-nested (g .args .program .now) (r .program) (r .read) })
 
 enum-known-a : tie.Need-enum-known-a
 enum-known-a c = search needs
@@ -41,25 +57,25 @@ enum-told c = search needs
 
 write-file-requires : tie.Need-write-file-requires
 write-file-requires c κs =
-    let a = c .before .before .before .before .before .before .before .before .before .before .before .before .before .before .before .args in
-    let p = c .before .before .before .before .before .before .before .before .before .before .before .before .before .before .before .pre in
-    let r = p .0 in
-    let t = c .before .before .before .before .before .before .sites in
-    let S = setOf (t .last .1 .1 .1 .0) 0 in
-    let d = t .ensures (r .program .code) (c .before .before .before .before .before .before .before .before .before .before .ends .ensures (r .program) (r .read)) (program-nested (a .program .now) (r .program) (r .read)) ∙ ap (λ x. answered x S) (c .before .before .enum-told .given .1) in
-    (r, omega (arith, p .2, t .kept .1 .1 .1 .0), p .1, set-formed (a .program .now) (r .program) (r .read) S d)
+    let t = found (c .before .before) in
+    let g = entered (loaded t) in
+    let r = g .pre .0 in
+    let S = setOf (t .sites .last .0) unionAt in (
+      r,
+      (omega (arith, g .pre .2, loaded t .load .kept .1 .1 .0, t .sites .kept .0), g .pre .1),
+      set-formed (g .args .program .now) (r .program) (r .read) S (derives t ∙ ap (λ x. answered x S) (c .before .before .enum-told .given .1)),
+    )
 
 same-length : tie.Need-same-length
 same-length c = search needs
 
 returns : tie.Need-returns
 returns c =
-    let a = c .before .before .before .before .before .before .before .before .before .before .before .before .before .before .args in
-    let r = c .before .before .before .before .before .before .before .before .before .before .before .before .before .before .pre .0 in
-    let t = c .before .before .before .before .before .sites in
-    let S = setOf (t .last .1 .1 .1 .0) 0 in
-    let d = t .ensures (r .program .code) (c .before .before .before .before .before .before .before .before .before .ends .ensures (r .program) (r .read)) (program-nested (a .program .now) (r .program) (r .read)) ∙ ap (λ x. answered x S) (c .before .a .given .1) in
-    derives-refusal (a .program .now) (r .program) (r .read) _ (a .condition .now) d
+    let t = after-sites-from-known-told c in
+    let g = entered (loaded t) in
+    let r = g .pre .0 in
+    derives-refusal (g .args .program .now) (r .program) (r .read) _ (g .args .condition .now)
+    (derives t ∙ ap (λ x. answered x (setOf (t .sites .last .0) unionAt)) (c .before .a .given .1))
 
 same-length-2 : tie.Need-same-length-2
 same-length-2 c = search needs
@@ -69,22 +85,20 @@ same-length-3 c = search needs
 
 returns-2 : tie.Need-returns-2
 returns-2 c =
-    let a = c .before .before .before .before .before .before .before .before .before .before .before .before .before .before .before .before .before .before .args in
-    let p = c .before .before .before .before .before .before .before .before .before .before .before .before .before .before .before .before .before .before .pre in
-    let r = p .0 in
-    let t = c .before .before .before .before .before .before .before .before .before .sites in
-    let S = setOf (t .last .1 .1 .1 .0) 0 in
-    let d = t .ensures (r .program .code) (c .before .before .before .before .before .before .before .before .before .before .before .before .before .ends .ensures (r .program) (r .read)) (program-nested (a .program .now) (r .program) (r .read)) ∙ ap (λ x. answered x S) (c .before .before .before .before .before .enum-told .given .1) in
-    let w = c .before .before .write-file in
-    derives-file (a .program .now) (r .program) (r .read) S d (w .result) (a .condition .now) (w .last .1 .1 .1 .0) (p .1) (w .ensures)
+    let w = c .before .before in
+    let d = w .before .before .before in
+    let t = found d in
+    let g = entered (loaded t) in
+    let r = g .pre .0 in
+    let S = setOf (t .sites .last .0) unionAt in
+    derives-file (g .args .program .now) (r .program) (r .read) S (derives t ∙ ap (λ x. answered x S) (d .enum-told .given .1)) (w .write-file .result)
+    (g .args .condition .now) (w .write-file .last .1 .1 .1 .0) (g .pre .1) (w .write-file .ensures)
 
 pub derive-read-spec : {M : Type 1} → statement M
 derive-read-spec =
     tie.close
     (tie.spec
-    slice-aggregate-ends
-    ends-requires
-    slice-aggregate-sites
+    load-requires
     sites-requires
     enum-known-a
     enum-told

@@ -1,4 +1,4 @@
--- `analysis::gather_start` meets its contract. Assumes nothing.
+-- `analysis::gather_start` meets its contract.
 use mathlib.Core.List.{map}
 use mathlib.Core.Path.{_≡_, refl, sym, ap, _∙_}
 use Prim.Native.Nat.{_-_, _≤_}
@@ -21,12 +21,25 @@ Inv-loop s₀ b room e₀ seen₀ k₀ s e seen k =
 abbrev μ-loop : tie.MeasureT-loop
 μ-loop s₀ b room e₀ seen₀ k₀ s e seen k = k
 
+-- places on the way, by the place from which they are seen
+abbrev start-from-size : tie.After-size Inv-loop μ-loop → tie.Start Inv-loop μ-loop
+start-from-size c = c .before .before .before .before .before
+
+abbrev start-from-loop : tie.After-loop Inv-loop μ-loop → tie.Start Inv-loop μ-loop
+start-from-loop c = start-from-size (c .before .before)
+
+abbrev after-at-start-from-renumber : tie.After-renumber Inv-loop μ-loop → tie.After-at-start Inv-loop μ-loop
+after-at-start-from-renumber c = c .before .before .before .before .before
+
+abbrev after-renumber-from-slice-known8 : tie.After-slice-known8 Inv-loop μ-loop → tie.After-renumber Inv-loop μ-loop
+after-renumber-from-slice-known8 c = c .before .before .before .before .before .before .before .before .before
+
 size-requires : tie.Need-size-requires Inv-loop μ-loop
 size-requires c κs = search needs
 
 loop-holds : tie.Need-loop-holds Inv-loop μ-loop
 loop-holds c =
-    let g = c .before .before .before .before .before in
+    let g = start-from-size c in
     let a = g .args in
     (omega (arith, c .size .ensures .0), refl, refl, refl, λ i h. refl, g .pre .2 ∙ sym (started-none (setOf (a .s .now) (a .b)) (c .size .result) (c .size .ensures .0)))
 
@@ -50,12 +63,17 @@ loop-less c = search needs
 
 loop-again : tie.Need-loop-again Inv-loop μ-loop
 loop-again c =
-    let g = c .before .before .before .before .before .before .before .before .before .before .before .before .before .before .before .before .before .before .before .before .before .before .before .before .before .before .before .before in
+    let after-renumber = after-renumber-from-slice-known8 c in
+    let after-at-start = after-at-start-from-renumber after-renumber in
+    let after-get = after-at-start .before .before .before .before in
+    let in-loop = after-get .before .before .before in
+    let at-loop = in-loop .before in
+    let g = start-from-size (at-loop .before) in
     let a = g .args in
-    let lp = c .before .before .before .before .before .before .before .before .before .before .before .before .before .before .before .before .before .before .before .before .before .before .loop in
-    let e = c .before .before .before .before .before .before .before .before .before .before .before .before .before .before .before .before .before .before .get in
-    let z = c .before .before .before .before .before .before .before .before .before .before .before .before .before .before .at-start in
-    let r = c .before .before .before .before .before .before .before .before .before .renumber in
+    let lp = at-loop .loop in
+    let e = after-get .get in
+    let z = after-at-start .at-start in
+    let r = after-renumber .renumber in
     let t = c .before .before .insert in
     let this = r .ensures ∙ ap renumber (z .ensures ∙ ap (map zeroed) (e .ensures .1)) in (
       omega (arith, lp .inv .0),
@@ -63,7 +81,8 @@ loop-again c =
       r .kept .0 ∙ z .kept .0 ∙ e .kept .1 .1 .1 .0 ∙ lp .inv .2,
       r .kept .1 .1 .0 ∙ lp .inv .3,
       within-trans (a .room) (a .s .now) (lp .s) (t .last .0) (lp .inv .4) (t .ensures .1),
-      started-more (a .s .now) (a .b) (a .room) (g .pre .0) (g .pre .1) (lp .s) (t .last .0) (lp .k) (lp .k - 1) (conjOf (r .last .0) (e .result)) (t .result) (lp .inv .1) (lp .inv .4) (omega (arith, c .before .before .before .before .before .before .before .before .before .before .before .before .before .before .before .before .before .before .before .before .before .loop-test .taken)) (lp .inv .0) this (lp .inv .5) (t .ensures .0),
+      started-more (a .s .now) (a .b) (a .room) (g .pre .0) (g .pre .1) (lp .s) (t .last .0) (lp .k) (lp .k - 1) (conjOf (r .last .0) (e .result)) (t .result)
+          (lp .inv .1) (lp .inv .4) (omega (arith, in-loop .loop-test .taken)) (lp .inv .0) this (lp .inv .5) (t .ensures .0),
     )
 
 same-length : tie.Need-same-length Inv-loop μ-loop
@@ -77,7 +96,7 @@ same-length-3 c = search needs
 
 returns : tie.Need-returns Inv-loop μ-loop
 returns c =
-    let a = c .before .before .before .before .before .before .before .args in
+    let a = start-from-loop c .args in
     let lp = c .before .loop in
     (start-done (a .s .now) (a .b) (lp .s) (a .room) (lp .k) (omega arith) (lp .inv .5), lp .inv .4)
 

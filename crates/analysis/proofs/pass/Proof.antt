@@ -1,56 +1,80 @@
--- `analysis::pass` meets its contract. Assumes nothing.
-use mathlib.Core.Path.{_≡_, sym, ap, _∙_}
-use borrow.Author.Needs.{needs}
-use Rattle.program.specs.Reading.{tablesOf, statementOf}
+-- `analysis::pass` meets its contract.
+use mathlib.Core.Path.{_≡_, refl, sym, ap, subst, _∙_}
+use Prim.Native.Nat.{_<_}
+use native.Mathlib.Omega.{arith}
+use Rattle.code_table.specs.Statements.{Known}
+use Rattle.code_table.specs.Table.{tableOf, rowIn}
+use Rattle.code_table.specs.declared.Decoded.{Decoded}
 use Rattle.sets.specs.Region.{setOf}
+use Rattle.analysis.specs.Deriving.{unionAt}
+use Rattle.analysis.specs.Joining.{Sited}
 use Rattle.analysis.proofs.Passing.{site-leads, pass-site, pass-other}
+use borrow.Author.Needs.{needs}
 use Rattle.analysis.proofs.pass.Statement.{statement}
 use Rattle.analysis.proofs.pass.Tie as tie
 
-statement-requires : tie.Need-statement-requires
-statement-requires c κs = (c .before .before .before .pre .0 .placed, c .before .before .before .pre .4)
+-- where the function begins
+abbrev entered : tie.After-fetch → tie.Start
+entered c = c .before .before .before
 
-returns : tie.Need-returns
-returns c =
-    let a = c .before .before .before .before .before .args in
-    let p = c .before .before .before .before .before .pre in
-    let k : statementOf (tablesOf (a .program .now)) (a .i) .kind ≡ 10 → ⊥ = λ e. c .if1 .taken (ap (λ q. q .kind) (c .before .statement .ensures) ∙ e) in
-    (pass-other (a .program .now) (a .table .now) (a .layout .statements) (a .i) (p .4) (setOf (a .s .now) 0) k, λ e. p .3)
+is-site : (c : tie.After-fetch) → c .fetch .result .kind ≡ 10 → rowIn (tableOf 0 (entered c .args .s .now)) (entered c .args .i) .kind ≡ 10
+is-site c e = sym (ap (λ (r : Decoded). r .kind) (c .fetch .ensures)) ∙ e
 
-cast-variable-type : tie.Need-cast-variable-type
-cast-variable-type c = search needs
-
-variable-type-requires : tie.Need-variable-type-requires
-variable-type-requires c κs = c .before .before .before .before .before .pre .0 .placed
-
-site-requires : tie.Need-site-requires
-site-requires c κs =
-    let a = c .before .before .before .before .before .before .before .args in
-    let p = c .before .before .before .before .before .before .before .pre in
-    let k : statementOf (tablesOf (a .program .now)) (a .i) .kind ≡ 10 = sym (ap (λ q. q .kind) (c .before .before .before .statement .ensures)) ∙ c .before .before .if1 .left in
-    (p .0, p .1, p .2, p .3, site-leads (a .program .now) (a .table .now) (a .layout .statements) (a .i) (p .4) (setOf (a .s .now) 0) k (p .5 .0) (p .5 .1))
+fetch-requires : tie.Need-fetch-requires
+fetch-requires c κs =
+    let g = c .before .before in
+    (omega (arith, g .pre .0 .room), omega (arith, g .pre .1 .1 .few, g .pre .1 .2))
 
 same-length : tie.Need-same-length
 same-length c = search needs
 
+returns : tie.Need-returns
+returns c =
+    let d = c .before .fetch in
+    let g = entered (c .before) in
+    record {
+      does = λ m l.
+          pass-other (tableOf 0 (g .args .s .now)) m (g .args .i) l (setOf (g .args .s .now) unionAt) (λ e. c .if1 .taken (ap (λ (r : Decoded). r .kind) (d .ensures) ∙ e));
+      tidy = λ e. g .pre .0 .tidy;
+      below = λ x h. refl;
+    }
+
+site-requires : tie.Need-site-requires
+site-requires c κs =
+    let f = c .before .before in
+    let g = entered f in
+    let n = g .pre .1 .0 in
+    let known : Known (f .fetch .result) = subst Known (sym (f .fetch .ensures)) (g .pre .1 .1 .known (g .args .i) (g .pre .1 .2)) in
+    let sites = g .pre .1 .3 in (
+      g .pre .0,
+      (known .a, known .ty),
+      (
+        n,
+        site-leads (tableOf 0 (g .args .s .now)) n (g .args .i) (g .pre .1 .2) (setOf (g .args .s .now) unionAt) (is-site f (c .before .if1 .left)) (g .pre .1 .1)
+            (sites .0) (sites .1),
+      ),
+    )
+
+same-length-2 : tie.Need-same-length-2
+same-length-2 c = search needs
+
 returns-2 : tie.Need-returns-2
 returns-2 c =
-    let a = c .before .before .before .before .before .before .before .before .before .before .args in
-    let p = c .before .before .before .before .before .before .before .before .before .before .pre in
     let t = c .before .before .site in
-    let k : statementOf (tablesOf (a .program .now)) (a .i) .kind ≡ 10 = sym (ap (λ q. q .kind) (c .before .before .before .before .before .before .statement .ensures)) ∙ c .before .before .before .before .before .if1 .left in (
-      pass-site (a .program .now) (a .table .now) (a .layout .statements) (a .i) (p .4) (setOf (a .s .now) 0) k _ _ (t .result) (setOf (t .last .1 .1 .1 .0) 0) (ap (λ q. q .a) (c .before .before .before .before .before .before .statement .ensures)) (c .before .before .before .before .variable-type .ensures) (t .ensures .0),
-      t .ensures .1,
-    )
+    let i = c .before .before .before .before in
+    let f = i .before in
+    let g = entered f in
+    let k = tableOf 0 (g .args .s .now) in
+    let R = setOf (g .args .s .now) unionAt in
+    let Q = setOf (t .last .0) unionAt in
+    record {
+      does = λ m l.
+          pass-site k m (g .args .i) l R (is-site f (i .if1 .left)) (t .result) Q
+          (subst (λ (r : Decoded). Sited k m (g .args .i) (r .a) (r .ty) R (t .result) Q) (f .fetch .ensures) (t .ensures .does m));
+      tidy = t .ensures .tidy;
+      below = t .ensures .below;
+    }
 
 pub pass-spec : {M : Type 1} → statement M
 pass-spec =
-    tie.close
-    (tie.spec
-    statement-requires
-    returns
-    cast-variable-type
-    variable-type-requires
-    site-requires
-    same-length
-    returns-2)
+    tie.close (tie.spec fetch-requires same-length returns site-requires same-length-2 returns-2)

@@ -1,11 +1,15 @@
--- `analysis::single` meets its contract. Assumes nothing.
+-- `analysis::single` meets its contract.
 use mathlib.Core.List.{[], _∷_}
 use borrow.Author.Needs.{needs}
-use Rattle.node.specs.Word.{nodeOf}
+use Rattle.conjunct.specs.Word.{nodeOf}
 use Rattle.sets.proofs.Rows.{within-trans}
 use Rattle.analysis.proofs.Uniting.{inserted-first}
 use Rattle.analysis.proofs.single.Statement.{statement}
 use Rattle.analysis.proofs.single.Tie as tie
+
+-- places on the way, by the place from which they are seen
+abbrev after-clear-from-slice-known3 : tie.After-slice-known3 → tie.After-clear
+after-clear-from-slice-known3 c = c .before .before .before .before .before .before .before
 
 clear-requires : tie.Need-clear-requires
 clear-requires c κs = search needs
@@ -21,11 +25,13 @@ same-length c = search needs
 
 returns : tie.Need-returns
 returns c =
-    let a = c .before .before .before .before .before .before .before .before .before .before .args in
-    let s₁ = c .before .before .before .before .before .before .before .clear .last .0 in
+    let after-clear = after-clear-from-slice-known3 c in
+    let start = after-clear .before .before .before in
+    let a = start .args in
+    let s₁ = after-clear .clear .last .0 in
     let t = c .before .before .insert in (
-      inserted-first (t .result) s₁ (t .last .0) (a .b) (nodeOf (a .w) ∷ []) (c .before .before .before .before .before .before .before .clear .ensures .0) (t .ensures .0),
-      within-trans (a .b) (a .s .now) s₁ (t .last .0) (c .before .before .before .before .before .before .before .clear .ensures .1) (t .ensures .1),
+      inserted-first (t .result) s₁ (t .last .0) (a .b) (nodeOf (a .w) ∷ []) (after-clear .clear .ensures .0) (t .ensures .0),
+      within-trans (a .b) (a .s .now) s₁ (t .last .0) (after-clear .clear .ensures .1) (t .ensures .1),
     )
 
 pub single-spec : {M : Type 1} → statement M

@@ -1,4 +1,4 @@
--- `analysis::start_set` meets its contract. Assumes nothing.
+-- `analysis::start_set` meets its contract.
 use mathlib.Core.Logic.{inl}
 use mathlib.Core.Path.{_≡_, sym, ap, _∙_}
 use Prim.Native.Nat.{_+_}
@@ -10,6 +10,16 @@ use Rattle.sets.specs.Region.{setOf}
 use Rattle.analysis.proofs.Starting.{kept}
 use Rattle.analysis.proofs.start_set.Statement.{statement}
 use Rattle.analysis.proofs.start_set.Tie as tie
+
+-- places on the way, by the place from which they are seen
+abbrev after-clear-from-gather-start : tie.After-gather-start → tie.After-clear
+after-clear-from-gather-start c = c .before .before .before .before .before .before
+
+abbrev after-gather-start-from-copy-arg : tie.After-copy-arg → tie.After-gather-start
+after-gather-start-from-copy-arg c = c .before .before .before .before .before
+
+abbrev after-gather-start-from-slice-known4 : tie.After-slice-known4 → tie.After-gather-start
+after-gather-start-from-slice-known4 c = after-gather-start-from-copy-arg (c .before .before .before)
 
 add-room : tie.Need-add-room
 add-room c = search needs
@@ -28,18 +38,26 @@ gather-start-requires c κs = search needs
 
 copy-requires : tie.Need-copy-requires
 copy-requires c κs =
-    let u = c .before .before .before .before .before .before .before .before .before .before .before .clear in
-    let t = c .before .before .before .before .before .gather-start in
+    let after-gather-start = after-gather-start-from-copy-arg c in
+    let after-clear = after-clear-from-gather-start after-gather-start in
+    let u = after-clear .clear in
+    let t = after-gather-start .gather-start in
     (omega (arith, u .kept .0, t .kept .0), omega (arith, u .kept .0, t .kept .0), inl (omega arith))
 
 same-length : tie.Need-same-length
-same-length c = c .before .before .copy .kept .0 ∙ c .before .before .before .before .before .before .before .before .gather-start .kept .0 ∙ c .before .before .before .before .before .before .before .before .before .before .before .before .before .before .clear .kept .0
+same-length c =
+    let after-gather-start = after-gather-start-from-slice-known4 c in
+    let after-clear = after-clear-from-gather-start after-gather-start in
+    c .before .before .copy .kept .0 ∙ after-gather-start .gather-start .kept .0 ∙ after-clear .clear .kept .0
 
 returns : tie.Need-returns
 returns c =
-    let a = c .before .before .before .before .before .before .before .before .before .before .before .before .before .before .before .before .before .args in
-    let u = c .before .before .before .before .before .before .before .before .before .before .before .before .before .before .clear in
-    let t = c .before .before .before .before .before .before .before .before .gather-start in
+    let after-gather-start = after-gather-start-from-slice-known4 c in
+    let after-clear = after-clear-from-gather-start after-gather-start in
+    let start′ = after-clear .before .before .before in
+    let a = start′ .args in
+    let u = after-clear .clear in
+    let t = after-gather-start .gather-start in
     let v = c .before .before .copy in
     let same : setOf (u .last .0) (a .b) ≡ setOf (a .s .now) (a .b) = kept (a .s .now) (a .b) (a .b + 7745) (omega arith) (omega arith) (u .last .0) (u .kept .0) (u .ensures .1) in (
       ap start (sym same) ∙ t .ensures .0 ∙ ap ok (sym (v .ensures .0)),

@@ -1,5 +1,4 @@
 -- `arith::cause_of` meets its contract.
--- Assumes nothing.
 use mathlib.Core.Path.{_∙_, sym}
 use Rattle.arith.specs.Step.{fits}
 use Rattle.arith.proofs.Causes.{is-below, is-above, with-divisor}

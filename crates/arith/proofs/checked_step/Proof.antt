@@ -1,5 +1,4 @@
 -- `arith::checked_step` meets its contract.
--- Assumes nothing.
 use mathlib.Core.Path.{sym, ap, _∙_}
 use Rattle.arith.specs.Step.{overflow}
 use Rattle.arith.specs.Whole.{valueOf}

@@ -1,5 +1,4 @@
 -- `arith::difference` meets its contract: the sum with the other number of the opposite sign.
--- Assumes nothing.
 use Rattle.arith.proofs.Signs.{neg-sign}
 use borrow.Author.Needs.{needs}
 use Rattle.arith.proofs.difference.Statement.{statement}

@@ -1,5 +1,4 @@
 -- `arith::fold` meets its contract.
--- Assumes nothing.
 use native.Mathlib.Nat.{mod-lt}
 use native.Mathlib.Omega.{arith}
 use lib.Pow.{pow-pos}

@@ -1,5 +1,4 @@
 -- `arith::immediate` meets its contract.
--- Assumes nothing.
 use borrow.Author.Needs.{needs}
 use borrow.Author.Tests.{le-leb, lt-leb}
 use Rattle.arith.specs.Types.{signed}
@@ -25,7 +24,8 @@ of-bits-requires-2 c κs = (6, c .range-of2 .ensures)
 
 returns-2 : tie.Need-returns-2
 unfolding immediate signed
-returns-2 c = rw (le-leb 4 (c .before .before .before .args .ty) (c .before .before .if1 .left)) (c .of-bits2 .ensures 6 (c .before .range-of2 .ensures))
+returns-2 c = rw (le-leb 4 (c .before .before .before .args .ty) (c .before .before .if1 .left))
+    (c .of-bits2 .ensures 6 (c .before .range-of2 .ensures))
 
 pub immediate-spec : {M : Type 1} → statement M
 immediate-spec =

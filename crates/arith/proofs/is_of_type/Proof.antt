@@ -1,5 +1,4 @@
 -- `arith::is_of_type` meets its contract.
--- Assumes nothing.
 use Rattle.arith.proofs.Ranges.{fits-sign}
 use borrow.Author.Needs.{needs}
 use Rattle.arith.proofs.is_of_type.Statement.{statement}

@@ -1,5 +1,4 @@
 -- `arith::lacks` meets its contract.
--- Assumes nothing.
 use mathlib.Core.Path.{refl}
 use Rattle.arith.proofs.Signs.{abs-sign}
 use borrow.Author.Needs.{needs}

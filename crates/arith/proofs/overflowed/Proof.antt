@@ -1,5 +1,4 @@
 -- `arith::overflowed` meets its contract.
--- Assumes nothing.
 use Rattle.arith.proofs.Held.{fits-held}
 use borrow.Author.Needs.{needs}
 use Rattle.arith.proofs.overflowed.Statement.{statement}
@@ -19,7 +18,13 @@ within-requires c κs = search needs
 
 returns-2 : tie.Need-returns-2
 returns-2 c = λ ty z row h.
-    rw (← c .before .before .before .lacks .ensures, c .before .before .if1 .left, fits-held ty _ h, ← c .before .limit .ensures ty row, c .within .ensures z h)
+    rw (
+      ← c .before .before .before .lacks .ensures,
+      c .before .before .if1 .left,
+      fits-held ty _ h,
+      ← c .before .limit .ensures ty row,
+      c .within .ensures z h,
+    )
 
 pub overflowed-spec : {M : Type 1} → statement M
 overflowed-spec =

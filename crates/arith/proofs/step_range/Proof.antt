@@ -1,5 +1,4 @@
 -- `arith::step_range` meets its contract: each row of the table is the type's, by computation.
--- Assumes nothing.
 use mathlib.Core.Path.{_≡_, refl}
 use Prim.Native.Nat.{ℕ, _+_, _≤_}
 use native.Mathlib.Omega.{arith}

@@ -1,5 +1,4 @@
 -- `arith::sum` meets its contract: by the three cases of the signs and the magnitudes.
--- Assumes nothing.
 use Prim.Native.Nat.{_+_, _-_}
 use native.Mathlib.Omega.{arith}
 use borrow.Author.Needs.{needs}
@@ -29,13 +28,15 @@ returns-2 : tie.Need-returns-2
 returns-2 c =
     let a = c .before .before .before .args .a in
     let b = c .before .before .before .args .b in
-    small (b .neg) (b .mag - a .mag) (omega arith) (rw (opposite (a .neg) (b .neg) (c .before .if1 .left)) (add-lt (a .neg) (a .mag) (b .mag) (c .if2 .taken)))
+    small (b .neg) (b .mag - a .mag) (omega arith)
+    (rw (opposite (a .neg) (b .neg) (c .before .if1 .left)) (add-lt (a .neg) (a .mag) (b .mag) (c .if2 .taken)))
 
 returns-3 : tie.Need-returns-3
 returns-3 c =
     let a = c .before .before .before .args .a in
     let b = c .before .before .before .args .b in
-    small (a .neg) (a .mag - b .mag) (omega arith) (rw (opposite (a .neg) (b .neg) (c .before .if1 .left)) (add-ge (a .neg) (a .mag) (b .mag) (c .if2 .left)))
+    small (a .neg) (a .mag - b .mag) (omega arith)
+    (rw (opposite (a .neg) (b .neg) (c .before .if1 .left)) (add-ge (a .neg) (a .mag) (b .mag) (c .if2 .left)))
 
 pub sum-spec : {M : Type 1} → statement M
 sum-spec = tie.close (tie.spec wrapping-add-u64-requires returns sub-t9 returns-2 returns-3)

@@ -1,5 +1,4 @@
 -- `arith::to_word` meets its contract.
--- Assumes nothing.
 use native.Mathlib.Omega.{arith}
 use Rattle.arith.specs.Words.{wordOf}
 use Rattle.arith.proofs.Residues.{residue-neg}

@@ -1,5 +1,4 @@
 -- `arith::too_large` meets its contract.
--- Assumes nothing.
 use native.Mathlib.Nat.{mul-zero}
 use native.Mathlib.Omega.{arith}
 use Rattle.arith.proofs.Held.{too-large}

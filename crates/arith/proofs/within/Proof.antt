@@ -1,5 +1,4 @@
 -- `arith::within` meets its contract.
--- Assumes nothing.
 use borrow.Author.Needs.{needs}
 use Rattle.arith.proofs.Held.{far, near}
 use Rattle.arith.proofs.within.Statement.{statement}

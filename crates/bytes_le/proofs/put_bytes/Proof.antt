@@ -1,4 +1,4 @@
--- `bytes_le::put_bytes` meets its contract. Assumes nothing.
+-- `bytes_le::put_bytes` meets its contract.
 use mathlib.Core.Path.{_≡_, ap, _∙_}
 use Prim.Native.Nat.{ℕ, _+_, _-_, _≤_}
 use native.Mathlib.Omega.{arith}
@@ -13,7 +13,8 @@ same-count : (i n : ℕ) → i ≤ n → n ≤ i → i ≡ n
 same-count i n h k = omega arith
 
 abbrev Inv-loop : tie.InvT-loop
-Inv-loop out₀ a from n i₀ out i = (i ≤ n) × (length out ≡ length out₀) × (out ≡ overlay out₀ a (take i from)) × (n ≤ length from) × (a + n ≤ length out₀)
+Inv-loop out₀ a from n i₀ out i =
+    (i ≤ n) × (length out ≡ length out₀) × (out ≡ overlay out₀ a (take i from)) × (n ≤ length from) × (a + n ≤ length out₀)
 
 abbrev μ-loop : tie.MeasureT-loop
 μ-loop out₀ a from n i₀ out i = n - i

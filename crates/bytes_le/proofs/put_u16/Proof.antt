@@ -1,5 +1,4 @@
 -- `bytes_le::put_u16` meets its contract.
--- Assumes nothing.
 use native.Mathlib.Omega.{arith}
 use lib.ListN.{length-set}
 use Rattle.model.specs.Bytes.{bytes2}

@@ -1,5 +1,4 @@
 -- `bytes_le::put_u64` meets its contract.
--- Assumes nothing.
 use Rattle.bytes_le.proofs.Overlays.{overlay-8}
 use borrow.Author.Needs.{needs}
 use Rattle.bytes_le.proofs.put_u64.Statement.{statement}
@@ -18,7 +17,9 @@ same-length : tie.Need-same-length
 same-length c = search needs
 
 returns : tie.Need-returns
-returns c = overlay-8 _ _ _ _ _ (c .before .before .before .before .before .before .put-u32 .ensures) (c .before .before .put-u322 .ensures)
+returns c =
+    let upper = c .before .before in
+    overlay-8 _ _ _ _ _ (upper .before .before .before .before .put-u32 .ensures) (upper .put-u322 .ensures)
 
 pub put-u64-spec : {M : Type 1} → statement M
 put-u64-spec =

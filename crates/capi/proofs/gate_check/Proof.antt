@@ -1,4 +1,4 @@
--- `capi::gate_check` meets its contract. Assumes nothing.
+-- `capi::gate_check` meets its contract.
 use mathlib.Core.Path.{_≡_, sym, ap, _∙_}
 use Prim.Native.Nat.{ℕ, _+_, _*_}
 use Rattle.model.specs.Refusals.{mapped}

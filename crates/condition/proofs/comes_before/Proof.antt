@@ -1,12 +1,12 @@
 -- `condition::comes_before` meets its contract.
--- Assumes nothing.
 use mathlib.Core.Path.{_≡_, refl, sym, _∙_, ap}
 use Prim.Native.Nat.{_-_, _≤_}
 use native.Mathlib.Omega.{arith}
 use lib.ListN.{length, drop}
 use Rattle.model.specs.Conjunct.{orderNumbers}
 use Rattle.model.specs.Condition.{isBefore}
-use Rattle.condition.proofs.Orders.{compare-less, compare-more, compare-same, numbers-less, numbers-more, numbers-on, numbers-end}
+use Rattle.model.proofs.Order.{compare-less, compare-more, compare-same}
+use Rattle.condition.proofs.Orders.{numbers-less, numbers-more, numbers-on, numbers-end}
 use borrow.Author.Needs.{needs}
 use Rattle.condition.proofs.comes_before.Statement.{statement}
 use Rattle.condition.proofs.comes_before.Tie as tie
@@ -16,6 +16,12 @@ Inv-loop a b i₀ i = (i ≤ length a) × (length a ≡ length b) × (orderNumbe
 
 abbrev μ-loop : tie.MeasureT-loop
 μ-loop a b i₀ i = length a - i
+
+abbrev turn-of-other : tie.Else4 Inv-loop μ-loop → tie.At-loop Inv-loop μ-loop
+turn-of-other c = c .before .before .before .before .before
+
+abbrev turn-of-same : tie.Then4 Inv-loop μ-loop → tie.At-loop Inv-loop μ-loop
+turn-of-same c = c .before .before .before .before .before
 
 returns : tie.Need-returns Inv-loop μ-loop
 returns c = rw (compare-less _ _ (c .if1 .taken))
@@ -41,7 +47,7 @@ returns-3 c =
 
 returns-4 : tie.Need-returns-4 Inv-loop μ-loop
 returns-4 c =
-    let a = c .before .before .before .before .before in
+    let a = turn-of-same c in
     let g = a .before .before .before .args in
     rw (compare-same (length (g .a .now)) (length (g .b .now)) (a .loop .inv .1))
     (sym (ap isBefore (a .loop .inv .2 ∙ numbers-more (g .a .now) (g .b .now) (a .loop .i) (omega arith) (omega arith) (c .if4 .taken))))
@@ -54,9 +60,13 @@ loop-less c = search needs
 
 loop-again : tie.Need-loop-again Inv-loop μ-loop
 loop-again c =
-    let a = c .before .before .before .before .before in
-    let g = a .before .before .before .args in
-    (omega arith, a .loop .inv .1, a .loop .inv .2 ∙ numbers-on (g .a .now) (g .b .now) (a .loop .i) (omega arith) (omega arith) (c .if4 .left) (c .before .if3 .left))
+    let a = turn-of-other c in
+    let g = a .before .before .before .args in (
+      omega arith,
+      a .loop .inv .1,
+      a .loop .inv .2
+          ∙ numbers-on (g .a .now) (g .b .now) (a .loop .i) (omega arith) (omega arith) (c .if4 .left) (c .before .if3 .left),
+    )
 
 returns-5 : tie.Need-returns-5 Inv-loop μ-loop
 returns-5 c =

@@ -1,5 +1,4 @@
 -- `condition::conjunct` meets its contract.
--- Assumes nothing.
 use mathlib.Core.Path.{_∙_, ap}
 use Prim.Native.Nat.{_-_}
 use native.Mathlib.Omega.{arith}
@@ -19,8 +18,10 @@ add-part-at-2 c = omega (arith, counted-read (c .before .args .condition .now) (
 
 part-at-requires : tie.Need-part-at-requires
 part-at-requires c κs =
-    let g = c .before in
-    (omega (arith, counted-read (g .args .condition .now) (g .args .counts) (g .pre .0) .table), conjunct-inside (g .args .condition .now) (g .args .counts) (g .pre .0) (g .args .i) (g .pre .1))
+    let g = c .before in (
+      omega (arith, counted-read (g .args .condition .now) (g .args .counts) (g .pre .0) .table),
+      conjunct-inside (g .args .condition .now) (g .args .counts) (g .pre .0) (g .args .i) (g .pre .1),
+    )
 
 returns : tie.Need-returns
 returns c =

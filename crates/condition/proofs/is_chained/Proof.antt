@@ -1,5 +1,4 @@
 -- `condition::is_chained` meets its contract.
--- Assumes nothing.
 use mathlib.Core.Path.{_≡_, sym, _∙_}
 use Prim.Native.Nat.{_-_, _≤_}
 use native.Mathlib.Omega.{arith}
@@ -41,7 +40,8 @@ returns : tie.Need-returns Inv-loop μ-loop
 returns c =
     let a = c .before .before .before .before in
     let g = a .before .before .args in
-    sym (a .loop .inv .1 ∙ chained-off (g .condition .now) (g .at) (g .count) (a .loop .i) (a .loop .next) _ _ (omega arith) (c .before .before .u32-at .ensures .0) (c .before .u32-at2 .ensures .0) _ (c .if1 .taken))
+    sym (a .loop .inv .1 ∙ chained-off (g .condition .now) (g .at) (g .count) (a .loop .i) (a .loop .next) _ _ (omega arith)
+    (c .before .before .u32-at .ensures .0) (c .before .u32-at2 .ensures .0) _ (c .if1 .taken))
 
 add-next : tie.Need-add-next Inv-loop μ-loop
 add-next c = search needs
@@ -55,8 +55,12 @@ loop-less c = search needs
 loop-again : tie.Need-loop-again Inv-loop μ-loop
 loop-again c =
     let a = c .before .before .before .before in
-    let g = a .before .before .args in
-    (omega arith, a .loop .inv .1 ∙ chained-on (g .condition .now) (g .at) (g .count) (a .loop .i) (a .loop .next) _ _ (omega arith) (c .before .before .u32-at .ensures .0) (c .before .u32-at2 .ensures .0) _ (c .if1 .left))
+    let g = a .before .before .args in (
+      omega arith,
+      a .loop .inv .1
+          ∙ chained-on (g .condition .now) (g .at) (g .count) (a .loop .i) (a .loop .next) _ _ (omega arith) (c .before .before .u32-at .ensures .0)
+          (c .before .u32-at2 .ensures .0) _ (c .if1 .left),
+    )
 
 returns-2 : tie.Need-returns-2 Inv-loop μ-loop
 returns-2 c =

@@ -1,5 +1,4 @@
 -- `condition::is_rising` meets its contract.
--- Assumes nothing.
 use mathlib.Core.Path.{_≡_, sym, _∙_, ap}
 use mathlib.Core.List.{map}
 use Prim.Native.Nat.{_+_, _*_, _-_, _≤_}
@@ -22,10 +21,16 @@ Inv-loop condition fields count i₀ i =
 abbrev μ-loop : tie.MeasureT-loop
 μ-loop condition fields count i₀ i = count - i
 
+abbrev turn-before : tie.After-comes-before Inv-loop μ-loop → tie.At-loop Inv-loop μ-loop
+turn-before c = c .before .before .before .before
+
 loop-holds : tie.Need-loop-holds Inv-loop μ-loop
 loop-holds c =
-    let g = c .before .args in
-    (omega arith, table-inside (g .condition .now) (g .fields) (g .count) (c .before .pre .0), rw (pairs-all (g .condition .now) (8 + g .fields) (g .count)))
+    let g = c .before .args in (
+      omega arith,
+      table-inside (g .condition .now) (g .fields) (g .count) (c .before .pre .0),
+      rw (pairs-all (g .condition .now) (8 + g .fields) (g .count)),
+    )
 
 add-loop : tie.Need-add-loop Inv-loop μ-loop
 add-loop c = search needs
@@ -66,10 +71,14 @@ comes-before-requires c κs = search needs
 
 returns : tie.Need-returns Inv-loop μ-loop
 returns c =
-    let a = c .before .before .before .before .before in
-    let g = c .before .before .before .before .before .before .before in
-    sym (a .loop .inv .2 ∙ rising-off (g .args .condition .now) (8 + g .args .fields) (g .args .count) (a .loop .i) (c .before .before .before .before .loop-test .taken)
-    (ap isBefore (order-neighbours (g .args .condition .now) (g .args .fields) (g .args .count) (g .pre .0) (g .pre .1) (λ i. omega (arith, a .before .shared-slice-known .given i)) (a .loop .i) (c .before .before .before .before .loop-test .taken) _ _ (c .before .before .before .part-at .ensures) (c .before .before .part-at2 .ensures)) ∙ sym (c .before .comes-before .ensures) ∙ not-true _ (c .if1 .taken)))
+    let a = turn-before (c .before) in
+    let g = a .before .before in
+    sym (a .loop .inv .2 ∙ rising-off (g .args .condition .now) (8 + g .args .fields) (g .args .count) (a .loop .i)
+    (c .before .before .before .before .loop-test .taken)
+    (ap isBefore (order-neighbours (g .args .condition .now) (g .args .fields) (g .args .count) (g .pre .0) (g .pre .1)
+    (λ i. omega (arith, a .before .shared-slice-known .given i)) (a .loop .i) (c .before .before .before .before .loop-test .taken) _ _
+    (c .before .before .before .part-at .ensures) (c .before .before .part-at2 .ensures)) ∙ sym (c .before .comes-before .ensures)
+    ∙ not-true _ (c .if1 .taken)))
 
 add-i : tie.Need-add-i Inv-loop μ-loop
 add-i c = search needs
@@ -79,12 +88,16 @@ loop-less c = search needs
 
 loop-again : tie.Need-loop-again Inv-loop μ-loop
 loop-again c =
-    let a = c .before .before .before .before .before in
-    let g = c .before .before .before .before .before .before .before in (
+    let a = turn-before (c .before) in
+    let g = a .before .before in (
       omega arith,
       a .loop .inv .1,
-      a .loop .inv .2 ∙ rising-on (g .args .condition .now) (8 + g .args .fields) (g .args .count) (a .loop .i) (c .before .before .before .before .loop-test .taken)
-          (ap isBefore (order-neighbours (g .args .condition .now) (g .args .fields) (g .args .count) (g .pre .0) (g .pre .1) (λ i. omega (arith, a .before .shared-slice-known .given i)) (a .loop .i) (c .before .before .before .before .loop-test .taken) _ _ (c .before .before .before .part-at .ensures) (c .before .before .part-at2 .ensures)) ∙ sym (c .before .comes-before .ensures) ∙ not-false _ (c .if1 .left)),
+      a .loop .inv .2 ∙ rising-on (g .args .condition .now) (8 + g .args .fields) (g .args .count) (a .loop .i)
+          (c .before .before .before .before .loop-test .taken)
+          (ap isBefore (order-neighbours (g .args .condition .now) (g .args .fields) (g .args .count) (g .pre .0) (g .pre .1)
+          (λ i. omega (arith, a .before .shared-slice-known .given i)) (a .loop .i) (c .before .before .before .before .loop-test .taken) _ _
+          (c .before .before .before .part-at .ensures) (c .before .before .part-at2 .ensures)) ∙ sym (c .before .comes-before .ensures)
+          ∙ not-false _ (c .if1 .left)),
     )
 
 returns-2 : tie.Need-returns-2 Inv-loop μ-loop

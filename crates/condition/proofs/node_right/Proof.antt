@@ -1,11 +1,13 @@
 -- `condition::node_right` meets its contract.
--- Assumes nothing.
 use mathlib.Core.Path.{sym, _∙_}
 use Prim.Native.Nat.{_-_}
 use Rattle.condition.proofs.Nodes.{constant-form, reading-form, operation-form, no-form}
 use borrow.Author.Needs.{needs}
 use Rattle.condition.proofs.node_right.Statement.{statement}
 use Rattle.condition.proofs.node_right.Tie as tie
+
+abbrev entered : tie.After-operation-right → tie.Start
+entered c = c .before .before .before .before .before
 
 constant-right-requires : tie.Need-constant-right-requires
 constant-right-requires c κs = search needs
@@ -28,8 +30,10 @@ operation-right-requires c κs = search needs
 
 returns-3 : tie.Need-returns-3
 returns-3 c =
-    let g = c .before .before .before .before .before .args in
-    c .operation-right .ensures ∙ sym (operation-form _ (g .v .ty) (g .v .field) (g .v .imm) (g .v .kind) (c .before .before .before .if1 .left) (c .before .before .if2 .left) (c .before .if3 .taken))
+    let g = entered c .args in
+    c .operation-right .ensures
+    ∙ sym (operation-form _ (g .v .ty) (g .v .field) (g .v .imm) (g .v .kind) (c .before .before .before .if1 .left)
+    (c .before .before .if2 .left) (c .before .if3 .taken))
 
 returns-4 : tie.Need-returns-4
 returns-4 c =

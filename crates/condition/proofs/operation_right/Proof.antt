@@ -1,5 +1,4 @@
 -- `condition::operation_right` meets its contract.
--- Assumes nothing.
 use Prim.Native.Nat.{_-_}
 use borrow.Author.Tests.{eq-eqb, ne-eqb, lt-ltb, le-ltb}
 use Rattle.condition.proofs.operation_right.Statement.{statement}

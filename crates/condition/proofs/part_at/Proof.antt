@@ -1,5 +1,4 @@
 -- `condition::part_at` meets its contract.
--- Assumes nothing.
 use Prim.Native.Nat.{_-_}
 use Rattle.condition.proofs.Table.{part-taken, part-ends}
 use borrow.Author.Needs.{needs}
@@ -25,10 +24,12 @@ part-result-start : tie.Need-part-result-start
 part-result-start c = search needs
 
 part-result-end : tie.Need-part-result-end
-part-result-end c = part-ends (c .before .before .before .args .condition .now) (c .before .before .before .args .at) _ _ (c .before .u32-at .ensures .0) (c .u32-at2 .ensures .0) (c .before .before .before .pre .1)
+part-result-end c = part-ends (c .before .before .before .args .condition .now) (c .before .before .before .args .at) _ _
+    (c .before .u32-at .ensures .0) (c .u32-at2 .ensures .0) (c .before .before .before .pre .1)
 
 returns : tie.Need-returns
-returns c = part-taken (c .before .before .before .before .args .condition .now) (c .before .before .before .before .args .at) _ _ (c .before .before .u32-at .ensures .0) (c .before .u32-at2 .ensures .0)
+returns c = part-taken (c .before .before .before .before .args .condition .now) (c .before .before .before .before .args .at) _ _
+    (c .before .before .u32-at .ensures .0) (c .before .u32-at2 .ensures .0)
 
 pub part-at-spec : {M : Type 1} → statement M
 part-at-spec =

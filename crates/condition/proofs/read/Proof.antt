@@ -14,7 +14,8 @@ use Rattle.model.specs.Program.{typeRight}
 use Rattle.model.specs.Refusals.{refused, mapped}
 use Rattle.condition.specs.Answers.{conjunctAnswer, pairRight, sizes}
 use Rattle.condition.proofs.Passes.{formed-true, formed-false}
-use Rattle.condition.proofs.Table.{types-taken, formBy, refuses, accepts, form-short, form-many, form-wide, form-cut, form-unchained, form-untyped, form-wrong, form-is}
+use Rattle.condition.proofs.Table.{types-taken, formBy, refuses, accepts, form-short, form-many, form-wide, form-cut}
+use Rattle.condition.proofs.Table.{form-unchained, form-untyped, form-wrong, form-is}
 use Rattle.condition.proofs.read.Statement.{statement}
 use Rattle.condition.proofs.read.Tie as tie
 
@@ -46,24 +47,31 @@ read c = c .before .before
 not-read : (c : tie.After-u32-at2) → formBy (bytes c) (many c) (fields c) ≡ false → refused 12 ≡ mapped sizes (readCondition (bytes c))
 not-read c e = refuses (bytes c) (many c) (fields c) (c .before .u32-at .ensures .0) (c .u32-at2 .ensures .0) e
 
-chain : (c : tie.Else5) → let k = counted (linked c) in chained (conjunctsAt (fields k) (many k)) (pairsAt (bytes k) (8 + fields k) (many k)) (length (bytes k)) ≡ true
+chain : (c : tie.Else5) → let k =
+    counted (linked c) in chained (conjunctsAt (fields k) (many k)) (pairsAt (bytes k) (8 + fields k) (many k)) (length (bytes k)) ≡ true
 chain c = sym (c .before .is-chained .ensures) ∙ not-false (c .before .is-chained .result) (c .if5 .left)
 
 types : (c : tie.Else6) → let k = counted (linked (typed c)) in every typeRight (part (bytes k) 8 (fields k)) ≡ true
 types c =
     let k = counted (linked (typed c)) in
-    ap (every typeRight) (sym (types-taken (bytes k) (fields k))) ∙ sym (c .before .types-right .ensures) ∙ not-false (c .before .types-right .result) (c .if6 .left)
+    ap (every typeRight) (sym (types-taken (bytes k) (fields k))) ∙ sym (c .before .types-right .ensures)
+    ∙ not-false (c .before .types-right .result) (c .if6 .left)
 
-pairs : (c : tie.After-enum-told) → let k = counted (linked (typed (read c .before))) in every (pairRight (part (bytes k) 8 (fields k)) (bytes k)) (pairsAt (bytes k) (8 + fields k) (many k)) ≡ true
+pairs : (c : tie.After-enum-told) → let k =
+    counted (linked (typed (read c .before))) in every (pairRight (part (bytes k) 8 (fields k)) (bytes k))
+    (pairsAt (bytes k) (8 + fields k) (many k)) ≡ true
 pairs c = formed-true _ (sym (ap conjunctAnswer (c .enum-told .given .1)) ∙ read c .read-conjuncts .ensures)
 
 -- the form is the order
-ordered : (c : tie.After-enum-told) → let k = counted (linked (typed (read c .before))) in formBy (bytes k) (many k) (fields k) ≡ rising (map (conjunctAt (bytes k)) (pairsAt (bytes k) (8 + fields k) (many k)))
+ordered : (c : tie.After-enum-told) → let k =
+    counted (linked (typed (read c .before))) in formBy (bytes k) (many k) (fields k)
+    ≡ rising (map (conjunctAt (bytes k)) (pairsAt (bytes k) (8 + fields k) (many k)))
 ordered c =
     let t = typed (read c .before) in
     let w = linked t in
     let k = counted w in
-    form-is (bytes k) (many k) (fields k) (k .before .before .if1 .left) (w .before .before .if2 .left) (w .before .if3 .left) (chain t) (types (read c .before)) (pairs c)
+    form-is (bytes k) (many k) (fields k) (k .before .before .if1 .left) (w .before .before .if2 .left) (w .before .if3 .left) (chain t)
+    (types (read c .before)) (pairs c)
 
 -- ---- the answers
 
@@ -100,7 +108,8 @@ add-start c = search needs
 returns-4 : tie.Need-returns-4
 returns-4 c =
     let k = c .before .before .before in
-    not-read k (form-cut (bytes k) (many k) (fields k) (k .before .before .if1 .left) (c .before .before .if2 .left) (c .before .if3 .left) (c .if4 .taken))
+    not-read k (form-cut (bytes k) (many k) (fields k) (k .before .before .if1 .left) (c .before .before .if2 .left) (c .before .if3 .left)
+    (c .if4 .taken))
 
 is-chained-requires : tie.Need-is-chained-requires
 is-chained-requires c κs = search needs
@@ -110,7 +119,8 @@ returns-5 c =
     let w = c .before .before in
     let k = counted w in
     let broken = sym (c .before .is-chained .ensures) ∙ not-true (c .before .is-chained .result) (c .if5 .taken) in
-    not-read k (form-unchained (bytes k) (many k) (fields k) (k .before .before .if1 .left) (w .before .before .if2 .left) (w .before .if3 .left) broken)
+    not-read k (form-unchained (bytes k) (many k) (fields k) (k .before .before .if1 .left) (w .before .before .if2 .left)
+    (w .before .if3 .left) broken)
 
 sub-types-right : tie.Need-sub-types-right
 sub-types-right c = search needs
@@ -129,8 +139,10 @@ returns-6 c =
     let t = c .before .before .before in
     let w = linked t in
     let k = counted w in
-    let wrong = ap (every typeRight) (sym (types-taken (bytes k) (fields k))) ∙ sym (c .before .types-right .ensures) ∙ not-true (c .before .types-right .result) (c .if6 .taken) in
-    not-read k (form-untyped (bytes k) (many k) (fields k) (k .before .before .if1 .left) (w .before .before .if2 .left) (w .before .if3 .left) (chain t) wrong)
+    let wrong = ap (every typeRight) (sym (types-taken (bytes k) (fields k))) ∙ sym (c .before .types-right .ensures)
+    ∙ not-true (c .before .types-right .result) (c .if6 .taken) in
+    not-read k (form-untyped (bytes k) (many k) (fields k) (k .before .before .if1 .left) (w .before .before .if2 .left) (w .before .if3 .left)
+    (chain t) wrong)
 
 read-conjuncts-requires : tie.Need-read-conjuncts-requires
 read-conjuncts-requires c κs = (linked (typed c) .before .if3 .left, chain (typed c))
@@ -154,7 +166,8 @@ returns-7 c =
     let off = formed-false _ (g .0 .0) (sym (ap conjunctAnswer (g .1)) ∙ r .read-conjuncts .ensures) in
     let number = c .conjunct-refusal .ensures (g .0 .0) (ap conjunctAnswer (g .1)) ∙ off .1 in
     rw number
-    (not-read k (form-wrong (bytes k) (many k) (fields k) (k .before .before .if1 .left) (w .before .before .if2 .left) (w .before .if3 .left) (chain t) (types (r .before)) (off .0)))
+    (not-read k (form-wrong (bytes k) (many k) (fields k) (k .before .before .if1 .left) (w .before .before .if2 .left) (w .before .if3 .left)
+    (chain t) (types (r .before)) (off .0)))
 
 is-rising-requires : tie.Need-is-rising-requires
 is-rising-requires c κs = (chain (typed (read c .before)), pairs c)

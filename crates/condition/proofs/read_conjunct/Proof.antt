@@ -24,7 +24,9 @@ nodes c = partRight (start c .args .types .now) (start c .args .part .now) && wh
 
 -- they have passed
 passed : (c : tie.After-enum-told) → nodes (c .before .before) ≡ true
-passed c = let r = c .before .before in formed-true (nodes r) (sym (ap conjunctAnswer (c .enum-told .given .1)) ∙ r .read-nodes .ensures)
+passed c =
+    let r = c .before .before in
+    formed-true (nodes r) (sym (ap conjunctAnswer (c .enum-told .given .1)) ∙ r .read-nodes .ensures)
 
 -- ---- the answers
 

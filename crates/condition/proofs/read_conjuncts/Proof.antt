@@ -21,7 +21,8 @@ test condition fields = pairRight (part condition 8 fields) condition
 abbrev Inv-loop : tie.InvT-loop
 Inv-loop condition fields count i₀ i =
     (i ≤ count) × (8 + fields + 8 * count ≤ length condition)
-    × (every (test condition fields) (pairsAt condition (8 + fields) count) ≡ every (test condition fields) (pairsFrom condition (8 + fields) count i))
+    × (every (test condition fields) (pairsAt condition (8 + fields) count)
+    ≡ every (test condition fields) (pairsFrom condition (8 + fields) count i))
 
 abbrev μ-loop : tie.MeasureT-loop
 μ-loop condition fields count i₀ i = count - i
@@ -41,8 +42,11 @@ tested c =
 
 loop-holds : tie.Need-loop-holds Inv-loop μ-loop
 loop-holds c =
-    let g = c .before .args in
-    (omega arith, table-inside (g .condition .now) (g .fields) (g .count) (c .before .pre .1), rw (pairs-all (g .condition .now) (8 + g .fields) (g .count)))
+    let g = c .before .args in (
+      omega arith,
+      table-inside (g .condition .now) (g .fields) (g .count) (c .before .pre .1),
+      rw (pairs-all (g .condition .now) (8 + g .fields) (g .count)),
+    )
 
 add-read-pair : tie.Need-add-read-pair Inv-loop μ-loop
 add-read-pair c = search needs
@@ -55,8 +59,12 @@ add-read-pair-2 c = search needs
 
 read-pair-requires : tie.Need-read-pair-requires Inv-loop μ-loop
 read-pair-requires c κs =
-    let g = start c in
-    (omega arith, omega arith, omega arith, pair-inside (g .args .condition .now) (g .args .fields) (g .args .count) (g .pre .1) (c .before .loop .i) (c .loop-test .taken))
+    let g = start c in (
+      omega arith,
+      omega arith,
+      omega arith,
+      pair-inside (g .args .condition .now) (g .args .fields) (g .args .count) (g .pre .1) (c .before .loop .i) (c .loop-test .taken),
+    )
 
 enum-told : tie.Need-enum-told Inv-loop μ-loop
 enum-told c = search needs
@@ -71,7 +79,8 @@ returns c =
     let g = start t .args in
     let e = c .enum-told2 .given in
     let off = formed-false (tested t) (e .0 .0) (sym (ap conjunctAnswer (e .1)) ∙ r .read-pair .ensures) in
-    let none = pairs-off (test (g .condition .now) (g .fields)) (g .condition .now) (8 + g .fields) (g .count) (t .before .loop .i) (t .loop-test .taken) (off .0) in
+    let none = pairs-off (test (g .condition .now) (g .fields)) (g .condition .now) (8 + g .fields) (g .count) (t .before .loop .i)
+    (t .loop-test .taken) (off .0) in
     rw (t .before .loop .inv .2 ∙ none) (ap conjunctAnswer (e .1) ∙ rw (off .1))
 
 add-i : tie.Need-add-i Inv-loop μ-loop
@@ -86,7 +95,8 @@ loop-again c =
     let t = r .before in
     let g = start t .args in
     let on = formed-true (tested t) (sym (ap conjunctAnswer (c .enum-told .given .1)) ∙ r .read-pair .ensures) in
-    let more = pairs-on (test (g .condition .now) (g .fields)) (g .condition .now) (8 + g .fields) (g .count) (t .before .loop .i) (t .loop-test .taken) on in
+    let more = pairs-on (test (g .condition .now) (g .fields)) (g .condition .now) (8 + g .fields) (g .count) (t .before .loop .i)
+    (t .loop-test .taken) on in
     (omega arith, t .before .loop .inv .1, t .before .loop .inv .2 ∙ more)
 
 returns-2 : tie.Need-returns-2 Inv-loop μ-loop

@@ -15,7 +15,9 @@ use Rattle.condition.specs.declared.Node.{Node}
 use Rattle.condition.specs.Answers.{NodeIs, EntryIs, nodeOut, partNodes, partRight, formed}
 use Rattle.condition.proofs.Nodes.{rest, some}
 use Rattle.condition.proofs.Passes.{formsFrom, forms-all, forms-on, forms-off, forms-number, forms-end}
-use Rattle.condition.proofs.Stacks.{stackOf, stack-push, operation-short, operation-upper, operation-lower, operation-right, conversion-short, conversion-right, typed-push, typed-operation, typed-conversion, whole-start, whole-refused, whole-end}
+use Rattle.condition.proofs.Stacks.{stackOf, stack-push, operation-short, operation-upper, operation-lower, operation-right}
+use Rattle.condition.proofs.Stacks.{conversion-short, conversion-right, typed-push, typed-operation, typed-conversion, whole-start}
+use Rattle.condition.proofs.Stacks.{whole-refused, whole-end}
 use Rattle.condition.proofs.read_nodes.Statement.{statement}
 use Rattle.condition.proofs.read_nodes.Tie as tie
 
@@ -66,15 +68,21 @@ entry-is : (c : tie.After-known-told Inv-loop μ-loop) → NodeIs (entry c) (byt
 entry-is c = subst (λ r. EntryIs r (bytes (head c)) (8 * head c .loop .k)) (c .before .read .given .1) (reader c .read-node .ensures .1)
 
 -- the nodes up to it have their form
-forms : (c : tie.After-known-told Inv-loop μ-loop) → let h = head c in partRight (start h .args .types .now) (bytes h) ≡ every (λ b. b) (formsFrom (start h .args .types .now) (bytes h) (length (bytes h) / 8) (h .loop .k + 1))
+forms : (c : tie.After-known-told Inv-loop μ-loop) → let h =
+    head c in partRight (start h .args .types .now) (bytes h)
+    ≡ every (λ b. b) (formsFrom (start h .args .types .now) (bytes h) (length (bytes h) / 8) (h .loop .k + 1))
 forms c =
     let h = head c in
     let r = reader c in
     h .loop .inv .5
-    ∙ forms-on (start h .args .types .now) (bytes h) (length (bytes h) / 8) (h .loop .k) (r .before .loop-test .taken) (r .read-node .result) (r .read-node .ensures .0) (entry c) (c .before .read .given .1)
+    ∙ forms-on (start h .args .types .now) (bytes h) (length (bytes h) / 8) (h .loop .k) (r .before .loop-test .taken) (r .read-node .result)
+    (r .read-node .ensures .0) (entry c) (c .before .read .given .1)
 
 -- what is left to be typed after it
-after-atom : (c : tie.Then1 Inv-loop μ-loop) → let t = at-atom c in let h = head t in typeNodes (partNodes (bytes h)) [] ≡ typeNodes (rest (bytes h) (length (bytes h) / 8) (h .loop .k + 1)) (stackOf (set (h .loop .stack) (h .loop .height) (entry t .ty)) (h .loop .height + 1))
+after-atom : (c : tie.Then1 Inv-loop μ-loop) → let t = at-atom c in let h =
+    head t in typeNodes (partNodes (bytes h)) []
+    ≡ typeNodes (rest (bytes h) (length (bytes h) / 8) (h .loop .k + 1))
+    (stackOf (set (h .loop .stack) (h .loop .height) (entry t .ty)) (h .loop .height + 1))
 after-atom c =
     let t = at-atom c in
     let h = head t in
@@ -83,29 +91,37 @@ after-atom c =
     ∙ typed-push (bytes h) n (h .loop .k) (entry t) (entry-is t) (reader t .before .loop-test .taken) (stack t) (c .if1 .taken)
     ∙ ap (typeNodes (rest (bytes h) n (h .loop .k + 1))) (sym (stack-push (h .loop .stack) (h .loop .height) (entry t .ty) (omega arith)))
 
-after-operation : (c : tie.Then2 Inv-loop μ-loop) → let t = at-operation c in let h = head t in (o : Out (List ℕ)) → operation (entry t .ty) (stack t) ≡ o → typeNodes (partNodes (bytes h)) [] ≡ (o >>= typeNodes (rest (bytes h) (length (bytes h) / 8) (h .loop .k + 1)))
+after-operation : (c : tie.Then2 Inv-loop μ-loop) → let t = at-operation c in let h = head t in (o : Out (List ℕ))
+    → operation (entry t .ty) (stack t) ≡ o
+    → typeNodes (partNodes (bytes h)) [] ≡ (o >>= typeNodes (rest (bytes h) (length (bytes h) / 8) (h .loop .k + 1)))
 after-operation c o e =
     let t = at-operation c in
     let h = head t in
     h .loop .inv .4
-    ∙ typed-operation (bytes h) (length (bytes h) / 8) (h .loop .k) (entry t) (entry-is t) (reader t .before .loop-test .taken) (stack t) (c .before .before .if1 .left) (c .if2 .taken) o e
+    ∙ typed-operation (bytes h) (length (bytes h) / 8) (h .loop .k) (entry t) (entry-is t) (reader t .before .loop-test .taken) (stack t)
+    (c .before .before .if1 .left) (c .if2 .taken) o e
 
-after-conversion : (c : tie.Else2 Inv-loop μ-loop) → let t = at-conversion c in let h = head t in (o : Out (List ℕ)) → conversion (entry t .ty) (stack t) ≡ o → typeNodes (partNodes (bytes h)) [] ≡ (o >>= typeNodes (rest (bytes h) (length (bytes h) / 8) (h .loop .k + 1)))
+after-conversion : (c : tie.Else2 Inv-loop μ-loop) → let t = at-conversion c in let h = head t in (o : Out (List ℕ))
+    → conversion (entry t .ty) (stack t) ≡ o
+    → typeNodes (partNodes (bytes h)) [] ≡ (o >>= typeNodes (rest (bytes h) (length (bytes h) / 8) (h .loop .k + 1)))
 after-conversion c o e =
     let t = at-conversion c in
     let h = head t in
     h .loop .inv .4
-    ∙ typed-conversion (bytes h) (length (bytes h) / 8) (h .loop .k) (entry t) (entry-is t) (reader t .before .loop-test .taken) (stack t) (c .if2 .left) o e
+    ∙ typed-conversion (bytes h) (length (bytes h) / 8) (h .loop .k) (entry t) (entry-is t) (reader t .before .loop-test .taken) (stack t)
+    (c .if2 .left) o e
 
 -- a part that is no whole expression, or whose nodes are not in their form, is refused
 not-whole : (a b : Bool) → b ≡ false → refused 12 ≡ formed (a && b)
 not-whole true b e = rw e
 not-whole false b e = refl
 
-not-operated : (c : tie.Then2 Inv-loop μ-loop) → let t = at-operation c in let h = head t in operation (entry t .ty) (stack t) ≡ refused 12 → refused 12 ≡ formed (partRight (start h .args .types .now) (bytes h) && whole (partNodes (bytes h)))
+not-operated : (c : tie.Then2 Inv-loop μ-loop) → let t = at-operation c in let h = head t in operation (entry t .ty) (stack t) ≡ refused 12
+    → refused 12 ≡ formed (partRight (start h .args .types .now) (bytes h) && whole (partNodes (bytes h)))
 not-operated c e =
     let h = head (at-operation c) in
-    not-whole (partRight (start h .args .types .now) (bytes h)) (whole (partNodes (bytes h))) (whole-refused (partNodes (bytes h)) (after-operation c (refused 12) e))
+    not-whole (partRight (start h .args .types .now) (bytes h)) (whole (partNodes (bytes h)))
+    (whole-refused (partNodes (bytes h)) (after-operation c (refused 12) e))
 
 -- ---- the answers
 
@@ -131,8 +147,10 @@ returns c =
     let g = c .before .enum-told .given in
     let types = start h .args .types .now in
     let n = length (bytes h) / 8 in
-    let off = forms-off types (bytes h) n (h .loop .k) (r .before .loop-test .taken) (r .read-node .result) (r .read-node .ensures .0) (g .0 .0) (g .1) in
-    let twelve = forms-number types (bytes h) n (h .loop .k) (r .before .loop-test .taken) (r .read-node .result) (r .read-node .ensures .0) (g .0 .0) (g .1) in
+    let off = forms-off types (bytes h) n (h .loop .k) (r .before .loop-test .taken) (r .read-node .result) (r .read-node .ensures .0)
+    (g .0 .0) (g .1) in
+    let twelve = forms-number types (bytes h) n (h .loop .k) (r .before .loop-test .taken) (r .read-node .result) (r .read-node .ensures .0)
+    (g .0 .0) (g .1) in
     rw (h .loop .inv .5 ∙ off, c .node-refusal .ensures (g .0 .0) (ap nodeOut (g .1)), twelve)
 
 add-k : tie.Need-add-k Inv-loop μ-loop
@@ -193,7 +211,8 @@ loop-again-2 c =
     let k = c .before .before .before in
     let t = at-operation k in
     let h = head t in
-    let right = operation-right (entry t .ty) (h .loop .stack) (h .loop .height) (c .before .before .if3 .left) (c .before .if4 .left) (c .if5 .left) in
+    let right = operation-right (entry t .ty) (h .loop .stack) (h .loop .height) (c .before .before .if3 .left) (c .before .if4 .left)
+    (c .if5 .left) in
     (omega arith, refl, h .loop .inv .2, omega arith, after-operation k _ right, forms t)
 
 returns-5 : tie.Need-returns-5 Inv-loop μ-loop
@@ -202,7 +221,8 @@ returns-5 c =
     let t = at-conversion k in
     let h = head t in
     let short = conversion-short (entry t .ty) (h .loop .stack) (h .loop .height) (c .if6 .taken) in
-    not-whole (partRight (start h .args .types .now) (bytes h)) (whole (partNodes (bytes h))) (whole-refused (partNodes (bytes h)) (after-conversion k (refused 12) short))
+    not-whole (partRight (start h .args .types .now) (bytes h)) (whole (partNodes (bytes h)))
+    (whole-refused (partNodes (bytes h)) (after-conversion k (refused 12) short))
 
 sub-stack : tie.Need-sub-stack Inv-loop μ-loop
 sub-stack c = search needs

@@ -39,12 +39,14 @@ returns c =
 returns-2 : tie.Need-returns-2
 returns-2 c =
     let h = c .before .before in
-    rw (pair-long (types h) (bytes h) (pair h) (start h .pre .3) (now (h .part-at .result)) (h .part-at .ensures) (c .before .if1 .left) (c .if2 .taken))
+    rw (pair-long (types h) (bytes h) (pair h) (start h .pre .3) (now (h .part-at .result)) (h .part-at .ensures) (c .before .if1 .left)
+    (c .if2 .taken))
 
 returns-3 : tie.Need-returns-3
 returns-3 c =
     let h = c .before .before .before in
-    rw (pair-broken (types h) (bytes h) (pair h) (start h .pre .3) (now (h .part-at .result)) (h .part-at .ensures) (some _ (c .before .before .if1 .left)) (c .before .if2 .left) (c .if3 .taken))
+    rw (pair-broken (types h) (bytes h) (pair h) (start h .pre .3) (now (h .part-at .result)) (h .part-at .ensures)
+    (some _ (c .before .before .if1 .left)) (c .before .if2 .left) (c .if3 .taken))
 
 add-end : tie.Need-add-end
 add-end c = search needs
@@ -70,7 +72,8 @@ returns-4 c =
     let h = k .before .before .before in
     c .read-conjunct .ensures
     ∙ rw (types-taken (bytes h) (start h .args .fields))
-    (ap formed (pair-part (types h) (bytes h) (pair h) (start h .pre .3) (now (h .part-at .result)) (h .part-at .ensures) (some _ (k .before .before .if1 .left)) (k .before .if2 .left) (k .if3 .left)))
+    (ap formed (pair-part (types h) (bytes h) (pair h) (start h .pre .3) (now (h .part-at .result)) (h .part-at .ensures)
+    (some _ (k .before .before .if1 .left)) (k .before .if2 .left) (k .if3 .left)))
 
 pub read-pair-spec : {M : Type 1} → statement M
 read-pair-spec =

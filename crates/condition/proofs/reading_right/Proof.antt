@@ -1,5 +1,4 @@
 -- `condition::reading_right` meets its contract.
--- Assumes nothing.
 use Prim.Native.Nat.{_-_}
 use borrow.Author.Tests.{lt-ltb, le-ltb}
 use borrow.Author.Needs.{needs}

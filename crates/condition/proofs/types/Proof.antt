@@ -1,5 +1,4 @@
 -- `condition::types` meets its contract.
--- Assumes nothing.
 use mathlib.Core.Path.{_∙_, ap}
 use Prim.Native.Nat.{_-_}
 use native.Mathlib.Omega.{arith}
@@ -27,8 +26,11 @@ part-result-end c =
 returns : tie.Need-returns
 returns c =
     let g = c .before .before in
-    let k = counted-read (g .args .condition .now) (g .args .counts) (g .pre) in
-    (types-taken (g .args .condition .now) (g .args .counts .fields) ∙ ap (part (g .args .condition .now) 8) (k .fields), types-count (g .args .condition .now) (g .args .counts .fields) (omega (arith, k .table)))
+    let k = counted-read (g .args .condition .now) (g .args .counts) (g .pre) in (
+      types-taken (g .args .condition .now) (g .args .counts .fields)
+          ∙ ap (part (g .args .condition .now) 8) (k .fields),
+      types-count (g .args .condition .now) (g .args .counts .fields) (omega (arith, k .table)),
+    )
 
 pub types-spec : {M : Type 1} → statement M
 types-spec = tie.close (tie.spec add-end sub-result part-result-start part-result-end returns)

@@ -1,8 +1,8 @@
--- `conjunct::atom_swapped` meets its contract. Assumes nothing.
+-- `conjunct::atom_swapped` meets its contract.
 use mathlib.Core.Path.{sym, ap, _∙_}
 use Rattle.model.specs.Conjunct.{onAtom}
-use Rattle.node.proofs.Lists.{node-word}
-use Rattle.node.specs.Word.{nodeOf}
+use Rattle.conjunct.proofs.node.Lists.{node-word}
+use Rattle.conjunct.specs.Word.{nodeOf}
 use Rattle.conjunct.proofs.Swaps.{atom-by, atom-left, atomBy}
 use Rattle.conjunct.proofs.atom_swapped.Statement.{statement}
 use Rattle.conjunct.proofs.atom_swapped.Tie as tie

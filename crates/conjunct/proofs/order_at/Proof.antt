@@ -1,9 +1,9 @@
--- `conjunct::order_at` meets its contract. Assumes nothing.
+-- `conjunct::order_at` meets its contract.
 use mathlib.Core.Path.{_≡_}
 use Prim.Native.Nat.{_-_, _≤_}
 use native.Mathlib.Omega.{arith}
 use borrow.Author.Needs.{needs}
-use Rattle.node.proofs.WordOrder.{compare-less, compare-more}
+use Rattle.model.proofs.Order.{compare-less, compare-more}
 use Rattle.conjunct.proofs.Words.{Rest, rest-none, rest-less, rest-more, rest-next, rest-same}
 use Rattle.conjunct.proofs.order_at.Statement.{statement}
 use Rattle.conjunct.proofs.order_at.Tie as tie
@@ -13,6 +13,13 @@ Inv-loop s a n t b m i₀ i = (i ≤ n) × (n ≡ m) × Rest s t n a b i
 
 abbrev μ-loop : tie.MeasureT-loop
 μ-loop s a n t b m i₀ i = n - i
+
+-- places on the way, by the place from which they are seen
+abbrev at-loop-from-else3 : tie.Else3 Inv-loop μ-loop → tie.At-loop Inv-loop μ-loop
+at-loop-from-else3 c = c .before .before .before .before
+
+abbrev entry : tie.Then3 Inv-loop μ-loop → tie.Start Inv-loop μ-loop
+entry c = c .before .before .before .before .before .before .before
 
 returns : tie.Need-returns Inv-loop μ-loop
 returns c = rw (compare-less _ _ (c .if1 .taken))
@@ -43,17 +50,22 @@ shared-slice-read-y c = search needs
 
 returns-3 : tie.Need-returns-3 Inv-loop μ-loop
 returns-3 c =
-    let a = c .before .before .before .before .before .before .before .args in
-    let p = c .before .before .before .before .before .before .before .pre in
+    let start = entry c in
+    let a = start .args in
+    let p = start .pre in
     let lp = c .before .before .before .before .loop in
-    rest-less (a .s .now) (a .t .now) (a .n) (a .m) (a .a) (a .b) (lp .i) (lp .inv .1) (p .0) (p .1) (lp .inv .2) (c .before .before .before .loop-test .taken) (c .if3 .taken)
+    rest-less (a .s .now) (a .t .now) (a .n) (a .m) (a .a) (a .b) (lp .i) (lp .inv .1) (p .0) (p .1) (lp .inv .2)
+    (c .before .before .before .loop-test .taken) (c .if3 .taken)
 
 returns-4 : tie.Need-returns-4 Inv-loop μ-loop
 returns-4 c =
-    let a = c .before .before .before .before .before .before .before .before .args in
-    let p = c .before .before .before .before .before .before .before .before .pre in
-    let lp = c .before .before .before .before .before .loop in
-    rest-more (a .s .now) (a .t .now) (a .n) (a .m) (a .a) (a .b) (lp .i) (lp .inv .1) (p .0) (p .1) (lp .inv .2) (c .before .before .before .before .loop-test .taken) (c .if4 .taken)
+    let at-loop = at-loop-from-else3 (c .before) in
+    let start = at-loop .before .before .before in
+    let a = start .args in
+    let p = start .pre in
+    let lp = at-loop .loop in
+    rest-more (a .s .now) (a .t .now) (a .n) (a .m) (a .a) (a .b) (lp .i) (lp .inv .1) (p .0) (p .1) (lp .inv .2)
+    (c .before .before .before .before .loop-test .taken) (c .if4 .taken)
 
 add-i : tie.Need-add-i Inv-loop μ-loop
 add-i c = search needs
@@ -63,9 +75,11 @@ loop-less c = search needs
 
 loop-again : tie.Need-loop-again Inv-loop μ-loop
 loop-again c =
-    let a = c .before .before .before .before .before .before .before .before .args in
-    let p = c .before .before .before .before .before .before .before .before .pre in
-    let lp = c .before .before .before .before .before .loop in (
+    let at-loop = at-loop-from-else3 (c .before) in
+    let start = at-loop .before .before .before in
+    let a = start .args in
+    let p = start .pre in
+    let lp = at-loop .loop in (
       omega arith,
       lp .inv .1,
       rest-next (a .s .now) (a .t .now) (a .n) (a .m) (a .a) (a .b) (lp .i) (lp .inv .1) (p .0) (p .1) (lp .inv .2) (omega arith) (omega arith),

@@ -1,28 +1,31 @@
--- `conjunct::replace_all` meets its contract. Assumes nothing.
-use mathlib.Core.List.{map}
-use mathlib.Core.Path.{_≡_, _∙_}
-use Prim.Native.Nat.{ℕ, _-_, _≤_, _<_}
+-- `conjunct::replace_all` meets its contract: a loop that changes words (`Words.Changed`), a load by the variable.
+use mathlib.Core.Path.{_≡_}
+use Prim.Native.Nat.{ℕ, _-_}
 use native.Mathlib.Omega.{arith}
-use lib.ListN.{length, take, drop, length-set}
 use borrow.Author.Needs.{needs}
-use Rattle.model.specs.Conjunct.{var, onAtom}
+use Rattle.model.specs.Conjunct.{Node, var, onAtom}
 use Rattle.model.specs.Walk.{swapAll}
-use Rattle.node.specs.Word.{nodeOf, nodesOf}
+use Rattle.conjunct.specs.Word.{nodeOf}
 use Rattle.conjunct.proofs.Swaps.{loadBy}
-use Rattle.conjunct.proofs.Words.{after-same, mapped-more}
+use Rattle.conjunct.proofs.Words.{Changed, changed-none, changed-next, changed-all}
 use Rattle.conjunct.proofs.replace_all.Statement.{statement}
 use Rattle.conjunct.proofs.replace_all.Tie as tie
 
+-- the variable that v is
+abbrev Stored : ℕ → Type 0
+Stored v = (x : ℕ) × (ty : ℕ) × (nodeOf v ≡ var x ty)
+
+abbrev change : (array len v : ℕ) → Stored v → Node → Node
+change array len v k = onAtom (loadBy array len (k .0) (k .1))
+
 abbrev Inv-loop : tie.InvT-loop
-Inv-loop w₀ n array len v i₀ w i =
-    (i ≤ n) × (n ≤ length w₀) × (length w ≡ length w₀) × (drop i w ≡ drop i w₀)
-    × ((x ty : ℕ) → nodeOf v ≡ var x ty → nodesOf (take i w) ≡ map (onAtom (loadBy array len x ty)) (nodesOf (take i w₀)))
+Inv-loop w₀ n array len v i₀ w i = Changed (Stored v) (change array len v) w₀ n w i
 
 abbrev μ-loop : tie.MeasureT-loop
 μ-loop w₀ n array len v i₀ w i = n - i
 
 loop-holds : tie.Need-loop-holds Inv-loop μ-loop
-loop-holds c = search needs
+loop-holds c = changed-none (c .before .pre)
 
 mul-load-swapped : tie.Need-mul-load-swapped Inv-loop μ-loop
 mul-load-swapped c = search needs
@@ -47,18 +50,8 @@ loop-less c = search needs
 
 loop-again : tie.Need-loop-again Inv-loop μ-loop
 loop-again c =
-    let a = c .before .before .before .before .before .args in
-    let l₀ = a .w .now in
-    let lp = c .before .before .before .loop in
-    let r = c .load-swapped .result in
-    let h : lp .i < length (lp .w) = omega arith in
-    let k : lp .i < length l₀ = omega arith in (
-      omega arith,
-      lp .inv .1,
-      length-set (lp .w) (lp .i) r ∙ lp .inv .2,
-      after-same (lp .w) l₀ (lp .i) r h k (lp .inv .3),
-      λ x ty p. mapped-more (lp .w) l₀ (lp .i) r h k (lp .inv .3) (onAtom (loadBy (a .array) (a .len) x ty)) (lp .inv .4 x ty p) (c .load-swapped .ensures x ty p),
-    )
+    let at-loop = c .before .before .before in
+    changed-next (at-loop .loop .inv) (c .load-swapped .result) (omega arith) (λ k. c .load-swapped .ensures (k .0) (k .1) (k .2))
 
 same-length : tie.Need-same-length Inv-loop μ-loop
 same-length c = search needs
@@ -66,9 +59,7 @@ same-length c = search needs
 returns : tie.Need-returns Inv-loop μ-loop
 unfolding swapAll
 returns c =
-    let lp = c .before .loop in
-    let e : lp .i ≡ c .before .before .before .args .n = omega arith in
-    λ x ty p. rw e at (lp .inv .4 x ty p)
+    λ x ty p. changed-all (c .before .loop .inv) (omega arith) (x, ty, p)
 
 pub replace-all-spec : {M : Type 1} → statement M
 replace-all-spec =

@@ -1,28 +1,31 @@
--- `conjunct::replace_one` meets its contract. Assumes nothing.
-use mathlib.Core.List.{map}
-use mathlib.Core.Path.{_≡_, _∙_}
-use Prim.Native.Nat.{ℕ, _-_, _≤_, _<_}
+-- `conjunct::replace_one` meets its contract: a loop that changes words (`Words.Changed`), the atom by the variable.
+use mathlib.Core.Path.{_≡_}
+use Prim.Native.Nat.{ℕ, _-_}
 use native.Mathlib.Omega.{arith}
-use lib.ListN.{length, take, drop, length-set}
 use borrow.Author.Needs.{needs}
-use Rattle.model.specs.Conjunct.{Atom, atom, var, onAtom}
+use Rattle.model.specs.Conjunct.{Atom, Node, atom, var, onAtom}
 use Rattle.model.specs.Walk.{swap}
-use Rattle.node.specs.Word.{nodeOf, nodesOf}
+use Rattle.conjunct.specs.Word.{nodeOf}
 use Rattle.conjunct.proofs.Swaps.{atomBy}
-use Rattle.conjunct.proofs.Words.{after-same, mapped-more}
+use Rattle.conjunct.proofs.Words.{Changed, changed-none, changed-next, changed-all}
 use Rattle.conjunct.proofs.replace_one.Statement.{statement}
 use Rattle.conjunct.proofs.replace_one.Tie as tie
 
+-- the atom that a is, and the variable that v is
+abbrev Meant : (a v : ℕ) → Type 0
+Meant a v = (b : Atom) × (x : ℕ) × (ty : ℕ) × (nodeOf a ≡ atom b) × (nodeOf v ≡ var x ty)
+
+abbrev change : (a v : ℕ) → Meant a v → Node → Node
+change a v k = onAtom (atomBy (k .0) (k .1) (k .2))
+
 abbrev Inv-loop : tie.InvT-loop
-Inv-loop w₀ n a v i₀ w i =
-    (i ≤ n) × (n ≤ length w₀) × (length w ≡ length w₀) × (drop i w ≡ drop i w₀)
-    × ((b : Atom) (x ty : ℕ) → nodeOf a ≡ atom b → nodeOf v ≡ var x ty → nodesOf (take i w) ≡ map (onAtom (atomBy b x ty)) (nodesOf (take i w₀)))
+Inv-loop w₀ n a₁ v i₀ w i = Changed (Meant a₁ v) (change a₁ v) w₀ n w i
 
 abbrev μ-loop : tie.MeasureT-loop
-μ-loop w₀ n a v i₀ w i = n - i
+μ-loop w₀ n a₁ v i₀ w i = n - i
 
 loop-holds : tie.Need-loop-holds Inv-loop μ-loop
-loop-holds c = search needs
+loop-holds c = changed-none (c .before .pre)
 
 mul-atom-swapped : tie.Need-mul-atom-swapped Inv-loop μ-loop
 mul-atom-swapped c = search needs
@@ -47,18 +50,8 @@ loop-less c = search needs
 
 loop-again : tie.Need-loop-again Inv-loop μ-loop
 loop-again c =
-    let a = c .before .before .before .before .before .args in
-    let l₀ = a .w .now in
-    let lp = c .before .before .before .loop in
-    let r = c .atom-swapped .result in
-    let h : lp .i < length (lp .w) = omega arith in
-    let k : lp .i < length l₀ = omega arith in (
-      omega arith,
-      lp .inv .1,
-      length-set (lp .w) (lp .i) r ∙ lp .inv .2,
-      after-same (lp .w) l₀ (lp .i) r h k (lp .inv .3),
-      λ b x ty p q. mapped-more (lp .w) l₀ (lp .i) r h k (lp .inv .3) (onAtom (atomBy b x ty)) (lp .inv .4 b x ty p q) (c .atom-swapped .ensures b x ty p q),
-    )
+    let at-loop = c .before .before .before in
+    changed-next (at-loop .loop .inv) (c .atom-swapped .result) (omega arith) (λ k. c .atom-swapped .ensures (k .0) (k .1) (k .2) (k .3) (k .4))
 
 same-length : tie.Need-same-length Inv-loop μ-loop
 same-length c = search needs
@@ -66,9 +59,7 @@ same-length c = search needs
 returns : tie.Need-returns Inv-loop μ-loop
 unfolding swap
 returns c =
-    let lp = c .before .loop in
-    let e : lp .i ≡ c .before .before .before .args .n = omega arith in
-    λ b x ty p q. rw e at (lp .inv .4 b x ty p q)
+    λ b x ty p q. changed-all (c .before .loop .inv) (omega arith) (b, x, ty, p, q)
 
 pub replace-one-spec : {M : Type 1} → statement M
 replace-one-spec =

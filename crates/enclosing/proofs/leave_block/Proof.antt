@@ -1,141 +1,204 @@
--- `enclosing::leave` meets its contract. Assumes nothing.
-use mathlib.Core.Path.{_≡_, sym, ap, _∙_}
-use borrow.Author.Needs.{needs}
+-- `enclosing::leave_block` meets its contract.
+use mathlib.Core.List.{List}
+use mathlib.Core.Path.{_≡_, sym, subst, _∙_}
+use Prim.Native.Nat.{ℕ, _+_, _≤_, _<_}
 use native.Mathlib.Omega.{arith}
-use Rattle.program.specs.Reading.{tablesOf, statementOf}
+use Rattle.model.specs.Code.{Code}
+use Rattle.model.specs.Walk.{walk}
+use Rattle.rules.specs.Answers.{answered}
+use Rattle.rules.specs.declared.Answer.{Answer}
+use Rattle.model.specs.Sizes.{mostNested, mostStatements}
+use Rattle.code_table.specs.Table.{tableWords, tableOf, rowIn, mates, Knows}
 use Rattle.sets.specs.Region.{setOf}
-use Rattle.enclosing.proofs.Leaving.{leads-below, while-known, leaves-while, yes-known, leaves-yes, no-known, leaves-no}
+use Rattle.walk.specs.Piece.{Lies, Piece, Ready}
+use Rattle.walk.proofs.Regions.{knows-less}
+use Rattle.enclosing.specs.Enclosing.{walkBoth}
+use Rattle.enclosing.proofs.Leaving.{PieceIn, label-below, while-known, leaves-while, yes-known, leaves-yes, no-known, leaves-no}
 use Rattle.enclosing.proofs.Walked.{walked-tidy}
+use borrow.Author.Needs.{needs}
 use Rattle.enclosing.proofs.leave_block.Statement.{statement}
 use Rattle.enclosing.proofs.leave_block.Tie as tie
 
-statement-requires : tie.Need-statement-requires
-statement-requires c κs =
-    let a = c .before .before .before .args in
-    let p = c .before .before .before .pre in
-    (p .0 .placed, omega (arith, leads-below (a .program .now) (a .table .now) (a .layout .statements) (a .i) (p .4), p .5 .0))
+-- where the function begins
+abbrev entered : tie.After-mate → tie.Start
+entered c = c .before .before .before .before .before
 
-mul-other : tie.Need-mul-other
-mul-other c =
-    let a = c .before .before .before .before .args in
-    let p = c .before .before .before .before .pre in
-    let b = leads-below (a .program .now) (a .table .now) (a .layout .statements) (a .i) (p .4) in
-    omega arith
+-- places on the way, by the place from which they are seen
+abbrev after-mate-from-slice-known2 : tie.After-slice-known2 → tie.After-mate
+after-mate-from-slice-known2 c = c .before .before .before .before .before
 
-shared-slice-read-other : tie.Need-shared-slice-read-other
-shared-slice-read-other c =
-    let a = c .before .before .before .before .before .args in
-    let p = c .before .before .before .before .before .pre in
-    let b = leads-below (a .program .now) (a .table .now) (a .layout .statements) (a .i) (p .4) in
-    omega arith
+-- the label is one of the program's
+below : (g : tie.Start) → (g .args .i < g .pre .1 .0) × (g .pre .1 .0 ≤ mostStatements)
+below g = label-below (tableOf 0 (g .args .s .now)) (g .pre .1 .0) (g .args .i) (g .pre .1 .1)
+
+as-piece : (s : List ℕ) (p q : ℕ) → PieceIn (tableOf 0 s) p q → Piece s mostNested p q
+as-piece s p q h = record { code = h .code; lies = h .lies; nested = h .nested }
+
+-- the words are ready for the walk of a piece up to the label
+ready : (g : tie.Start) → Ready mostNested 2 (g .args .s .now) mostNested (g .args .b) (g .args .i)
+ready g =
+    let w = g .pre .0 in
+    record {
+      knows = knows-less (g .args .i) (g .pre .1 .0) (g .args .s .now) (omega (arith, below g .0)) (g .pre .1 .1 .known);
+      shallow = omega arith;
+      behind = w .behind;
+      room = omega (arith, w .room);
+      tidy = w .tidy;
+    }
+
+-- the block begins with a while, or with none
+a-while : (c : tie.After-mate) → c .before .before .kind-at .result ≡ 14 → let g = entered c in let k = tableOf 0 (g .args .s .now) in
+    (mates (g .args .s .now) (g .args .r) < g .pre .1 .0) × PieceIn k (g .args .r + 1) (g .args .i) × PieceIn k (g .args .r) (mates (g .args .s .now) (g .args .r) + 1)
+a-while c e =
+    let g = entered c in
+    while-known (tableOf 0 (g .args .s .now)) (g .pre .1 .0) (g .args .i) (g .args .r) (g .pre .2) (sym (c .before .before .kind-at .ensures) ∙ e) (g .pre .1 .1)
+
+no-loop : (c : tie.After-mate) → (c .before .before .kind-at .result ≡ 14 → ⊥) → rowIn (tableOf 0 (entered c .args .s .now)) (entered c .args .r) .kind ≡ 14 → ⊥
+no-loop c f e = f (c .before .before .kind-at .ensures ∙ e)
+
+first-known : (c : tie.After-mate) → (c .before .before .kind-at .result ≡ 14 → ⊥) → let g = entered c in
+    g .args .i < mates (g .args .s .now) (g .args .r) → PieceIn (tableOf 0 (g .args .s .now)) (g .args .r + 1) (g .args .i)
+first-known c f l =
+    let g = entered c in
+    yes-known (tableOf 0 (g .args .s .now)) (g .pre .1 .0) (g .args .i) (g .args .r) (g .pre .2) (no-loop c f) l (g .pre .1 .1)
+
+other-known : (c : tie.After-mate) → (c .before .before .kind-at .result ≡ 14 → ⊥) → let g = entered c in
+    mates (g .args .s .now) (g .args .r) ≤ g .args .i → PieceIn (tableOf 0 (g .args .s .now)) (mates (g .args .s .now) (g .args .r) + 1) (g .args .i)
+other-known c f l =
+    let g = entered c in
+    no-known (tableOf 0 (g .args .s .now)) (g .pre .1 .0) (g .args .i) (g .args .r) (g .pre .2) (no-loop c f) l (g .pre .1 .1)
+
+-- what the walks give, with the matching label as x
+abbrev Both : tie.Start → ℕ → Answer → List ℕ → Type 0
+Both g x a t =
+    (c d : Code) → Lies (g .args .s .now) c (g .args .r + 1) (g .args .i) → Lies (g .args .s .now) d (g .args .r) (x + 1)
+    → walkBoth c d (setOf (g .args .s .now) (g .args .b)) ≡ answered a (setOf t (g .args .b))
+
+abbrev WalksFrom : tie.Start → ℕ → Answer → List ℕ → Type 0
+WalksFrom g x a t =
+    (c : Code) → Lies (g .args .s .now) c (x + 1) (g .args .i) → walk c (setOf (g .args .s .now) (g .args .b)) ≡ answered a (setOf t (g .args .b))
+
+kind-at-requires : tie.Need-kind-at-requires
+kind-at-requires c κs =
+    let g = c .before .before in
+    let l = below g in
+    (omega (arith, g .pre .0 .behind, g .pre .0 .room), omega (arith, l .0, l .1, g .pre .2 .0))
+
+mate-requires : tie.Need-mate-requires
+mate-requires c κs = let g = c .before .before .before .before in omega (arith, g .pre .0 .behind, g .pre .0 .room)
 
 add-walk-both : tie.Need-add-walk-both
-add-walk-both c = search needs
+add-walk-both c = let g = entered (c .before .before) in let l = below g in omega (arith, l .0, l .1, g .pre .2 .0)
 
 add-walk-both-2 : tie.Need-add-walk-both-2
 add-walk-both-2 c =
-    let a = c .before .before .before .before .before .before .before .args in
-    let p = c .before .before .before .before .before .before .before .pre in
-    let P = a .program .now in
-    let M = a .table .now in
-    let N = a .layout .statements in
-    let k : statementOf (tablesOf P) (a .r) .kind ≡ 14 = sym (ap (λ e. e .kind) (c .before .before .before .statement .ensures)) ∙ c .before .if1 .taken in
-    record { fits = omega (arith, while-known P M N (a .i) (a .r) (p .5) k (p .4) .0, p .1) }
+    let m = c .before .before in
+    let g = entered m in
+    omega (arith, m .mate .ensures, a-while m (c .before .if1 .taken) .0, below g .1)
 
 walk-both-requires : tie.Need-walk-both-requires
 walk-both-requires c κs =
-    let a = c .before .before .before .before .before .before .before .args in
-    let p = c .before .before .before .before .before .before .before .pre in
-    let P = a .program .now in
-    let M = a .table .now in
-    let N = a .layout .statements in
-    let k : statementOf (tablesOf P) (a .r) .kind ≡ 14 = sym (ap (λ e. e .kind) (c .before .before .before .statement .ensures)) ∙ c .before .if1 .taken in
-    let g = while-known P M N (a .i) (a .r) (p .5) k (p .4) in
-    (p .0, omega (arith, leads-below P M N (a .i) (p .4)), omega (arith, g .0), p .2, p .3, g .1, g .2)
+    let m = c .before .before in
+    let g = entered m in
+    let known = g .pre .1 .1 .known in
+    let w = a-while m (c .before .if1 .taken) in
+    let l = below g in (
+      g .pre .0,
+      (
+        knows-less (g .args .i) (g .pre .1 .0) (g .args .s .now) (omega (arith, l .0)) known,
+        knows-less (m .mate .result + 1) (g .pre .1 .0) (g .args .s .now) (omega (arith, m .mate .ensures, w .0)) known,
+      ),
+      as-piece (g .args .s .now) (g .args .r + 1) (g .args .i) (w .1),
+      subst (λ x. Piece (g .args .s .now) mostNested (g .args .r) (x + 1)) (sym (m .mate .ensures)) (as-piece (g .args .s .now) (g .args .r) (mates (g .args .s .now) (g .args .r) + 1) (w .2)),
+    )
 
 same-length : tie.Need-same-length
 same-length c = search needs
 
 returns : tie.Need-returns
 returns c =
-    let a = c .before .before .before .before .before .before .before .before .before .before .args in
-    let p = c .before .before .before .before .before .before .before .before .before .before .pre in
-    let P = a .program .now in
-    let M = a .table .now in
-    let N = a .layout .statements in
-    let k : statementOf (tablesOf P) (a .r) .kind ≡ 14 = sym (ap (λ e. e .kind) (c .before .before .before .before .before .before .statement .ensures)) ∙ c .before .before .before .before .if1 .taken in
     let w = c .before .before .walk-both in
-    (leaves-while P M N (a .i) (a .r) (p .5) k (setOf (a .s .now) (a .b)) (setOf (w .last .1 .1 .1 .0) (a .b)) (w .result) (w .ensures .0), w .ensures .1, w .ensures .2)
+    let m = after-mate-from-slice-known2 c in
+    let g = entered m in
+    let k = tableOf 0 (g .args .s .now) in
+    let does = subst (λ x. Both g x (w .result) (w .last .0)) (m .mate .ensures) (w .ensures .does) in
+    record {
+      does = λ n.
+          leaves-while k n (g .args .i) (g .args .r) (g .pre .2) (sym (m .before .before .kind-at .ensures) ∙ c .before .before .before .before .if1 .taken)
+          (setOf (g .args .s .now) (g .args .b)) (setOf (w .last .0) (g .args .b)) (w .result) does;
+      tidy = w .ensures .tidy;
+      below = w .ensures .below;
+    }
 
 add-walk : tie.Need-add-walk
-add-walk c = search needs
+add-walk c = let g = entered (c .before .before .before) in let l = below g in omega (arith, l .0, l .1, g .pre .2 .0)
 
 walk-requires : tie.Need-walk-requires
 walk-requires c κs =
-    let a = c .before .before .before .before .before .before .before .before .args in
-    let p = c .before .before .before .before .before .before .before .before .pre in
-    let P = a .program .now in
-    let M = a .table .now in
-    let N = a .layout .statements in
-    let k : statementOf (tablesOf P) (a .r) .kind ≡ 14 → ⊥ = λ e. c .before .before .if1 .left (ap (λ q. q .kind) (c .before .before .before .before .statement .ensures) ∙ e) in
-    (p .0, omega (arith, leads-below P M N (a .i) (p .4)), omega arith, p .2, p .3, yes-known P M N (a .i) (a .r) (p .5) k (c .before .if2 .taken) (p .4))
+    let m = c .before .before .before in
+    let g = entered m in
+    (ready g, as-piece (g .args .s .now) (g .args .r + 1) (g .args .i) (first-known m (c .before .before .if1 .left) (subst (g .args .i <_) (m .mate .ensures) (c .before .if2 .taken))))
 
 same-length-2 : tie.Need-same-length-2
 same-length-2 c = search needs
 
 returns-2 : tie.Need-returns-2
 returns-2 c =
-    let a = c .before .before .before .before .before .before .before .before .before .before .before .args in
-    let p = c .before .before .before .before .before .before .before .before .before .before .before .pre in
-    let P = a .program .now in
-    let M = a .table .now in
-    let N = a .layout .statements in
-    let k : statementOf (tablesOf P) (a .r) .kind ≡ 14 → ⊥ = λ e. c .before .before .before .before .before .if1 .left (ap (λ q. q .kind) (c .before .before .before .before .before .before .before .statement .ensures) ∙ e) in
     let w = c .before .before .walk in
-    let y = yes-known P M N (a .i) (a .r) (p .5) k (c .before .before .before .before .if2 .taken) (p .4) in
-    (leaves-yes P M N (a .i) (a .r) (p .5) k (c .before .before .before .before .if2 .taken) (setOf (a .s .now) (a .b)) (setOf (w .last .1 .1 .1 .0) (a .b)) (w .result) (w .ensures .0), walked-tidy (y .0) (setOf (a .s .now) (a .b)) (setOf (w .last .1 .1 .1 .0) (a .b)) (w .result) (w .ensures .0 (y .0) (y .1)) (p .3), w .ensures .1)
+    let i = c .before .before .before .before in
+    let m = i .before .before in
+    let g = entered m in
+    let k = tableOf 0 (g .args .s .now) in
+    let S = setOf (g .args .s .now) (g .args .b) in
+    let T = setOf (w .last .0) (g .args .b) in
+    let less = subst (g .args .i <_) (m .mate .ensures) (i .if2 .taken) in
+    let piece = first-known m (i .before .if1 .left) less in
+    record {
+      does = λ n. leaves-yes k n (g .args .i) (g .args .r) (g .pre .2) (no-loop m (i .before .if1 .left)) less S T (w .result) (w .ensures .0);
+      tidy = walked-tidy (piece .code) S T (w .result) (w .ensures .0 (piece .code) (piece .lies)) (g .pre .0 .tidy);
+      below = w .ensures .1;
+    }
 
 add-walk-2 : tie.Need-add-walk-2
-add-walk-2 c =
-    let a = c .before .before .before .before .before .before .before .before .args in
-    let p = c .before .before .before .before .before .before .before .before .pre in
-    let P = a .program .now in
-    let M = a .table .now in
-    let N = a .layout .statements in
-    record { fits = omega (arith, c .before .if2 .left, leads-below P M N (a .i) (p .4), p .1) }
+add-walk-2 c = let m = c .before .before .before in let g = entered m in let l = below g in omega (arith, c .before .if2 .left, l .0, l .1)
 
 walk-requires-2 : tie.Need-walk-requires-2
 walk-requires-2 c κs =
-    let a = c .before .before .before .before .before .before .before .before .args in
-    let p = c .before .before .before .before .before .before .before .before .pre in
-    let P = a .program .now in
-    let M = a .table .now in
-    let N = a .layout .statements in
-    let k : statementOf (tablesOf P) (a .r) .kind ≡ 14 → ⊥ = λ e. c .before .before .if1 .left (ap (λ q. q .kind) (c .before .before .before .before .statement .ensures) ∙ e) in
-    (p .0, omega (arith, leads-below P M N (a .i) (p .4)), omega arith, p .2, p .3, no-known P M N (a .i) (a .r) (p .5) k (c .before .if2 .left) (p .4))
+    let m = c .before .before .before in
+    let g = entered m in
+    let more = subst (_≤ g .args .i) (m .mate .ensures) (c .before .if2 .left) in (
+      ready g,
+      subst (λ x. Piece (g .args .s .now) mostNested (x + 1) (g .args .i)) (sym (m .mate .ensures))
+          (as-piece (g .args .s .now) (mates (g .args .s .now) (g .args .r) + 1) (g .args .i) (other-known m (c .before .before .if1 .left) more)),
+    )
 
 same-length-3 : tie.Need-same-length-3
 same-length-3 c = search needs
 
 returns-3 : tie.Need-returns-3
 returns-3 c =
-    let a = c .before .before .before .before .before .before .before .before .before .before .before .args in
-    let p = c .before .before .before .before .before .before .before .before .before .before .before .pre in
-    let P = a .program .now in
-    let M = a .table .now in
-    let N = a .layout .statements in
-    let k : statementOf (tablesOf P) (a .r) .kind ≡ 14 → ⊥ = λ e. c .before .before .before .before .before .if1 .left (ap (λ q. q .kind) (c .before .before .before .before .before .before .before .statement .ensures) ∙ e) in
     let w = c .before .before .walk2 in
-    let y = no-known P M N (a .i) (a .r) (p .5) k (c .before .before .before .before .if2 .left) (p .4) in
-    (leaves-no P M N (a .i) (a .r) (p .5) k (c .before .before .before .before .if2 .left) (setOf (a .s .now) (a .b)) (setOf (w .last .1 .1 .1 .0) (a .b)) (w .result) (w .ensures .0), walked-tidy (y .0) (setOf (a .s .now) (a .b)) (setOf (w .last .1 .1 .1 .0) (a .b)) (w .result) (w .ensures .0 (y .0) (y .1)) (p .3), w .ensures .1)
+    let i = c .before .before .before .before in
+    let m = i .before .before in
+    let g = entered m in
+    let k = tableOf 0 (g .args .s .now) in
+    let S = setOf (g .args .s .now) (g .args .b) in
+    let T = setOf (w .last .0) (g .args .b) in
+    let more = subst (_≤ g .args .i) (m .mate .ensures) (i .if2 .left) in
+    let piece = other-known m (i .before .if1 .left) more in
+    let walks = subst (λ x. WalksFrom g x (w .result) (w .last .0)) (m .mate .ensures) (w .ensures .0) in
+    record {
+      does = λ n. leaves-no k n (g .args .i) (g .args .r) (g .pre .2) (no-loop m (i .before .if1 .left)) more S T (w .result) walks;
+      tidy = walked-tidy (piece .code) S T (w .result) (walks (piece .code) (piece .lies)) (g .pre .0 .tidy);
+      below = w .ensures .1;
+    }
 
 pub leave-block-spec : {M : Type 1} → statement M
 leave-block-spec =
     tie.close
     (tie.spec
-    statement-requires
-    mul-other
-    shared-slice-read-other
+    kind-at-requires
+    mate-requires
     add-walk-both
     add-walk-both-2
     walk-both-requires

@@ -1,13 +1,50 @@
--- `enclosing::walk_both` meets its contract. Assumes nothing.
-use borrow.Author.Needs.{needs}
+-- `enclosing::walk_both` meets its contract.
+use mathlib.Core.Path.{_≡_}
 use native.Mathlib.Omega.{arith}
+use Rattle.model.specs.Code.{Code}
+use Rattle.model.specs.Walk.{walk}
+use Rattle.rules.specs.Answers.{answered}
+use Rattle.walk.specs.Piece.{Lies}
+use Rattle.model.specs.TidySets.{Tidy}
+use Rattle.code_table.specs.Table.{tableOf}
+use Rattle.rules.specs.declared.Answer.the-variants.{Done}
 use Rattle.sets.specs.Region.{setOf}
-use Rattle.enclosing.proofs.Walked.{below-trans, walked-tidy, refused-done, both-refused, both-walked}
+use Rattle.walk.proofs.Regions.{below-trans, below-table, lies-on, piece-on, knows-on}
+use Rattle.enclosing.proofs.Walked.{refused-done, walked-tidy, both-refused, both-walked}
+use borrow.Author.Needs.{needs}
 use Rattle.enclosing.proofs.walk_both.Statement.{statement}
 use Rattle.enclosing.proofs.walk_both.Tie as tie
 
+-- the places: where the function begins, and behind the first walk
+abbrev entered : tie.After-walk → tie.Start
+entered c = c .before .before .before
+
+abbrev first : tie.After-enum-told → tie.After-walk
+first c = c .before .before .before .before
+
+-- places on the way, by the place from which they are seen
+abbrev after-walk-from-known-told : tie.After-known-told → tie.After-walk
+after-walk-from-known-told c = c .before .before .before .before .before
+
+-- the table is as it was behind the first walk
+first-table : (c : tie.After-walk) → tableOf 0 (c .walk .last .0) ≡ tableOf 0 (entered c .args .s .now)
+first-table c =
+    let g = entered c in
+    below-table (g .args .b) (g .args .s .now) (c .walk .last .0) (g .pre .0 .behind) (omega (arith, g .pre .0 .room)) (c .walk .kept .0) (c .walk .ensures .1)
+
+-- and the set is tidy
+first-tidy : (c : tie.After-walk) → c .walk .result ≡ Done → Tidy (setOf (c .walk .last .0) (entered c .args .b))
+first-tidy c e =
+    let g = entered c in
+    let piece = g .pre .2 in
+    walked-tidy (piece .code) (setOf (g .args .s .now) (g .args .b)) (setOf (c .walk .last .0) (g .args .b)) (c .walk .result)
+    (c .walk .ensures .0 (piece .code) (piece .lies)) (g .pre .0 .tidy) e
+
 walk-requires : tie.Need-walk-requires
-walk-requires c κs = search needs
+walk-requires c κs =
+    let g = c .before .before in
+    let w = g .pre .0 in
+    (record { knows = g .pre .1 .0; shallow = omega arith; behind = w .behind; room = omega (arith, w .room); tidy = w .tidy }, g .pre .2)
 
 enum-known-first : tie.Need-enum-known-first
 enum-known-first c = search needs
@@ -17,37 +54,56 @@ enum-told c = search needs
 
 walk-requires-2 : tie.Need-walk-requires-2
 walk-requires-2 c κs =
-    let a = c .before .before .before .before .before .before .before .before .before .before .args in
-    let p = c .before .before .before .before .before .before .before .before .before .before .pre in
-    let w = c .before .before .before .before .before .walk in
-    let t = walked-tidy (p .5 .0) (setOf (a .s .now) (a .b)) (setOf (w .last .1 .1 .1 .0) (a .b)) (w .result) (w .ensures .0 (p .5 .0) (p .5 .1)) (p .4) (c .before .enum-told .given .1) in
-    (p .0, p .2, omega arith, search needs, t, p .6)
+    let w = first (c .before) in
+    let g = entered w in
+    let t = first-table w in (
+      record {
+        knows = knows-on (g .args .s .now) (w .walk .last .0) t (g .args .q) (g .pre .1 .1);
+        shallow = omega arith;
+        behind = g .pre .0 .behind;
+        room = omega (arith, g .pre .0 .room, w .walk .kept .0);
+        tidy = first-tidy w (c .before .enum-told .given .1);
+      },
+      piece-on (g .args .s .now) (w .walk .last .0) t 4 (g .args .r) (g .args .q) (g .pre .3),
+    )
 
 same-length : tie.Need-same-length
 same-length c = search needs
 
 returns : tie.Need-returns
 returns c =
-    let a = c .before .before .before .before .before .before .before .before .before .before .args in
-    let w = c .before .before .before .before .before .walk in
-    (λ x y h k. both-refused x (setOf (a .s .now) (a .b)) (setOf (w .last .1 .1 .1 .0) (a .b)) (w .result) (w .ensures .0 x h) y _ (c .before .first .given .1), λ e. absurd (refused-done _ e), w .ensures .1)
+    let w = after-walk-from-known-told c in
+    let g = entered w in
+    let S = setOf (g .args .s .now) (g .args .b) in
+    let T = setOf (w .walk .last .0) (g .args .b) in
+    record {
+      does = λ x y h k. both-refused x S T (w .walk .result) (w .walk .ensures .0 x h) y _ (c .before .first .given .1);
+      tidy = λ e. absurd (refused-done _ e);
+      below = w .walk .ensures .1;
+    }
 
 same-length-2 : tie.Need-same-length-2
 same-length-2 c = search needs
 
 returns-2 : tie.Need-returns-2
 returns-2 c =
-    let a = c .before .before .before .before .before .before .before .before .before .before .before .before .before .args in
-    let w = c .before .before .before .before .before .before .before .before .walk in
     let v = c .before .before .walk2 in
-    let s₁ = w .last .1 .1 .1 .0 in
-    let s₂ = v .last .1 .1 .1 .0 in
-    let p = c .before .before .before .before .before .before .before .before .before .before .before .before .before .pre in
-    let t = walked-tidy (p .5 .0) (setOf (a .s .now) (a .b)) (setOf s₁ (a .b)) (w .result) (w .ensures .0 (p .5 .0) (p .5 .1)) (p .4) (c .before .before .before .before .enum-told .given .1) in (
-      λ x y h k. both-walked x (setOf (a .s .now) (a .b)) (setOf s₁ (a .b)) (w .result) (w .ensures .0 x h) y (setOf s₂ (a .b)) (v .result) (c .before .before .before .before .enum-told .given .1) (v .ensures .0 y k),
-      walked-tidy (p .6 .0) (setOf s₁ (a .b)) (setOf s₂ (a .b)) (v .result) (v .ensures .0 (p .6 .0) (p .6 .1)) t,
-      below-trans (a .b) (a .s .now) s₁ s₂ (w .ensures .1) (v .ensures .1),
-    )
+    let d = c .before .before .before .before in
+    let w = first d in
+    let g = entered w in
+    let s₁ = w .walk .last .0 in
+    let s₂ = v .last .0 in
+    let S = setOf (g .args .s .now) (g .args .b) in
+    let second : (y : Code) → Lies (g .args .s .now) y (g .args .r) (g .args .q)
+    → walk y (setOf s₁ (g .args .b)) ≡ answered (v .result) (setOf s₂ (g .args .b)) =
+    λ y k. v .ensures .0 y (lies-on (g .args .s .now) s₁ (first-table w) y (g .args .r) (g .args .q) k) in
+    record {
+      does = λ x y h k. both-walked x S (setOf s₁ (g .args .b)) (w .walk .result) (w .walk .ensures .0 x h) y (setOf s₂ (g .args .b)) (v .result) (d .enum-told .given .1) (second y k);
+      tidy =
+          walked-tidy (g .pre .3 .code) (setOf s₁ (g .args .b)) (setOf s₂ (g .args .b)) (v .result) (second (g .pre .3 .code) (g .pre .3 .lies))
+          (first-tidy w (d .enum-told .given .1));
+      below = below-trans (g .args .b) (g .args .s .now) s₁ s₂ (w .walk .ensures .1) (v .ensures .1);
+    }
 
 pub walk-both-spec : {M : Type 1} → statement M
 walk-both-spec =

@@ -1,134 +1,134 @@
 -- `enclosing::walk_out` meets its contract. The invariant: the walk from the label goes on from the block where the code stands.
--- Assumes nothing.
-use mathlib.Core.Path.{_≡_, refl, subst, _∙_}
-use borrow.Author.Needs.{needs}
+use mathlib.Core.Path.{subst, _∙_}
+use Prim.Native.Nat.{_≤_, _<_}
 use native.Mathlib.Omega.{arith}
-use lib.ListN.{length}
-use Rattle.model.proofs.TidySets.{Tidy}
-use Rattle.program.specs.Reading.{tablesOf, stmtAt}
-use Rattle.blocks.specs.Blocks.{Innermost}
-use Rattle.rules.specs.Answers.{Below}
+use Rattle.model.specs.Sizes.{mostNested, mostStatements}
+use Rattle.code_table.specs.Table.{tableWords, tableOf, stmts, mates}
 use Rattle.sets.specs.Region.{setOf}
-use Rattle.enclosing.specs.Enclosing.{mateIn, Enclosed}
-use Rattle.enclosing.proofs.WalkingOut.{Reached, reached-start, reached-refusal, reached-next, leads-next}
-use Rattle.enclosing.proofs.Leaving.{leads-below, top-known, walks-out-top}
-use Rattle.enclosing.proofs.Walked.{below-trans}
+use Rattle.walk.proofs.Regions.{knows-less}
+use Rattle.enclosing.specs.Blocks.{NoneFrom, Innermost}
+use Rattle.enclosing.specs.declared.Block.{Block}
+use Rattle.enclosing.proofs.Leaving.{label-below, top-known, walks-out-top}
+use Rattle.enclosing.proofs.WalkingOut.{Outward, outward-first, enclosed-here, outward-start, outward-refused, outward-next}
+use borrow.Author.Needs.{needs}
 use Rattle.enclosing.proofs.walk_out.Statement.{statement}
 use Rattle.enclosing.proofs.walk_out.Tie as tie
 
 abbrev Inv-loop : tie.InvT-loop
-Inv-loop program layout table s₀ b i at₀ s at =
-    (length s ≡ length s₀)
-    × Tidy (setOf s b)
-    × Enclosed program table (layout .statements) at
-    × Below b s₀ s
-    × Reached program table (layout .statements) i (setOf s₀ b) at (setOf s b)
+Inv-loop s₀ b i at₀ s at = Outward s₀ b i s at
 
 abbrev μ-loop : tie.MeasureT-loop
-μ-loop program layout table s₀ b i at₀ s at = at
+μ-loop s₀ b i at₀ s at = at
+
+-- the places: the head of the loop, where a block was looked for, and behind a block that was left
+abbrev head : tie.After-innermost Inv-loop μ-loop → tie.At-loop Inv-loop μ-loop
+head c = c .before .before
+
+abbrev found : tie.After-leave-block Inv-loop μ-loop → tie.After-innermost Inv-loop μ-loop
+found c = c .before .before .before .before .before
+
+-- places on the way, by the place from which they are seen
+abbrev after-leave-block-from-known-told2 : tie.After-known-told2 Inv-loop μ-loop → tie.After-leave-block Inv-loop μ-loop
+after-leave-block-from-known-told2 c = c .before .before .before .before .before
+
+-- the label is one of the program's
+below : (c : tie.At-loop Inv-loop μ-loop) → (c .loop .at < c .loop .inv .statements) × (c .loop .inv .statements ≤ mostStatements)
+below c = label-below (tableOf 0 (c .before .before .args .s .now)) (c .loop .inv .statements) (c .loop .at) (c .loop .inv .enclosed)
+
+-- it stands in no block
+in-none : (c : tie.After-enum-told Inv-loop μ-loop) → let lp = head (c .before .before) .loop in NoneFrom (stmts (lp .s)) (mates (lp .s)) (lp .at) 0
+in-none c =
+    let lp = head (c .before .before) .loop in
+    subst (Innermost (stmts (lp .s)) (mates (lp .s)) (lp .at)) (c .enum-told .given .1) (c .before .before .innermost .ensures)
 
 loop-holds : tie.Need-loop-holds Inv-loop μ-loop
-loop-holds c = let p = c .before .before .before .pre in (refl, p .3, p .4, λ x h. refl, λ q w b. (q, w, b, refl))
+loop-holds c = let g = c .before in outward-first (g .args .s .now) (g .args .b) (g .args .i) (g .pre .0 .tidy) (g .pre .1 .0) (g .pre .1 .1)
 
 innermost-requires : tie.Need-innermost-requires Inv-loop μ-loop
 innermost-requires c κs =
-    let a = c .before .before .before .before .args in
-    let p = c .before .before .before .before .pre in
-    let lp = c .loop in
-    (p .0 .placed, omega (arith, leads-below (a .program .now) (a .table .now) (a .layout .statements) (lp .at) (lp .inv .2)))
+    let h = c .before in
+    let w = h .before .before .pre .0 in
+    (omega (arith, w .behind, w .room, h .loop .inv .same-length), omega (arith, below h .0, below h .1))
 
 enum-told : tie.Need-enum-told Inv-loop μ-loop
 enum-told c = search needs
 
 walk-requires : tie.Need-walk-requires Inv-loop μ-loop
 walk-requires c κs =
-    let a = c .before .before .before .before .before .before .before .before .args in
-    let p = c .before .before .before .before .before .before .before .before .pre in
-    let lp = c .before .before .before .before .loop in
-    let P = a .program .now in
-    let M = a .table .now in
-    let N = a .layout .statements in
-    let none = subst (Innermost (stmtAt (tablesOf P)) (mateIn M) (lp .at)) (c .before .enum-told .given .1) (c .before .before .before .innermost .ensures) in
-    (p .0, omega (arith, leads-below P M N (lp .at) (lp .inv .2)), omega arith, omega (arith, lp .inv .0, p .2), lp .inv .1, top-known P M N (lp .at) none (lp .inv .2))
+    let h = head (c .before .before .before) in
+    let lp = h .loop in
+    let g = h .before .before in
+    let piece = top-known (tableOf 0 (lp .s)) (lp .inv .statements) (lp .at) (in-none (c .before)) (enclosed-here (g .args .s .now) (g .args .b) (g .args .i) (lp .s) (lp .at) (lp .inv)) in (
+      record {
+        knows = knows-less (lp .at) (lp .inv .statements) (lp .s) (omega (arith, below h .0)) (enclosed-here (g .args .s .now) (g .args .b) (g .args .i) (lp .s) (lp .at) (lp .inv) .known);
+        shallow = omega arith;
+        behind = g .pre .0 .behind;
+        room = omega (arith, g .pre .0 .room, lp .inv .same-length);
+        tidy = lp .inv .tidy;
+      },
+      record { code = piece .code; lies = piece .lies; nested = piece .nested },
+    )
 
 same-length : tie.Need-same-length Inv-loop μ-loop
-same-length c = c .before .before .walk .kept .1 .1 .1 .0 ∙ c .before .before .before .before .before .before .before .loop .inv .0
+same-length c = let e = c .before .before .before .before in c .before .before .walk .kept .0 ∙ head (e .before .before) .loop .inv .same-length
 
 returns : tie.Need-returns Inv-loop μ-loop
 returns c =
-    let a = c .before .before .before .before .before .before .before .before .before .before .before .args in
-    let lp = c .before .before .before .before .before .before .before .loop in
     let w = c .before .before .walk in
-    let P = a .program .now in
-    let M = a .table .now in
-    let N = a .layout .statements in
-    let S = setOf (lp .s) (a .b) in
-    let U = setOf (w .last .1 .1 .1 .0) (a .b) in
-    let none = subst (Innermost (stmtAt (tablesOf P)) (mateIn M) (lp .at)) (c .before .before .before .before .enum-told .given .1) (c .before .before .before .before .before .before .innermost .ensures) in (
-      reached-start P M N (a .i) (setOf (a .s .now) (a .b)) (lp .at) S (lp .inv .4) (w .result) U (walks-out-top P M N (lp .at) none S U (w .result) (w .ensures .0)),
-      below-trans (a .b) (a .s .now) (lp .s) (w .last .1 .1 .1 .0) (lp .inv .3) (w .ensures .1),
-    )
+    let e = c .before .before .before .before in
+    let h = head (e .before .before) in
+    let lp = h .loop in
+    let g = h .before .before in
+    outward-start (g .args .s .now) (g .args .b) (g .args .i) (lp .s) (lp .at) (lp .inv) (w .last .0) (w .result)
+    (λ n. walks-out-top (tableOf 0 (lp .s)) n (lp .at) (in-none e) (setOf (lp .s) (g .args .b)) (setOf (w .last .0) (g .args .b)) (w .result) (w .ensures .0))
+    (w .ensures .1)
 
 enum-known-block : tie.Need-enum-known-block Inv-loop μ-loop
 enum-known-block c = search needs
 
 leave-block-requires : tie.Need-leave-block-requires Inv-loop μ-loop
 leave-block-requires c κs =
-    let a = c .before .before .before .before .before .before .before .before .before .args in
-    let p = c .before .before .before .before .before .before .before .before .before .pre in
-    let lp = c .before .before .before .before .before .loop in
-    let P = a .program .now in
-    let M = a .table .now in
-    let inner = subst (Innermost (stmtAt (tablesOf P)) (mateIn M) (lp .at)) (c .before .before .block .given .1) (c .before .before .before .before .innermost .ensures) in
-    (p .0, p .1, omega (arith, lp .inv .0, p .2), lp .inv .1, lp .inv .2, inner)
+    let k = c .before .before in
+    let h = head (k .before .before) in
+    let lp = h .loop in
+    let g = h .before .before in (
+      record { behind = g .pre .0 .behind; room = omega (arith, g .pre .0 .room, lp .inv .same-length); tidy = lp .inv .tidy },
+      (lp .inv .statements, enclosed-here (g .args .s .now) (g .args .b) (g .args .i) (lp .s) (lp .at) (lp .inv)),
+      subst (Innermost (stmts (lp .s)) (mates (lp .s)) (lp .at)) (k .block .given .1) (k .before .before .innermost .ensures),
+    )
 
 enum-known-a : tie.Need-enum-known-a Inv-loop μ-loop
 enum-known-a c = search needs
 
 same-length-2 : tie.Need-same-length-2 Inv-loop μ-loop
-same-length-2 c = c .before .before .before .before .before .leave-block .kept .1 .1 .1 .0 ∙ c .before .before .before .before .before .before .before .before .before .before .before .loop .inv .0
+same-length-2 c = let v = after-leave-block-from-known-told2 c in v .leave-block .kept .0 ∙ head (found v) .loop .inv .same-length
 
 returns-2 : tie.Need-returns-2 Inv-loop μ-loop
 returns-2 c =
-    let a = c .before .before .before .before .before .before .before .before .before .before .before .before .before .before .before .args in
-    let lp = c .before .before .before .before .before .before .before .before .before .before .before .loop in
-    let v = c .before .before .before .before .before .leave-block in
-    let P = a .program .now in
-    let M = a .table .now in
-    let N = a .layout .statements in
-    let S = setOf (lp .s) (a .b) in
-    let T = setOf (v .last .1 .1 .1 .0) (a .b) in (
-      reached-refusal P M N (a .i) (setOf (a .s .now) (a .b)) (lp .at) S (lp .inv .4) _ (v .result) T (v .ensures .0) _ (c .before .a .given .1),
-      below-trans (a .b) (a .s .now) (lp .s) (v .last .1 .1 .1 .0) (lp .inv .3) (v .ensures .2),
-    )
+    let v = after-leave-block-from-known-told2 c in
+    let lp = head (found v) .loop in
+    let g = head (found v) .before .before in
+    let b = v .leave-block in
+    outward-refused (g .args .s .now) (g .args .b) (g .args .i) (lp .s) (lp .at) (lp .inv) _ (b .result) (b .last .0) (b .ensures .does) (b .ensures .below) _ (c .before .a .given .1)
 
 enum-told-2 : tie.Need-enum-told-2 Inv-loop μ-loop
 enum-told-2 c = search needs
 
 loop-less : tie.Need-loop-less Inv-loop μ-loop
 loop-less c =
-    let a = c .before .before .before .before .before .before .before .before .before .before .before .before .before .before .args in
-    let lp = c .before .before .before .before .before .before .before .before .before .before .loop in
-    let inner = subst (Innermost (stmtAt (tablesOf (a .program .now))) (mateIn (a .table .now)) (lp .at)) (c .before .before .before .before .before .before .before .block .given .1) (c .before .before .before .before .before .before .before .before .before .innermost .ensures) in
-    inner .0
+    let v = c .before .before .before .before in
+    let k = v .before .before .before in
+    let lp = head (found v) .loop in
+    subst (Innermost (stmts (lp .s)) (mates (lp .s)) (lp .at)) (k .block .given .1) (found v .innermost .ensures) .0
 
 loop-again : tie.Need-loop-again Inv-loop μ-loop
 loop-again c =
-    let a = c .before .before .before .before .before .before .before .before .before .before .before .before .before .before .args in
-    let lp = c .before .before .before .before .before .before .before .before .before .before .loop in
-    let v = c .before .before .before .before .leave-block in
-    let P = a .program .now in
-    let M = a .table .now in
-    let N = a .layout .statements in
-    let S₀ = setOf (a .s .now) (a .b) in
-    let S = setOf (lp .s) (a .b) in
-    let T = setOf (v .last .1 .1 .1 .0) (a .b) in (
-      v .kept .1 .1 .1 .0 ∙ lp .inv .0,
-      v .ensures .1 (c .enum-told2 .given .1),
-      leads-next P M N (a .i) S₀ (lp .at) S (lp .inv .4) _ (v .result) T (v .ensures .0) (lp .inv .2),
-      below-trans (a .b) (a .s .now) (lp .s) (v .last .1 .1 .1 .0) (lp .inv .3) (v .ensures .2),
-      reached-next P M N (a .i) S₀ (lp .at) S (lp .inv .4) _ (v .result) T (v .ensures .0) (c .enum-told2 .given .1),
-    )
+    let v = c .before .before .before .before in
+    let lp = head (found v) .loop in
+    let g = head (found v) .before .before in
+    let b = v .leave-block in
+    outward-next (g .args .s .now) (g .args .b) (g .args .i) (lp .s) (lp .at) (lp .inv) _ (b .result) (b .last .0) (b .ensures .does) (b .ensures .below) (c .enum-told2 .given .1) (g .pre .0 .behind)
+    (omega (arith, g .pre .0 .room)) (b .kept .0) (b .ensures .tidy (c .enum-told2 .given .1))
 
 pub walk-out-spec : {M : Type 1} → statement M
 walk-out-spec =

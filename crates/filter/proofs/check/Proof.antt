@@ -1,11 +1,13 @@
 -- `filter::check` meets its contract.
--- Assumes nothing.
 use mathlib.Core.Path.{sym, ap, _∙_}
 use borrow.Author.Needs.{needs}
 use Rattle.condition.specs.Answers.{conditionAnswer}
 use Rattle.filter.proofs.Verdicts.{condition-refused}
 use Rattle.filter.proofs.check.Statement.{statement}
 use Rattle.filter.proofs.check.Tie as tie
+
+abbrev start : tie.After-known-told → tie.Start
+start c = c .before .before .before .before .before .before
 
 read-requires : tie.Need-read-requires
 read-requires c κs = search needs
@@ -21,8 +23,9 @@ check-input-requires c κs = sym (c .before .before .before .read .ensures) ∙ 
 
 returns : tie.Need-returns
 returns c =
-    let g = c .before .before .before .before .before .before in
-    condition-refused (g .args .condition .now) (g .args .input .now) (c .before .r .given .0 .0) (sym (ap conditionAnswer (c .before .r .given .1)) ∙ c .before .before .before .read .ensures)
+    let g = start c in
+    condition-refused (g .args .condition .now) (g .args .input .now) (c .before .r .given .0 .0)
+    (sym (ap conditionAnswer (c .before .r .given .1)) ∙ c .before .before .before .read .ensures)
 
 returns-2 : tie.Need-returns-2
 returns-2 c = c .check-input .ensures

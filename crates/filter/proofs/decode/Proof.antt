@@ -1,10 +1,10 @@
 -- `filter::decode` meets its contract. The loop's invariant: the first f fields are decoded.
--- Assumes nothing.
 use mathlib.Core.Path.{subst, _≡_, refl, _∙_}
 use Prim.Native.Nat.{_-_, _≤_}
 use native.Mathlib.Omega.{arith}
 use lib.ListN.{length, length-set}
 use borrow.Author.Needs.{needs}
+use Rattle.model.specs.Sizes.{mostFields}
 use Rattle.filter.specs.Decoding.{inputIn}
 use Rattle.filter.proofs.Readings.{DecodedTo, decoded-none, decoded-next, decoded-all, decoded-lent}
 use Rattle.filter.proofs.decode.Statement.{statement}
@@ -12,10 +12,11 @@ use Rattle.filter.proofs.decode.Tie as tie
 
 abbrev Inv-loop : tie.InvT-loop
 Inv-loop types input counts₀ mags₀ negs₀ f₀ counts mags negs f =
-    (f ≤ 32) × (length counts ≡ 32) × (length mags ≡ length mags₀) × (length negs ≡ length negs₀) × DecodedTo (inputIn types input) f counts mags negs
+    (f ≤ mostFields) × (length counts ≡ mostFields) × (length mags ≡ length mags₀) × (length negs ≡ length negs₀)
+    × DecodedTo (inputIn types input) f counts mags negs
 
 abbrev μ-loop : tie.MeasureT-loop
-μ-loop types input counts₀ mags₀ negs₀ f₀ counts mags negs f = 32 - f
+μ-loop types input counts₀ mags₀ negs₀ f₀ counts mags negs f = mostFields - f
 
 abbrev start : tie.At-loop Inv-loop μ-loop → tie.Start Inv-loop μ-loop
 start c = c .before .before .before .before .before .before
@@ -23,18 +24,28 @@ start c = c .before .before .before .before .before .before
 abbrev turn : tie.After-put-field Inv-loop μ-loop → tie.At-loop Inv-loop μ-loop
 turn c = c .before .before .before .before
 
+abbrev entered : tie.After-slice-known3 Inv-loop μ-loop → tie.Start Inv-loop μ-loop
+entered c = c .before .before .before .before .before
+
 loop-holds : tie.Need-loop-holds Inv-loop μ-loop
 loop-holds c =
-    let g = c .before .before .before .before .before in
+    let g = entered c in
     let a = g .args in
-    (omega arith, g .pre .2, refl, refl, decoded-none (inputIn (a .types .now) (a .input .now)) (a .counts .now) (a .mags .now) (a .negs .now))
+    (omega arith, g .pre .1, refl, refl, decoded-none (inputIn (a .types .now) (a .input .now)) (a .counts .now) (a .mags .now) (a .negs .now))
 
 put-field-requires : tie.Need-put-field-requires Inv-loop μ-loop
 put-field-requires c κs =
     let i = c .before .before in
     let g = start (i .before) in
-    let lp = i .before .loop in
-    (g .pre .0, g .pre .1, i .loop-test .taken, omega (arith, g .pre .3, lp .inv .2), omega (arith, g .pre .4, lp .inv .3))
+    let lp = i .before .loop in (
+      record {
+        read = g .pre .0 .read;
+        typed = g .pre .0 .typed;
+        magnitudes = omega (arith, g .pre .0 .magnitudes, lp .inv .2);
+        signs = omega (arith, g .pre .0 .signs, lp .inv .3);
+      },
+      i .loop-test .taken,
+    )
 
 mul-counts : tie.Need-mul-counts Inv-loop μ-loop
 mul-counts c = search needs
@@ -59,8 +70,9 @@ loop-again c =
       length-set (lp .counts) (lp .f) (p .result) ∙ lp .inv .1,
       p .kept .1 .1 .1 .0 ∙ lp .inv .2,
       p .kept .1 .1 .1 .1 .0 ∙ lp .inv .3,
-      decoded-next (inputIn (a .types .now) (a .input .now)) (lp .f) (p .result) (lp .counts) (lp .mags) (p .last .1 .1 .1 .0) (lp .negs) (p .last .1 .1 .1 .1 .0)
-          (omega (arith, lp .inv .1)) (p .ensures .0) (p .ensures .1) (p .ensures .2) (lp .inv .4),
+      decoded-next (inputIn (a .types .now) (a .input .now)) (lp .f) (p .result) (lp .counts) (lp .mags) (p .last .1 .1 .1 .0) (lp .negs)
+          (p .last .1 .1 .1 .1 .0)
+          (omega (arith, lp .inv .1)) (p .ensures .count) (p .ensures .few) (p .ensures .filled) (lp .inv .4),
     )
 
 same-length : tie.Need-same-length Inv-loop μ-loop
@@ -78,10 +90,12 @@ returns c =
     let a = g .args in
     let lp = c .before .loop in
     let I = inputIn (a .types .now) (a .input .now) in
-    let e : lp .f ≡ 32 = omega arith in
+    let e : lp .f ≡ mostFields = omega arith in
     let d = subst (λ n. DecodedTo I n (lp .counts) (lp .mags) (lp .negs)) e (lp .inv .4) in
-    let lent = decoded-lent (a .types .now) (a .input .now) (lp .counts) (lp .mags) (lp .negs) d (lp .inv .1) in
-    (lent (omega (arith, g .pre .3, lp .inv .2)) (omega (arith, g .pre .4, lp .inv .3)), decoded-all I (lp .counts) (lp .mags) (lp .negs) d)
+    let lent = decoded-lent (a .types .now) (a .input .now) (lp .counts) (lp .mags) (lp .negs) d (lp .inv .1) in (
+      lent (omega (arith, g .pre .0 .magnitudes, lp .inv .2)) (omega (arith, g .pre .0 .signs, lp .inv .3)),
+      decoded-all I (lp .counts) (lp .mags) (lp .negs) d,
+    )
 
 pub decode-spec : {M : Type 1} → statement M
 decode-spec =

@@ -1,5 +1,4 @@
 -- `filter::judge` meets its contract: what the numbers of combinations tell decides, or lets the evaluations decide.
--- Assumes nothing.
 use mathlib.Core.Path.{_≡_, sym, ap, subst, _∙_}
 use borrow.Author.Needs.{needs}
 use Rattle.model.specs.Refusals.{ok}
@@ -26,10 +25,12 @@ conjuncts c = conjunctsOf (start c .args .condition .now)
 
 -- ---- what the numbers of combinations tell, in the arm of an answer
 
-told : (c : tie.After-products) (r : Combinations) → c .products .result ≡ r → (I : Input) → Counted I (start c .args .counts .now) → Told r I (conjuncts c)
+told : (c : tie.After-products) (r : Combinations) → c .products .result ≡ r → (I : Input) → Counted I (start c .args .counts .now)
+    → Told r I (conjuncts c)
 told c r e I n = subst (λ a. Told a I (conjuncts c)) e (c .products .ensures I n)
 
-told-within : (c : tie.After-enum-told3) (I : Input) → Counted I (start (c .before .before) .args .counts .now) → Told Within I (conjuncts (c .before .before))
+told-within : (c : tie.After-enum-told3) (I : Input) → Counted I (start (c .before .before) .args .counts .now)
+    → Told Within I (conjuncts (c .before .before))
 told-within c = told (c .before .before) Within (c .enum-told3 .given .1)
 
 -- ---- answers
@@ -50,7 +51,11 @@ try-all-requires : tie.Need-try-all-requires
 try-all-requires c κs =
     let after = c .before .before in
     let s = start after in
-    (s .pre .0, s .pre .1, none-blank (s .args .counts .now) (conjuncts after) (λ I n. told-within c I n .0))
+    record {
+      read = s .pre .0;
+      lent = s .pre .1;
+      none-blank = none-blank (s .args .counts .now) (conjuncts after) (λ I n. told-within c I n .0);
+    }
 
 enum-told-4 : tie.Need-enum-told-4
 enum-told-4 c = search needs
@@ -60,16 +65,19 @@ enum-known-cause c = search needs
 
 -- the verdict by the evaluations' answer r
 evaluated : (c : tie.After-try-all) (r : Answer) → c .try-all .result ≡ r → (I : Input)
-    → Decoded I (start (c .before .before .before) .args .counts .now) (start (c .before .before .before) .args .mags .now) (start (c .before .before .before) .args .negs .now)
+    → Decoded I (start (c .before .before .before) .args .counts .now) (start (c .before .before .before) .args .mags .now)
+    (start (c .before .before .before) .args .negs .now)
     → ok (answerOf r) ≡ judged I (conjuncts (c .before .before .before))
 evaluated c r e I d =
-    judged-within I (conjuncts (c .before .before .before)) (told-within (c .before) I (d .number)) (answerOf r) (sym (ap answerOf e) ∙ c .try-all .ensures I d)
+    judged-within I (conjuncts (c .before .before .before)) (told-within (c .before) I (d .number)) (answerOf r)
+    (sym (ap answerOf e) ∙ c .try-all .ensures I d)
 
 returns : tie.Need-returns
 returns c = λ I d. let after = c .before .before in sym (judged-blank I (conjuncts after) (told after Blank (c .enum-told .given .1) I (d .number)))
 
 returns-2 : tie.Need-returns-2
-returns-2 c = λ I d. let after = c .before .before in sym (judged-too-many I (conjuncts after) (told after TooMany (c .enum-told2 .given .1) I (d .number)))
+returns-2 c = λ I d. let after =
+    c .before .before in sym (judged-too-many I (conjuncts after) (told after TooMany (c .enum-told2 .given .1) I (d .number)))
 
 returns-3 : tie.Need-returns-3
 returns-3 c = λ I d. evaluated (c .before .before) _ (c .enum-told4 .given .1) I d

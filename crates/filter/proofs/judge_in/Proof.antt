@@ -1,5 +1,4 @@
 -- `filter::judge_in` meets its contract.
--- Assumes nothing.
 use mathlib.Core.Path.{_≡_, sym, subst}
 use mathlib.Core.Bool.{true}
 use native.Mathlib.Omega.{arith}
@@ -32,15 +31,17 @@ decode-requires c κs =
     let s = start t in
     let a = s .args in
     let e = sym (t .types .ensures .0) in (
-      subst (λ ts. InputIsRead ts (a .input .now)) e (s .pre .1),
-      subst (λ ts. every typeRight ts ≡ true) e (types-right (a .condition .now) (a .sizes) (s .pre .0)),
-      s .pre .2,
-      omega (arith, t .types .ensures .1, s .pre .3),
-      omega (arith, t .types .ensures .1, s .pre .4),
+      record {
+        read = subst (λ ts. InputIsRead ts (a .input .now)) e (s .pre .read .of-input);
+        typed = subst (λ ts. every typeRight ts ≡ true) e (types-right (a .condition .now) (a .sizes) (s .pre .read .of-condition));
+        magnitudes = omega (arith, t .types .ensures .1, s .pre .magnitudes);
+        signs = omega (arith, t .types .ensures .1, s .pre .signs);
+      },
+      s .pre .counts-long,
     )
 
 judge-requires : tie.Need-judge-requires
-judge-requires c κs = let d = decoded c in (start (typed d) .pre .0, d .decode .ensures .0)
+judge-requires c κs = let d = decoded c in (start (typed d) .pre .read .of-condition, d .decode .ensures .0)
 
 same-length : tie.Need-same-length
 same-length c = search needs
@@ -58,7 +59,8 @@ returns c =
     let a = start t .args in
     let l = d .decode .last in
     c .judge .ensures (inputIn (typesOf (a .condition .now)) (a .input .now))
-    (subst (λ ts. Decoded (inputIn ts (a .input .now)) (l .1 .1 .0) (l .1 .1 .1 .0) (l .1 .1 .1 .1 .0)) (t .types .ensures .0) (d .decode .ensures .1))
+    (subst (λ ts. Decoded (inputIn ts (a .input .now)) (l .1 .1 .0) (l .1 .1 .1 .0) (l .1 .1 .1 .1 .0)) (t .types .ensures .0)
+    (d .decode .ensures .1))
 
 pub judge-in-spec : {M : Type 1} → statement M
 judge-in-spec =

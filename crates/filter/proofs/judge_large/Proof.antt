@@ -1,5 +1,4 @@
 -- `filter::judge_large` meets its contract: a condition that is read has at most 32 fields.
--- Assumes nothing.
 use borrow.Author.Needs.{needs}
 use Rattle.filter.proofs.Conjuncts.{fields-narrow}
 use Rattle.filter.proofs.judge_large.Statement.{statement}
@@ -18,7 +17,9 @@ slice-aggregate-judge-in-3 : tie.Need-slice-aggregate-judge-in-3
 slice-aggregate-judge-in-3 c = search needs
 
 judge-in-requires : tie.Need-judge-in-requires
-judge-in-requires c κs = let s = start c in search (needs, fields-narrow (s .args .condition .now) (s .args .sizes) (s .pre .0))
+judge-in-requires c κs =
+    let s = start c in
+    search (needs, fields-narrow (s .args .condition .now) (s .args .sizes) (s .pre .of-condition))
 
 returns : tie.Need-returns
 returns c = search needs

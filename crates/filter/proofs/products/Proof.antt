@@ -1,6 +1,5 @@
 -- `filter::products` meets its contract. The loop's invariant: what is told of the conjuncts before (`FirstPass`); the number of
 -- combinations of the next tells of it (`Calls` of the evaluator).
--- Assumes nothing.
 use mathlib.Core.Path.{_≡_, refl, sym, subst, _∙_}
 use mathlib.Core.Logic.{⊎-elim}
 use mathlib.Core.List.{[], _∷_}
@@ -10,6 +9,7 @@ use lib.Dec.{ltb, leb}
 use lib.ListN.{drop}
 use borrow.Author.Tests.{lt-ltb, le-ltb, le-leb, lt-leb}
 use borrow.Author.Needs.{needs}
+use Rattle.model.specs.Sizes.{mostCombinations}
 use Rattle.model.specs.Conjunct.{Conj, Conjuncts}
 use Rattle.model.specs.Input.{Input}
 use Rattle.model.specs.Filter.{fewCombinations, hasReadings}
@@ -23,7 +23,8 @@ use Rattle.filter.proofs.products.Statement.{statement}
 use Rattle.filter.proofs.products.Tie as tie
 
 abbrev Inv-loop : tie.InvT-loop
-Inv-loop condition sizes counts n many₀ i₀ many i = (n ≡ sizes .conjuncts) × ((I : Input) → Counted I counts → ToldTo I (conjunctsOf condition) i many)
+Inv-loop condition sizes counts n many₀ i₀ many i = (n ≡ sizes .conjuncts)
+    × ((I : Input) → Counted I counts → ToldTo I (conjunctsOf condition) i many)
 
 abbrev μ-loop : tie.MeasureT-loop
 μ-loop condition sizes counts n many₀ i₀ many i = n - i
@@ -60,7 +61,7 @@ module _ (c : tie.After-product Inv-loop μ-loop) where
     readings-told : ltb 0 (c .product .result) ≡ hasReadings I next
     readings-told = product-readings next (start (turn c) .args .counts .now) (c .product .result) (c .product .ensures) I n
 
-    combinations-told : leb (c .product .result) 1048576 ≡ fewCombinations I next
+    combinations-told : leb (c .product .result) mostCombinations ≡ fewCombinations I next
     combinations-told = product-few next (start (turn c) .args .counts .now) (c .product .result) (c .product .ensures) I n
 
 -- ---- answers
@@ -103,10 +104,10 @@ loop-again c = (
       let full = sym (readings-told one I n) ∙ lt-ltb 0 r (omega (arith, c .before .if1 .left)) in
       ⊎-elim
       (λ w.
-      let above = sym (combinations-told one I n) ∙ lt-leb r 1048576 (omega (arith, w .0 .taken)) in
+      let above = sym (combinations-told one I n) ∙ lt-leb r mostCombinations (omega (arith, w .0 .taken)) in
       subst (ToldTo I S (at .loop .i + 1)) (sym (w .1)) (told-many I S (at .loop .i) (at .loop .many) so-far (next one) (is-next one) full above))
       (λ w.
-      let within = sym (combinations-told one I n) ∙ le-leb r 1048576 (omega (arith, w .0 .left)) in
+      let within = sym (combinations-told one I n) ∙ le-leb r mostCombinations (omega (arith, w .0 .left)) in
       subst (ToldTo I S (at .loop .i + 1)) (sym (w .1)) (told-few I S (at .loop .i) (at .loop .many) so-far (next one) (is-next one) full within))
       (c .if2 .came),
 )

@@ -1,11 +1,11 @@
 -- `filter::put_field` meets its contract.
--- Assumes nothing.
 use mathlib.Core.Path.{sym, refl, ap, _∙_}
 use Prim.Native.Nat.{_*_}
 use native.Mathlib.Omega.{arith}
 use lib.IntN.{pos}
 use lib.ListN.{length, getD}
 use borrow.Author.Needs.{needs}
+use Rattle.model.specs.Sizes.{mostReadings}
 use Rattle.plan.specs.Readings.{signedAt}
 use Rattle.filter.specs.Decoding.{inputIn}
 use Rattle.filter.proofs.Readings.{filled-none, type-code, field-none, field-listed, readings-inside, field-filled}
@@ -26,7 +26,11 @@ returns c =
     let a = start (c .before) .args in
     let I = inputIn (a .types .now) (a .input .now) (a .f) in
     let e = field-none (a .types .now) (a .input .now) (a .f) (c .if1 .taken) in
-    (rw e refl, omega arith, filled-none (λ k. getD I k (pos 0)) (128 * a .f) (signedAt (a .mags .now) (a .negs .now)))
+    record {
+      count = rw e refl;
+      few = omega arith;
+      filled = filled-none (λ k. getD I k (pos 0)) (mostReadings * a .f) (signedAt (a .mags .now) (a .negs .now));
+    }
 
 readings-requires : tie.Need-readings-requires
 readings-requires c κs = search needs
@@ -47,12 +51,13 @@ put-readings-requires c κs =
     let a = g .args in
     let n = m .count in
     let p = m .before .readings in
-    let l = listed m .if1 .left in (
-      type-code (a .types .now) (a .f) (g .pre .1) l,
-      readings-inside (a .types .now) (a .input .now) (a .f) (g .pre .0) l (n .result) (n .ensures .0) (p .result .now) (p .ensures),
-      omega (arith, n .ensures .1, g .pre .3),
-      omega (arith, n .ensures .1, g .pre .4),
-    )
+    let l = listed m .if1 .left in
+    record {
+      type = type-code (a .types .now) (a .f) (g .pre .0 .typed) l;
+      inside = readings-inside (a .types .now) (a .input .now) (a .f) (g .pre .0 .read) l (n .result) (n .ensures .0) (p .result .now) (p .ensures);
+      magnitudes = omega (arith, n .ensures .1, g .pre .0 .magnitudes);
+      signs = omega (arith, n .ensures .1, g .pre .0 .signs);
+    }
 
 same-length : tie.Need-same-length
 same-length c = search needs
@@ -69,11 +74,13 @@ returns-2 c =
     let n = m .count in
     let p = m .before .readings in
     let l = listed m .if1 .left in
-    let q = w .put-readings in (
-      n .ensures .0 ∙ sym (ap length (field-listed (a .types .now) (a .input .now) (a .f) l)),
-      n .ensures .1,
-      field-filled (a .types .now) (a .input .now) (a .f) (g .pre .0) l (n .result) (n .ensures .0) (p .result .now) (p .ensures) (128 * a .f) (signedAt (a .mags .now) (a .negs .now)) (signedAt (q .last .1 .1 .1 .1 .0) (q .last .1 .1 .1 .1 .1 .0)) (q .ensures),
-    )
+    let q = w .put-readings in
+    record {
+      count = n .ensures .0 ∙ sym (ap length (field-listed (a .types .now) (a .input .now) (a .f) l));
+      few = n .ensures .1;
+      filled = field-filled (a .types .now) (a .input .now) (a .f) (g .pre .0 .read) l (n .result) (n .ensures .0) (p .result .now) (p .ensures)
+          (mostReadings * a .f) (signedAt (a .mags .now) (a .negs .now)) (signedAt (q .last .1 .1 .1 .1 .0) (q .last .1 .1 .1 .1 .1 .0)) (q .ensures);
+    }
 
 pub put-field-spec : {M : Type 1} → statement M
 put-field-spec =

@@ -1,5 +1,4 @@
 -- `filter::put_readings` meets its contract. The loop's invariant: the first k readings stand in their places.
--- Assumes nothing.
 use mathlib.Core.Path.{subst, _≡_, refl}
 use Prim.Native.Nat.{_*_, _-_, _≤_}
 use native.Mathlib.Omega.{arith}
@@ -33,8 +32,12 @@ range-of-requires c κs = search needs
 
 loop-holds : tie.Need-loop-holds Inv-loop μ-loop
 loop-holds c =
-    let a = start c .args in
-    (omega arith, refl, refl, filled-none (λ j. readingAt (a .ty) (a .part .now) (j * width (a .ty))) (a .from) (signedAt (a .mags .now) (a .negs .now)))
+    let a = start c .args in (
+      omega arith,
+      refl,
+      refl,
+      filled-none (λ j. readingAt (a .ty) (a .part .now) (j * width (a .ty))) (a .from) (signedAt (a .mags .now) (a .negs .now)),
+    )
 
 add-put-reading : tie.Need-add-put-reading Inv-loop μ-loop
 add-put-reading c = search needs
@@ -44,12 +47,13 @@ put-reading-requires c κs =
     let r = looked-up (c .before .before) in
     let row = r .range-of .ensures in
     let a = start r .args in
-    let lp = c .before .before .before .loop in (
-      (_, row),
-      rw (row-width _ _ row) (next-inside (lp .k) (a .n) (width (a .ty)) (length (a .part .now)) (omega arith) (start r .pre .1)),
-      omega (arith, lp .inv .1),
-      omega (arith, lp .inv .2),
-    )
+    let lp = c .before .before .before .loop in
+    record {
+      row = (_, row);
+      inside = rw (row-width _ _ row) (next-inside (lp .k) (a .n) (width (a .ty)) (length (a .part .now)) (omega arith) (start r .pre .inside));
+      magnitude = omega (arith, lp .inv .1);
+      sign = omega (arith, lp .inv .2);
+    }
 
 add-k : tie.Need-add-k Inv-loop μ-loop
 add-k c = search needs
@@ -69,7 +73,8 @@ loop-again c =
       omega (arith, p .kept .1 .1 .1 .1 .0, lp .inv .1),
       omega (arith, p .kept .1 .1 .1 .1 .1 .0, lp .inv .2),
       filled-next (λ j. readingAt (a .ty) (a .part .now) (j * width (a .ty))) (a .from) (signedAt (a .mags .now) (a .negs .now)) (lp .k)
-          (signedAt (lp .mags) (lp .negs)) (signedAt (p .last .1 .1 .1 .1 .0) (p .last .1 .1 .1 .1 .1 .0)) (lp .inv .3) (p .ensures _ (r .range-of .ensures)),
+          (signedAt (lp .mags) (lp .negs)) (signedAt (p .last .1 .1 .1 .1 .0) (p .last .1 .1 .1 .1 .1 .0)) (lp .inv .3)
+          (p .ensures _ (r .range-of .ensures)),
     )
 
 same-length : tie.Need-same-length Inv-loop μ-loop

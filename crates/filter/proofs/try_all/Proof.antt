@@ -1,5 +1,4 @@
 -- `filter::try_all` meets its contract. The loop's invariant: what is left to be evaluated answers for all.
--- Assumes nothing.
 use mathlib.Core.Path.{_≡_, refl, sym, ap, subst, _∙_}
 use mathlib.Core.List.{_∷_}
 use Prim.Native.Nat.{_+_, _-_}
@@ -45,7 +44,7 @@ module _ (c : tie.After-conjunct Inv-loop μ-loop) where
   is-next : drop (turn c .loop .place) (conjuncts (turn c)) ≡ next ∷ drop (turn c .loop .place + 1) (conjuncts (turn c))
   is-next =
       let g = start (turn c) in
-      next-conjunct (g .args .condition .now) (g .args .sizes) (g .pre .0) (turn c .loop .place) (c .before .loop-test .taken)
+      next-conjunct (g .args .condition .now) (g .args .sizes) (g .pre .read) (turn c .loop .place) (c .before .loop-test .taken)
       (c .conjunct .result .now) (c .conjunct .ensures .1)
 
 -- ---- answers
@@ -61,11 +60,15 @@ first-failure-requires c κs =
     let g = start (turn c) in
     let i = turn c .loop .place in
     let inside = c .before .loop-test .taken in
-    let asked = NoneBlank (g .args .counts .now) in (
-      subst IsConjunct (sym (c .conjunct .ensures .0)) (conjunct-formed (g .args .condition .now) (g .args .sizes) (g .pre .0) i inside),
-      g .pre .1,
-      conjunct-asked (g .args .condition .now) (g .args .sizes) (g .pre .0) i asked (g .pre .2) inside (c .conjunct .result .now) (c .conjunct .ensures .1),
-    )
+    let asked = NoneBlank (g .args .counts .now) in
+    record {
+      conjunct = subst IsConjunct (sym (c .conjunct .ensures .0))
+          (conjunct-formed (g .args .condition .now) (g .args .sizes) (g .pre .read) i inside);
+      lent = g .pre .lent;
+      none-blank = conjunct-asked (g .args .condition .now) (g .args .sizes) (g .pre .read) i asked (g .pre .none-blank) inside
+          (c .conjunct .result .now)
+          (c .conjunct .ensures .1);
+    }
 
 enum-told : tie.Need-enum-told Inv-loop μ-loop
 enum-told c = search needs
@@ -107,7 +110,7 @@ returns-2 : tie.Need-returns-2 Inv-loop μ-loop
 unfolding first
 returns-2 c = λ I d.
     let at = c .before in
-    let none = none-left (start at .args .condition .now) (start at .args .sizes) (start at .pre .0) (at .loop .place) (c .loop-test .left) in
+    let none = none-left (start at .args .condition .now) (start at .args .sizes) (start at .pre .read) (at .loop .place) (c .loop-test .left) in
     sym (at .loop .inv .1 I d ∙ rw none)
 
 pub try-all-spec : {M : Type 1} → statement M

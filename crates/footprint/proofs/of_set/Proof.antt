@@ -1,4 +1,4 @@
--- `footprint::mentioned` meets its contract. Assumes nothing.
+-- `footprint::mentioned` meets its contract.
 use mathlib.Core.List.{[]}
 use mathlib.Core.Path.{_≡_, sym, subst}
 use Prim.Native.Nat.{_+_, _-_, _*_, _≤_}
@@ -6,7 +6,7 @@ use native.Mathlib.Omega.{arith}
 use lib.ListN.{length, getD, take}
 use lib.Seq.{take-all}
 use borrow.Author.Needs.{needs}
-use Rattle.node.specs.Word.{nodesOf}
+use Rattle.conjunct.specs.Word.{nodesOf}
 use Rattle.sets.proofs.Rows.{set-length, set-at}
 use Rattle.sets.specs.Region.{slotAt, setOf}
 use Rattle.footprint.proofs.Flags.{speaks-next}
@@ -19,6 +19,10 @@ Inv-loop s b n r₀ i₀ r i = (i ≤ n) × (n ≡ length (setOf s b)) × Covers
 
 abbrev μ-loop : tie.MeasureT-loop
 μ-loop s b n r₀ i₀ r i = n - i
+
+-- places on the way, by the place from which they are seen
+abbrev start-from-with-slot : tie.After-with-slot Inv-loop μ-loop → tie.Start Inv-loop μ-loop
+start-from-with-slot c = c .before .before .before .before .before
 
 size-requires : tie.Need-size-requires Inv-loop μ-loop
 size-requires c κs = search needs
@@ -46,7 +50,7 @@ loop-less c = search needs
 
 loop-again : tie.Need-loop-again Inv-loop μ-loop
 loop-again c =
-    let a = c .before .before .before .before .before .args in
+    let a = start-from-with-slot c .args in
     let lp = c .before .before .loop in
     let S = setOf (a .s .now) (a .b) in
     let w = c .with-slot in

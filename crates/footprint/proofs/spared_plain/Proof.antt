@@ -1,31 +1,35 @@
--- `footprint::passed` meets its contract. Assumes nothing.
-use mathlib.Core.Path.{sym, ap, subst, _∙_}
+-- `footprint::spared_plain` meets its contract.
+use mathlib.Core.Path.{_≡_, sym, ap, subst, _∙_}
 use Prim.Native.Nat.{_-_, _≤_, _<_}
 use native.Mathlib.Omega.{arith}
-use borrow.Author.Needs.{needs}
 use borrow.Author.Tests.{not-false}
-use Rattle.model.specs.Program.{stmtOf}
-use Rattle.program.proofs.Statements.{stmt-at, stmt-plain}
-use Rattle.program.specs.Reading.{tablesOf, statementOf, stmtAt}
+use Rattle.code_table.specs.Statements.{stmtFrom, instrOf}
+use Rattle.code_table.specs.Table.{stmts}
+use Rattle.code_table.proofs.Meanings.{plain-stmt}
 use Rattle.footprint.proofs.Skipped.{passed-none, passed-before}
-use Rattle.footprint.specs.Footprints.{Spares, PlainAndSpared}
+use Rattle.footprint.specs.Footprints.{Spares, BackTo}
+use borrow.Author.Needs.{needs}
 use Rattle.footprint.proofs.spared_plain.Statement.{statement}
 use Rattle.footprint.proofs.spared_plain.Tie as tie
 
 abbrev Inv-loop : tie.InvT-loop
-Inv-loop program layout m p r l₀ l = (p ≤ l) × (l ≤ r) × PlainAndSpared m (stmtAt (tablesOf program)) l r
+Inv-loop s m p r l₀ l = BackTo m (stmts s) p r l
 
 abbrev μ-loop : tie.MeasureT-loop
-μ-loop program layout m p r l₀ l = l
+μ-loop s m p r l₀ l = l
+
+-- the head of the loop, from where a statement was looked at
+abbrev at-loop : tie.After-spares Inv-loop μ-loop → tie.At-loop Inv-loop μ-loop
+at-loop c = c .before .before .before .before .before
 
 loop-holds : tie.Need-loop-holds Inv-loop μ-loop
-loop-holds c = let a = c .before .args in (search needs, search needs, passed-none (a .m) (stmtAt (tablesOf (a .program .now))) (a .r))
+loop-holds c = let a = c .before .args in record { least = search needs; most = search needs; passed = passed-none (a .m) (stmts (a .s .now)) (a .r) }
 
-sub-statement : tie.Need-sub-statement Inv-loop μ-loop
-sub-statement c = search needs
+sub-fetch : tie.Need-sub-fetch Inv-loop μ-loop
+sub-fetch c = search needs
 
-statement-requires : tie.Need-statement-requires Inv-loop μ-loop
-statement-requires c κs = search needs
+fetch-requires : tie.Need-fetch-requires Inv-loop μ-loop
+fetch-requires c κs = search needs
 
 returns : tie.Need-returns Inv-loop μ-loop
 returns c = c .before .before .before .before .loop .inv
@@ -34,7 +38,7 @@ spares-requires : tie.Need-spares-requires Inv-loop μ-loop
 spares-requires c κs = search needs
 
 returns-2 : tie.Need-returns-2 Inv-loop μ-loop
-returns-2 c = c .before .before .before .before .before .before .loop .inv
+returns-2 c = at-loop (c .before) .loop .inv
 
 sub-l : tie.Need-sub-l Inv-loop μ-loop
 sub-l c = search needs
@@ -44,16 +48,18 @@ loop-less c = search needs
 
 loop-again : tie.Need-loop-again Inv-loop μ-loop
 loop-again c =
-    let a = c .before .before .before .before .before .before .before .before .args in
-    let lp = c .before .before .before .before .before .before .loop in
-    let T = tablesOf (a .program .now) in
-    let q = c .before .before .before .before .statement in
-    let i = lp .l - 1 in
-    let kind = subst (_< 11) (ap (λ x. x .kind) (q .ensures)) (c .before .before .if1 .left) in
-    let x = stmt-plain T (statementOf T i) kind in
-    let h = c .before .spares .ensures (not-false _ (c .if2 .left)) T in
-    let k : Spares (a .m) (stmtAt T i) = subst (Spares (a .m)) (sym (stmt-at T i)) (subst (λ y. Spares (a .m) (stmtOf T y)) (q .ensures) h) in
-    (search needs, search needs, passed-before (a .m) (stmtAt T) (lp .l) (a .r) (lp .inv .2) (x .0) (stmt-at T i ∙ x .1) k)
+    let lp = at-loop (c .before) .loop in
+    let a = at-loop (c .before) .before .before .args in
+    let d = c .before .before .before .before .fetch in
+    let spared = c .before .spares .ensures (not-false _ (c .if2 .left)) in
+    let is-plain = plain-stmt (d .result) (omega (arith, c .before .before .if1 .left)) in
+    record {
+      least = search needs;
+      most = search needs;
+      passed =
+          passed-before (a .m) (stmts (a .s .now)) (lp .l) (a .r) (lp .inv .passed) (instrOf (d .result)) (ap stmtFrom (sym (d .ensures)) ∙ is-plain)
+          (subst (λ x. Spares (a .m) (stmtFrom x)) (d .ensures) spared);
+    }
 
 returns-3 : tie.Need-returns-3 Inv-loop μ-loop
 returns-3 c = c .before .loop .inv
@@ -65,8 +71,8 @@ spared-plain-spec =
     Inv-loop
     μ-loop
     loop-holds
-    sub-statement
-    statement-requires
+    sub-fetch
+    fetch-requires
     returns
     spares-requires
     returns-2

@@ -1,4 +1,5 @@
--- `guard::derive_and_run` meets its contract. Assumes nothing.
+-- `guard::derive_and_run` meets its contract: the file that the analysis wrote is the condition for the filter, and what either leaves
+-- in scratch comes together.
 use mathlib.Core.Path.{_≡_, refl, sym, ap, subst, _∙_}
 use Prim.Native.Nat.{_≤_}
 use native.Mathlib.Omega.{arith}
@@ -59,6 +60,9 @@ enough c =
     derived-lent (a .program .now) (a .input .now) (a .limit) (a .choices .now) (a .log .now) (length (a .file .now)) (length (a .condition .now))
     (length (a .scratch .now)) (pre .0) (pre .1) (take (c .derived2 .given .0 .0) (written c .derive .last .1 .0)) (derives c .answer)
 
+inside : (c : tie.After-derived2) → c .derived2 .given .0 .0 ≤ length (written c .derive .last .1 .0)
+inside c = omega (arith, derives c .output .most, start (written c) .pre .0, written c .derive .kept .1 .0)
+
 -- ---- the answers
 
 derive-requires : tie.Need-derive-requires
@@ -70,18 +74,22 @@ enum-known-derived c = search needs
 enum-known-derived-2 : tie.Need-enum-known-derived-2
 enum-known-derived-2 c = search needs
 
+slice-reshare-prefix-filter-and-run : tie.Need-slice-reshare-prefix-filter-and-run
+slice-reshare-prefix-filter-and-run c = inside (c .before .before)
+
+slice-aggregate-filter-and-run : tie.Need-slice-aggregate-filter-and-run
+slice-aggregate-filter-and-run c = sym (derives (c .before .before .before) .output .whole)
+
 filter-and-run-requires : tie.Need-filter-and-run-requires
 filter-and-run-requires c κs =
     let told = c .before .before .before .before in
     let w = told .before in
     let k = written w in
     let d = derives w in
-    let file-kept = k .derive .kept .1 .0 in
     let scratch-kept = k .derive .kept .1 .1 .0 in
     let words = enough w in
     record {
-      within = omega (arith, d .output .most, start k .pre .0, file-kept);
-      most = d .output .most;
+      most = omega (arith, d .output .most, d .output .whole);
       derived = is-derived w;
       output = start k .pre .1;
       words = omega (arith, words, scratch-kept);
@@ -141,8 +149,8 @@ returns-2 c =
     let d = derives w in
     let call = q .filter-and-run in
     let log′ = call .last .1 .1 .1 .1 .0 in
-    let condition′ = call .last .1 .1 .1 .1 .1 .1 .1 .0 in
-    let u = call .last .1 .1 .1 .1 .1 .1 .1 .1 .0 in
+    let condition′ = call .last .1 .1 .1 .1 .1 .1 .0 in
+    let u = call .last .1 .1 .1 .1 .1 .1 .1 .0 in
     let g = guarding o (length s) program input (a .limit) (a .choices .now) (a .log .now) in
     let same = derived-guarding program input (a .limit) (a .choices .now) (a .log .now) f o (length s) (pre .0) (pre .1) (enough w) in
     let is = subst (λ x. Guards program input (a .limit) (a .choices .now) x (call .result) (a .condition .now) (a .log .now) t condition′ log′ u) same
@@ -159,6 +167,8 @@ derive-and-run-spec =
     derive-requires
     enum-known-derived
     enum-known-derived-2
+    slice-reshare-prefix-filter-and-run
+    slice-aggregate-filter-and-run
     filter-and-run-requires
     same-length
     same-length-2

@@ -1,11 +1,9 @@
--- `guard::filter_and_run` meets its contract. Assumes nothing.
+-- `guard::filter_and_run` meets its contract: the filter's verdict is on the condition that was derived, so each of its answers is
+-- the one that the definition of the run behind the filter gives.
 use mathlib.Core.Path.{_≡_, refl, sym, ap, _∙_}
-use mathlib.Core.List.{List}
-use Prim.Native.Nat.{ℕ}
-use lib.ListN.{take}
 use borrow.Author.Needs.{needs}
 use Rattle.model.specs.Filter.{filterInput}
-use Rattle.model.specs.Failure.{answerNumber, verdict}
+use Rattle.model.specs.Failure.{answerNumber}
 use Rattle.model.proofs.Verdicts.{verdict-answer}
 use Rattle.filter.specs.Verdict.{verdictOf}
 use Rattle.filter.specs.declared.Verdict.{Verdict}
@@ -13,7 +11,7 @@ use Rattle.model.specs.Guarded.{guarded}
 use Rattle.model.specs.Refusals.{mapped, wrongBlocks}
 use Rattle.model.proofs.Lent.{scratch-as-it-was}
 use Rattle.analysis.specs.Deriving.{analysisWords}
-use Rattle.guard.proofs.Behind.{guards-refused, guards-held, not-filtered, is-held, part-first}
+use Rattle.guard.proofs.Behind.{guards-refused, guards-held, not-filtered, is-held}
 use Rattle.guard.proofs.filter_and_run.Statement.{statement}
 use Rattle.guard.proofs.filter_and_run.Tie as tie
 use Rattle.guard.proofs.filter_and_run.Reads as reads
@@ -24,26 +22,14 @@ use Rattle.guard.proofs.run_passed.Reads as run-passed-reads
 -- ---- the places
 
 abbrev start : tie.After-check → tie.Start
-start c = c .before .before .before .before .before .before .before .before .before
+start c = c .before .before .before .before .before .before .before .before
 
 -- the verdict is on the condition that was derived
 filtered : (c : tie.After-check) (v : Verdict) → c .check .result ≡ v
-    → filterInput (take (start c .args .n) (start c .args .file .now)) (start c .args .input .now) ≡ mapped answerNumber (verdictOf v)
-filtered c v e =
-    let a = start c .args in
-    let C = take (a .n) (a .file .now) in
-    verdict-answer C (a .input .now) (verdictOf v) (sym (ap verdictOf e) ∙ c .check .ensures ∙ ap (λ (D : List ℕ). verdict D (a .input .now)) (part-first (a .file .now) (a .n)))
+    → filterInput (start c .args .file .now) (start c .args .input .now) ≡ mapped answerNumber (verdictOf v)
+filtered c v e = verdict-answer (start c .args .file .now) (start c .args .input .now) (verdictOf v) (sym (ap verdictOf e) ∙ c .check .ensures)
 
 -- ---- the answers
-
-sub-check : tie.Need-sub-check
-sub-check c = search needs
-
-part-check-start : tie.Need-part-check-start
-part-check-start c = search needs
-
-part-check-end : tie.Need-part-check-end
-part-check-end c = search needs
 
 check-requires : tie.Need-check-requires
 check-requires c κs = search needs
@@ -73,7 +59,7 @@ returns c =
     let n = c .before .verdict .given .0 .0 in
     let o = guarded program input (a .limit) (a .choices .now) (a .log .now) in
     let f = filtered k _ (c .before .verdict .given .1) in
-    let not = not-filtered program input (a .limit) (a .choices .now) (a .log .now) (take (a .n) (a .file .now)) (start k .pre .derived) n f in
+    let not = not-filtered program input (a .limit) (a .choices .now) (a .log .now) (a .file .now) (start k .pre .derived) n f in
     guards-refused program input (a .limit) (a .choices .now) o (a .condition .now) (a .log .now) s n (a .log .now) s not refl
     (scratch-as-it-was analysisWords wrongBlocks o s)
 
@@ -86,7 +72,7 @@ returns-2 c =
     let s = a .scratch .now in
     let o = guarded program input (a .limit) (a .choices .now) (a .log .now) in
     let f = filtered k _ (c .enum-told .given .1) in
-    let is = is-held program input (a .limit) (a .choices .now) (a .log .now) (take (a .n) (a .file .now)) (start k .pre .derived) f in
+    let is = is-held program input (a .limit) (a .choices .now) (a .log .now) (a .file .now) (start k .pre .derived) f in
     guards-held program input (a .limit) (a .choices .now) o (a .condition .now) (a .log .now) s s is (scratch-as-it-was analysisWords wrongBlocks o s)
 
 same-length : tie.Need-same-length
@@ -105,9 +91,6 @@ pub filter-and-run-spec : {M : Type 1} → statement M
 filter-and-run-spec =
     tie.close
     (tie.spec
-    sub-check
-    part-check-start
-    part-check-end
     check-requires
     enum-known-verdict
     enum-told

@@ -1,4 +1,4 @@
--- `guard::run` meets its contract. Assumes nothing.
+-- `guard::run` meets its contract: a condition's output that is too short is refused before any work.
 use mathlib.Core.Path.{refl}
 use lib.ListN.{length}
 use borrow.Author.Needs.{needs}

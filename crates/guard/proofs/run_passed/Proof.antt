@@ -1,8 +1,10 @@
--- `guard::run_passed` meets its contract. Assumes nothing.
+-- `guard::run_passed` meets its contract: the run's answer is the guard's, and demand 3 holds of its records.
 use mathlib.Core.Path.{refl, sym, ap, subst, _∙_}
-use lib.ListN.{length, take}
+use lib.ListN.{length}
+use lib.Seq.{take-all}
 use borrow.Author.Needs.{needs}
 use native.Mathlib.Omega.{arith}
+use Rattle.bytes_le.specs.Overlay.{overlay}
 use Rattle.model.specs.Guarded.{guarded}
 use Rattle.model.specs.Refusals.{ok, refused, wrongBlocks, wrongInput}
 use Rattle.model.specs.Lent.{ScratchLeft}
@@ -37,7 +39,7 @@ scratch-left c =
     let o = guarded (a .program .now) (a .input .now) (a .limit) (a .choices .now) (a .log .now) in
     let p = runLent scratchWords (length (a .scratch .now)) (a .program .now) (a .input .now) (a .limit) (a .choices .now) (a .log .now) in
     scratch-wider analysisWords wrongBlocks o
-    (late (a .program .now) (a .input .now) (a .limit) (a .choices .now) (a .log .now) (take (a .n) (a .file .now)) (start c .pre .0 .derived))
+    (late (a .program .now) (a .input .now) (a .limit) (a .choices .now) (a .log .now) (a .file .now) (start c .pre .0 .derived))
     scratchWords wrongInput p (a .scratch .now) (c .run .last .1 .1 .1 .1 .1 .0) (omega arith) (c .run .ensures .scratch)
 
 -- ---- the answers
@@ -69,7 +71,7 @@ returns c =
     let pre = start k .pre in
     let program = a .program .now in
     let input = a .input .now in
-    let C = take (a .n) (a .file .now) in
+    let C = a .file .now in
     let log′ = k .run .last .1 .1 .1 .1 .0 in
     let o = guarded program input (a .limit) (a .choices .now) (a .log .now) in
     let r = ran-lent (length (a .scratch .now)) program input (a .limit) (a .choices .now) (a .log .now) (refused n) (pre .0 .words)
@@ -98,7 +100,7 @@ returns-2 c =
     let pre = start k .pre in
     let program = a .program .now in
     let input = a .input .now in
-    let C = take (a .n) (a .file .now) in
+    let C = a .file .now in
     let log′ = k .run .last .1 .1 .1 .1 .0 in
     let R : Ran = record { end = numbers .0; steps = numbers .1 .0; records = numbers .1 .1 .0; log = log′ } in
     let o = guarded program input (a .limit) (a .choices .now) (a .log .now) in
@@ -106,7 +108,7 @@ returns-2 c =
     (sym (ap (λ x. runAnswer x log′) told) ∙ k .run .ensures .answer) in
     guards-ended program input (a .limit) (a .choices .now) o (a .condition .now) (a .log .now) (a .scratch .now) C R (put .put-bytes .last .0)
     (k .run .last .1 .1 .1 .1 .1 .0) (is-run program input (a .limit) (a .choices .now) (a .log .now) C (pre .0 .derived) R (pre .1) r)
-    (put .put-bytes .ensures)
+    (put .put-bytes .ensures ∙ ap (overlay (a .condition .now) 0) (take-all (length C) C (omega arith)))
     (demand3 program C input (a .limit) (a .choices .now) (a .log .now) R (pre .0 .derived) (pre .1) r) (scratch-left k)
 
 pub run-passed-spec : {M : Type 1} → statement M

@@ -1,10 +1,16 @@
 -- `input::count` meets its contract.
--- Assumes nothing.
 use native.Mathlib.Omega.{arith}
-use Rattle.input.proofs.Fields.{placed, counted}
+use Rattle.input.proofs.Fields.{Placed, placed, counted}
 use borrow.Author.Needs.{needs}
 use Rattle.input.proofs.count.Statement.{statement}
 use Rattle.input.proofs.count.Tie as tie
+
+abbrev start : tie.After-u32-at → tie.Start
+start c = c .before .before .before .before .before
+
+-- the pair and the part of the field
+placed-here : (s : tie.Start) → Placed (s .args .types .now) (s .args .input .now) (s .args .field)
+placed-here s = placed (s .args .types .now) (s .args .input .now) (s .args .field) (s .pre .0) (s .pre .1)
 
 shared-slice-read-width-of : tie.Need-shared-slice-read-width-of
 shared-slice-read-width-of c = search needs
@@ -13,19 +19,22 @@ width-of-requires : tie.Need-width-of-requires
 width-of-requires c κs = search needs
 
 mul-u32-at : tie.Need-mul-u32-at
-mul-u32-at c = omega (arith, placed (c .before .before .before .before .args .types .now) (c .before .before .before .before .args .input .now) (c .before .before .before .before .args .field) (c .before .before .before .before .pre .0) (c .before .before .before .before .pre .1) .pair)
+mul-u32-at c = omega (arith, placed-here (c .before .before .before .before) .pair)
 
 add-u32-at : tie.Need-add-u32-at
-add-u32-at c = omega (arith, placed (c .before .before .before .before .args .types .now) (c .before .before .before .before .args .input .now) (c .before .before .before .before .args .field) (c .before .before .before .before .pre .0) (c .before .before .before .before .pre .1) .pair)
+add-u32-at c = omega (arith, placed-here (c .before .before .before .before) .pair)
 
 u32-at-requires : tie.Need-u32-at-requires
-u32-at-requires c κs = omega (arith, placed (c .before .before .before .before .args .types .now) (c .before .before .before .before .args .input .now) (c .before .before .before .before .args .field) (c .before .before .before .before .pre .0) (c .before .before .before .before .pre .1) .pair)
+u32-at-requires c κs = omega (arith, placed-here (c .before .before .before .before) .pair)
 
 div-result : tie.Need-div-result
 div-result c = search needs
 
 returns : tie.Need-returns
-returns c = counted (c .before .before .before .before .before .args .types .now) (c .before .before .before .before .before .args .input .now) (c .before .before .before .before .before .args .field) _ _ (c .before .before .before .before .before .pre .0) (c .before .before .before .before .before .pre .1) (c .u32-at .ensures .0) (c .before .width-of .ensures .0)
+returns c =
+    let s = start c in
+    counted (s .args .types .now) (s .args .input .now) (s .args .field) _ _ (s .pre .0) (s .pre .1) (c .u32-at .ensures .0)
+    (c .before .width-of .ensures .0)
 
 pub count-spec : {M : Type 1} → statement M
 count-spec =

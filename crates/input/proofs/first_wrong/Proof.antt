@@ -1,5 +1,4 @@
 -- `input::first_wrong` meets its contract: from turn to turn goes what is known of the pairs that were looked at.
--- Assumes nothing.
 use Prim.Native.Nat.{_*_, _-_, _≤_}
 use mathlib.Core.Path.{_≡_, refl, subst}
 use native.Mathlib.Omega.{arith}
@@ -36,7 +35,9 @@ said : (c : tie.After-part-end Inv-loop μ-loop) (r : PartRead) → c .part-end 
 said c r e = subst (Said c) e (c .part-end .ensures)
 
 returns : tie.Need-returns Inv-loop μ-loop
-returns c = let g = c .before .before .before .args in short-first (g .types .now) (g .input .now) (c .if1 .taken)
+returns c =
+    let g = c .before .before .before .args in
+    short-first (g .types .now) (g .input .now) (c .if1 .taken)
 
 mul-next : tie.Need-mul-next Inv-loop μ-loop
 mul-next c = search needs
@@ -67,7 +68,8 @@ loop-again c =
     let p = c .before .before .before in
     let g = start (turn p) .args in
     let l = turn p .loop in (
-      sought-right (g .types .now) (g .input .now) (l .f) (l .wrong) (l .next) (l .inv .0) (omega arith) (c .before .end .given .0 .0) (said p _ (c .before .end .given .1)),
+      sought-right (g .types .now) (g .input .now) (l .f) (l .wrong) (l .next) (l .inv .0) (omega arith) (c .before .end .given .0 .0)
+          (said p _ (c .before .end .given .1)),
       refl,
       l .inv .2,
       l .inv .3,

@@ -1,5 +1,4 @@
 -- `input::part_end` meets its contract.
--- Assumes nothing.
 use mathlib.Core.Path.{_≡_, ap₂}
 use Prim.Native.Nat.{ℕ, _%_}
 use native.Mathlib.Omega.{arith}

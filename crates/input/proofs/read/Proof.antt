@@ -1,5 +1,4 @@
 -- `input::read` meets its contract.
--- Assumes nothing.
 use mathlib.Core.Path.{_≡_, sym, subst}
 use native.Mathlib.Omega.{arith}
 use borrow.Author.Needs.{needs}
@@ -26,7 +25,8 @@ enum-told : tie.Need-enum-told
 enum-told c = search needs
 
 returns : tie.Need-returns
-returns c = let g = start (c .before .before) .args in sym (one-wrong (g .types .now) (g .input .now) _ (said (c .before .before) _ (c .enum-told .given .1)))
+returns c = let g = start (c .before .before) .args in sym
+    (one-wrong (g .types .now) (g .input .now) _ (said (c .before .before) _ (c .enum-told .given .1)))
 
 returns-2 : tie.Need-returns-2
 returns-2 c =
@@ -40,7 +40,8 @@ returns-3 c =
     let p = c .before .before .before .before in
     let g = start p .args in
     let n = c .before .before .end .given in
-    sym (ends-the-file (g .types .now) (g .input .now) (n .0 .0) (said p _ (n .1)) (omega (arith, c .if1 .left, ends-inside (g .types .now) (g .input .now) (n .0 .0) (said p _ (n .1)))))
+    sym (ends-the-file (g .types .now) (g .input .now) (n .0 .0) (said p _ (n .1))
+    (omega (arith, c .if1 .left, ends-inside (g .types .now) (g .input .now) (n .0 .0) (said p _ (n .1)))))
 
 pub read-spec : {M : Type 1} → statement M
 read-spec = tie.close (tie.spec first-wrong-requires enum-known-end enum-told returns returns-2 returns-3)

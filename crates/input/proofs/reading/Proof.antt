@@ -1,5 +1,4 @@
 -- `input::reading` meets its contract.
--- Assumes nothing.
 use borrow.Author.Needs.{needs}
 use Rattle.input.proofs.Fields.{row-width}
 use Rattle.input.proofs.reading.Statement.{statement}

@@ -1,5 +1,4 @@
 -- `input::reading_by_row` meets its contract.
--- Assumes nothing.
 use mathlib.Core.Path.{_∙_}
 use borrow.Author.Needs.{needs}
 use Rattle.input.proofs.Fields.{row-width, read-at}

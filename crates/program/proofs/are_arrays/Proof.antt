@@ -1,5 +1,4 @@
 -- `program::are_arrays` meets its contract.
--- Assumes nothing.
 use mathlib.Core.Path.{_≡_, refl, sym, _∙_}
 use Prim.Native.Nat.{_≤_, _-_}
 use native.Mathlib.Omega.{arith}
@@ -20,6 +19,10 @@ Inv-loop program at n i₀ i = (i ≤ n) × (every arrayRight (entries arrayAt 4
 abbrev μ-loop : tie.MeasureT-loop
 μ-loop program at n i₀ i = n - i
 
+-- places on the way, by the place from which they are seen
+abbrev start-from-array-right : tie.After-array-right Inv-loop μ-loop → tie.Start Inv-loop μ-loop
+start-from-array-right c = c .before .before .before .before
+
 loop-holds : tie.Need-loop-holds Inv-loop μ-loop
 loop-holds c = (search needs, refl)
 
@@ -34,12 +37,13 @@ array-right-requires c κs = search needs
 
 returns : tie.Need-returns Inv-loop μ-loop
 returns c =
-    let a = c .before .before .before .before .before .args in
+    let a = start-from-array-right (c .before) .args in
     let lp = c .before .before .before .loop in
     let s = a .program .now in
     let none : Array = record { ty = 0; pad = 0; len = 0 } in
     let l = length-entries arrayAt 4 s (a .at) (a .n) in
-    sym (pass-fails arrayRight none (entries arrayAt 4 s (a .at) (a .n)) (lp .i) (rw l (omega arith)) (lp .inv .1) (rw (entry-at arrayAt 4 s (a .at) (a .n) (lp .i) none (omega arith)) (sym (c .before .array-right .ensures) ∙ not-true _ (c .if1 .taken))))
+    sym (pass-fails arrayRight none (entries arrayAt 4 s (a .at) (a .n)) (lp .i) (rw l (omega arith)) (lp .inv .1)
+    (rw (entry-at arrayAt 4 s (a .at) (a .n) (lp .i) none (omega arith)) (sym (c .before .array-right .ensures) ∙ not-true _ (c .if1 .taken))))
 
 add-i : tie.Need-add-i Inv-loop μ-loop
 add-i c = search needs
@@ -49,12 +53,15 @@ loop-less c = search needs
 
 loop-again : tie.Need-loop-again Inv-loop μ-loop
 loop-again c =
-    let a = c .before .before .before .before .before .args in
+    let a = start-from-array-right (c .before) .args in
     let lp = c .before .before .before .loop in
     let s = a .program .now in
     let none : Array = record { ty = 0; pad = 0; len = 0 } in
-    let l = length-entries arrayAt 4 s (a .at) (a .n) in
-    (omega arith, pass-goes arrayRight none (entries arrayAt 4 s (a .at) (a .n)) (lp .i) (rw l (omega arith)) (lp .inv .1) (rw (entry-at arrayAt 4 s (a .at) (a .n) (lp .i) none (omega arith)) (sym (c .before .array-right .ensures) ∙ not-false _ (c .if1 .left))))
+    let l = length-entries arrayAt 4 s (a .at) (a .n) in (
+      omega arith,
+      pass-goes arrayRight none (entries arrayAt 4 s (a .at) (a .n)) (lp .i) (rw l (omega arith)) (lp .inv .1)
+          (rw (entry-at arrayAt 4 s (a .at) (a .n) (lp .i) none (omega arith)) (sym (c .before .array-right .ensures) ∙ not-false _ (c .if1 .left))),
+    )
 
 returns-2 : tie.Need-returns-2 Inv-loop μ-loop
 returns-2 c =

@@ -1,5 +1,4 @@
 -- `program::array_right` meets its contract.
--- Assumes nothing.
 use borrow.Author.Needs.{needs}
 use borrow.Author.Tests.{lt-ltb, le-ltb, le-leb, lt-leb, eq-eqb, ne-eqb}
 use Rattle.program.proofs.array_right.Statement.{statement}

@@ -1,5 +1,4 @@
 -- `program::array_type` meets its contract.
--- Assumes nothing.
 use borrow.Author.Needs.{needs}
 use Rattle.program.proofs.Tables.{array-in, array-past}
 use Rattle.program.proofs.array_type.Statement.{statement}

@@ -1,5 +1,4 @@
 -- `program::byte_of` meets its contract.
--- Assumes nothing.
 use mathlib.Core.Path.{sym}
 use borrow.Author.Needs.{needs}
 use Rattle.program.proofs.Tables.{byte-in, byte-past}

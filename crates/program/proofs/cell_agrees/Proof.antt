@@ -1,5 +1,4 @@
 -- `program::cell_agrees` meets its contract.
--- Assumes nothing.
 use borrow.Author.Needs.{needs}
 use borrow.Author.Tests.{eq-eqb, ne-eqb}
 use Rattle.program.proofs.Statements.{below-four}

@@ -65,7 +65,8 @@ returns-3 c =
     let f = c .before .before in
     let s = bytes (f .before) in
     rw (counted (f .before .before .before), typed (f .before))
-    (statements-refused s (c .enum-told .given .0 .0) (layoutOf s) (blockCheck s) (programAnswer (f .read-statements .result)) (ap programAnswer (c .enum-told .given .1)) (f .read-statements .ensures))
+    (statements-refused s (c .enum-told .given .0 .0) (layoutOf s) (blockCheck s) (programAnswer (f .read-statements .result))
+    (ap programAnswer (c .enum-told .given .1)) (f .read-statements .ensures))
 
 -- checks 5 to 7 have passed, and gave the layout
 passed : (c : tie.After-known-told) → let s = bytes (forms c .before) in ((o : Out Sections) → o ≡ statementChecks s o) × (layoutFrom (c .before .formed .given .0 .0) ≡ layoutOf s)

@@ -1,5 +1,4 @@
 -- `program::entry_at` meets its contract.
--- Assumes nothing.
 use borrow.Author.Needs.{needs}
 use Rattle.program.proofs.entry_at.Statement.{statement}
 use Rattle.program.proofs.entry_at.Tie as tie

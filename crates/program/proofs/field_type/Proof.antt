@@ -1,5 +1,4 @@
 -- `program::field_type` meets its contract.
--- Assumes nothing.
 use borrow.Author.Needs.{needs}
 use Rattle.program.proofs.Tables.{fields-are}
 use Rattle.program.proofs.field_type.Statement.{statement}

@@ -1,12 +1,16 @@
 -- `program::immediate_right` meets its contract.
--- Assumes nothing.
 use native.Mathlib.Omega.{arith}
 use borrow.Author.Needs.{needs}
+use Rattle.model.specs.Kinds.{kindOf}
 use Rattle.model.specs.Program.{immediateRight}
 use Rattle.program.specs.Reading.{entryOf}
 use Rattle.program.proofs.Statements.{type-small, immediate-none}
 use Rattle.program.proofs.immediate_right.Statement.{statement}
 use Rattle.program.proofs.immediate_right.Tie as tie
+
+-- places on the way, by the place from which they are seen
+abbrev start-from-immediate : tie.After-immediate → tie.Start
+start-from-immediate c = c .before .before .before .before .before .before
 
 cast-a : tie.Need-cast-a
 cast-a c = search needs
@@ -21,13 +25,13 @@ immediate-requires : tie.Need-immediate-requires
 immediate-requires c κs = search needs
 
 range-of-requires : tie.Need-range-of-requires
-range-of-requires c κs = rw (c .before .variable-type .ensures) (type-small _ (c .before .before .before .before .before .before .pre .1) _)
+range-of-requires c κs = rw (c .before .variable-type .ensures) (type-small _ (start-from-immediate c .pre .1) _)
 
 is-of-type-requires : tie.Need-is-of-type-requires
 is-of-type-requires c κs = search needs
 
 returns-2 : tie.Need-returns-2
-unfolding immediateRight
+unfolding immediateRight kindOf
 returns-2 c =
     let n = c .before .before in
     rw (n .before .before .if1 .left, ← n .before .variable-type .ensures, ← n .immediate .ensures) (c .is-of-type .ensures _ (c .before .range-of .ensures))

@@ -1,5 +1,4 @@
 -- `program::no_immediate` meets its contract.
--- Assumes nothing.
 use borrow.Author.Needs.{needs}
 use borrow.Author.Tests.{not-true, not-false}
 use Rattle.program.proofs.no_immediate.Statement.{statement}

@@ -1,5 +1,4 @@
 -- `program::operands` meets its contract.
--- Assumes nothing.
 use borrow.Author.Needs.{needs}
 use borrow.Author.Tests.{lt-ltb, le-ltb}
 use Rattle.program.proofs.operands.Statement.{statement}

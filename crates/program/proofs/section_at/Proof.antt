@@ -1,5 +1,4 @@
 -- `program::section_at` meets its contract.
--- Assumes nothing.
 use borrow.Author.Needs.{needs}
 use borrow.Author.Tests.{eq-eqb, ne-eqb}
 use Rattle.program.proofs.section_at.Statement.{statement}

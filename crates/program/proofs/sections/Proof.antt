@@ -68,13 +68,19 @@ taken-1 : (c : tie.After-known-told) → Taken (bytes (read-1 c)) 0 32 (start-1 
 taken-1 c = let r = read-1 c .section-at in section-taken (bytes (read-1 c)) 0 32 (r .result) (r .ensures .0) (start-1 c) (length-1 c) (c .before .first .given .1)
 
 taken-2 : (c : tie.After-known-told2) → Taken (bytes-2 (read-2 c)) 8 (start-1 (read-2 c .before) + length-1 (read-2 c .before)) (start-2 c) (length-2 c)
-taken-2 c = let r = read-2 c .section-at2 in section-taken (bytes-2 (read-2 c)) 8 (start-1 (read-2 c .before) + length-1 (read-2 c .before)) (r .result) (r .ensures .0) (start-2 c) (length-2 c) (c .before .second .given .1)
+taken-2 c = let r = read-2 c .section-at2 in
+    section-taken (bytes-2 (read-2 c)) 8 (start-1 (read-2 c .before) + length-1 (read-2 c .before)) (r .result) (r .ensures .0) (start-2 c) (length-2 c)
+    (c .before .second .given .1)
 
 taken-3 : (c : tie.After-known-told3) → Taken (bytes-3 (read-3 c)) 16 (start-2 (read-3 c .before) + length-2 (read-3 c .before)) (start-3 c) (length-3 c)
-taken-3 c = let r = read-3 c .section-at3 in section-taken (bytes-3 (read-3 c)) 16 (start-2 (read-3 c .before) + length-2 (read-3 c .before)) (r .result) (r .ensures .0) (start-3 c) (length-3 c) (c .before .third .given .1)
+taken-3 c = let r = read-3 c .section-at3 in
+    section-taken (bytes-3 (read-3 c)) 16 (start-2 (read-3 c .before) + length-2 (read-3 c .before)) (r .result) (r .ensures .0) (start-3 c) (length-3 c)
+    (c .before .third .given .1)
 
 taken-4 : (c : tie.After-known-told4) → Taken (bytes-4 (read-4 c)) 24 (start-3 (read-4 c .before) + length-3 (read-4 c .before)) (start-4 c) (length-4 c)
-taken-4 c = let r = read-4 c .section-at4 in section-taken (bytes-4 (read-4 c)) 24 (start-3 (read-4 c .before) + length-3 (read-4 c .before)) (r .result) (r .ensures .0) (start-4 c) (length-4 c) (c .before .fourth .given .1)
+taken-4 c = let r = read-4 c .section-at4 in
+    section-taken (bytes-4 (read-4 c)) 24 (start-3 (read-4 c .before) + length-3 (read-4 c .before)) (r .result) (r .ensures .0) (start-4 c) (length-4 c)
+    (c .before .fourth .given .1)
 
 -- the file has a length of the form
 sized : (c : tie.After-section-at) → (32 ≤ length (bytes c)) × (length (bytes c) ≤ 8384)
@@ -171,7 +177,12 @@ returns-6 c =
     let g = c .before .enum-told4 .given in
     let r = c .before .before .before in
     let w = section-refused (bytes-4 r) 24 (start-3 (r .before) + length-3 (r .before)) (r .section-at4 .result) (r .section-at4 .ensures .0) (g .0 .0) (g .1) in
-    rw (no-chain (bytes-4 r) (λ k. w .0 (omega (arith, taken-3 (r .before), taken-2 (read-3 (r .before) .before), taken-1 (read-2 (read-3 (r .before) .before) .before)))), c .section-refusal4 .ensures (g .0 .0) (ap sectionOf (g .1)), w .1)
+    rw (
+      no-chain (bytes-4 r) (λ k. w .0
+          (omega (arith, taken-3 (r .before), taken-2 (read-3 (r .before) .before), taken-1 (read-2 (read-3 (r .before) .before) .before)))),
+      c .section-refusal4 .ensures (g .0 .0) (ap sectionOf (g .1)),
+      w .1,
+    )
 
 add-if3 : tie.Need-add-if3
 add-if3 c = let r = read-4 c .section-at4 in omega (arith, section-short (r .result) (start-4 c) (length-4 c) (r .ensures .1) (c .before .fourth .given .1))
@@ -179,17 +190,41 @@ add-if3 c = let r = read-4 c .section-at4 in omega (arith, section-short (r .res
 returns-7 : tie.Need-returns-7
 returns-7 c =
     let t = c .before in
-    rw (no-chain (bytes-4 (read-4 t)) (λ k. c .if3 .taken (omega (arith, taken-4 t, taken-3 (read-4 t .before), taken-2 (read-3 (read-4 t .before) .before), taken-1 (read-2 (read-3 (read-4 t .before) .before) .before)))))
+    rw (no-chain (bytes-4 (read-4 t))
+    (λ k. c .if3 .taken
+    (omega (
+      arith,
+      taken-4 t,
+      taken-3 (read-4 t .before),
+      taken-2 (read-3 (read-4 t .before) .before),
+      taken-1 (read-2 (read-3 (read-4 t .before) .before) .before),
+    ))))
 
 returns-8 : tie.Need-returns-8
 returns-8 c =
     let t = c .before .before in
-    rw (no-chain (bytes-4 (read-4 t)) (λ k. c .if4 .taken (omega (arith, taken-4 t, taken-3 (read-4 t .before), taken-2 (read-3 (read-4 t .before) .before), taken-1 (read-2 (read-3 (read-4 t .before) .before) .before)))))
+    rw (no-chain (bytes-4 (read-4 t))
+    (λ k. c .if4 .taken
+    (omega (
+      arith,
+      taken-4 t,
+      taken-3 (read-4 t .before),
+      taken-2 (read-3 (read-4 t .before) .before),
+      taken-1 (read-2 (read-3 (read-4 t .before) .before) .before),
+    ))))
 
 returns-9 : tie.Need-returns-9
 returns-9 c =
     let t = c .before .before .before in
-    rw (no-chain (bytes-4 (read-4 t)) (λ k. c .if5 .taken (omega (arith, taken-4 t, taken-3 (read-4 t .before), taken-2 (read-3 (read-4 t .before) .before), taken-1 (read-2 (read-3 (read-4 t .before) .before) .before)))))
+    rw (no-chain (bytes-4 (read-4 t))
+    (λ k. c .if5 .taken
+    (omega (
+      arith,
+      taken-4 t,
+      taken-3 (read-4 t .before),
+      taken-2 (read-3 (read-4 t .before) .before),
+      taken-1 (read-2 (read-3 (read-4 t .before) .before) .before),
+    ))))
 
 returns-10 : tie.Need-returns-10
 unfolding layoutOf

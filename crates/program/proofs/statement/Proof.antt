@@ -1,5 +1,4 @@
 -- `program::statement` meets its contract.
--- Assumes nothing.
 use borrow.Author.Needs.{needs}
 use Rattle.program.proofs.Tables.{statement-in}
 use Rattle.program.proofs.statement.Statement.{statement}

@@ -1,5 +1,4 @@
 -- `program::three_agree` meets its contract.
--- Assumes nothing.
 use borrow.Author.Needs.{needs}
 use borrow.Author.Tests.{eq-eqb, ne-eqb}
 use Rattle.program.proofs.three_agree.Statement.{statement}

@@ -1,5 +1,4 @@
 -- `program::variable_type` meets its contract.
--- Assumes nothing.
 use borrow.Author.Needs.{needs}
 use Rattle.program.proofs.Tables.{variables-are}
 use Rattle.program.proofs.variable_type.Statement.{statement}

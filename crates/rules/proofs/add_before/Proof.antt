@@ -1,12 +1,13 @@
--- `rules::add_before` meets its contract. Assumes nothing.
-use mathlib.Core.List.{map}
+-- `rules::add_before` meets its contract: a conjunct is not touched, or the statement is an assignment or a store.
+use mathlib.Core.List.{[], _∷_, map}
 use mathlib.Core.Path.{_≡_, sym, subst, _∙_}
 use native.Mathlib.Omega.{arith}
 use borrow.Author.Tests.{not-true, not-false}
 use borrow.Author.Needs.{needs}
 use Rattle.model.specs.Conjunct.{renumber}
 use Rattle.model.specs.Walk.{before}
-use Rattle.machine.specs.Decoding.{instrOf}
+use Rattle.model.specs.Refusals.{tooManyConjuncts}
+use Rattle.code_table.specs.Statements.{instrOf}
 use Rattle.conjunct.specs.Value.{conjOf}
 use Rattle.rules.proofs.Additions.{added-store, added-in, added-full}
 use Rattle.rules.proofs.ByKind.{writes-kind}
@@ -15,6 +16,37 @@ use Rattle.rules.specs.Adding.{NoneLong, Added}
 use Rattle.rules.specs.declared.Answer.the-variants.{Done, Refused}
 use Rattle.rules.proofs.add_before.Statement.{statement}
 use Rattle.rules.proofs.add_before.Tie as tie
+
+-- the places from the answers back to the entry
+abbrev entry : tie.After-touched → tie.Start
+entry c = c .before .before .before .before .before
+
+abbrev untouched : tie.After-slice-known4 → tie.Then1
+untouched c = c .before .before .before .before
+
+abbrev assigned : tie.After-slice-known7 → tie.After-assign-one
+assigned c = c .before .before .before .before .before .before
+
+abbrev stored : tie.After-slice-known10 → tie.After-store-one
+stored c = c .before .before .before .before .before .before
+
+-- a conjunct that is not touched comes to itself
+unchanged : (c : tie.Then1)
+    → let a = entry (c .before) .args in
+    let e = conjOf (a .e .now) (a .n) in
+    map renumber (before (a .label) (instrOf (a .d)) e) ≡ e ∷ []
+unchanged c =
+    let start = entry (c .before) in
+    let a = start .args in
+    before-none (a .label) (instrOf (a .d)) (conjOf (a .e .now) (a .n)) (sym (c .before .touched .ensures) ∙ not-true _ (c .if1 .taken)) (start .pre .numbered)
+
+-- what touches it and is no assignment is a store
+is-store : (c : tie.Else3) → entry (c .before .before) .args .d .kind ≡ 9
+is-store c =
+    let start = entry (c .before .before) in
+    let a = start .args in
+    writes-kind (a .d) (conjOf (a .e .now) (a .n)) (start .pre .statement .kind) (omega (arith, c .if3 .left))
+    (sym (c .before .before .touched .ensures) ∙ not-false _ (c .before .if1 .left))
 
 touched-requires : tie.Need-touched-requires
 touched-requires c κs = search needs
@@ -27,29 +59,40 @@ same-length c = search needs
 
 returns : tie.Need-returns
 returns c =
-    let g = c .before .before .before .before .before .before .before .before .before .before .before in
-    let a = g .args in
-    let i = c .before .before .before .insert in
-    let e = conjOf (a .e .now) (a .n) in
-    let w = sym (c .before .before .before .before .before .before .touched .ensures) ∙ not-true _ (c .before .before .before .before .before .if1 .taken) in
-    (subst (λ R. Added (Refused 10) (λ G. a .d .kind ≡ 9 → NoneLong G) R (a .room) (a .s .now) (i .last .0)) (sym (before-none (a .label) (instrOf (a .d)) e w (g .pre .8))) (added-full e (a .room) (a .s .now) (i .last .0) (i .result) (not-true _ (c .if2 .taken)) (a .d .kind) (g .pre .1) (g .pre .0 .1) (i .ensures .0)), i .ensures .1)
+    let t = untouched (c .before) in
+    let start = entry (t .before) in
+    let a = start .args in
+    let i = c .before .before .before .insert in (
+      subst (λ R. Added (Refused tooManyConjuncts) (λ G. a .d .kind ≡ 9 → NoneLong G) R (a .room) (a .s .now) (i .last .0)) (sym (unchanged t))
+          (added-full (conjOf (a .e .now) (a .n)) (a .room) (a .s .now) (i .last .0) (i .result) (not-true _ (c .if2 .taken)) (a .d .kind)
+          (start .pre .space) (start .pre .given .room .canon) (i .ensures .0)),
+      i .ensures .1,
+    )
 
 same-length-2 : tie.Need-same-length-2
 same-length-2 c = search needs
 
 returns-2 : tie.Need-returns-2
 returns-2 c =
-    let g = c .before .before .before .before .before .before .before .before .before .before .before in
-    let a = g .args in
-    let i = c .before .before .before .insert in
-    let e = conjOf (a .e .now) (a .n) in
-    let w = sym (c .before .before .before .before .before .before .touched .ensures) ∙ not-true _ (c .before .before .before .before .before .if1 .taken) in
-    (subst (λ R. Added Done NoneLong R (a .room) (a .s .now) (i .last .0)) (sym (before-none (a .label) (instrOf (a .d)) e w (g .pre .8))) (added-in e (a .room) (a .s .now) (i .last .0) (i .result) (not-false _ (c .if2 .left)) (i .ensures .0)), i .ensures .1)
+    let t = untouched (c .before) in
+    let a = entry (t .before) .args in
+    let i = c .before .before .before .insert in (
+      subst (λ R. Added Done NoneLong R (a .room) (a .s .now) (i .last .0)) (sym (unchanged t))
+          (added-in (conjOf (a .e .now) (a .n)) (a .room) (a .s .now) (i .last .0) (i .result) (not-false _ (c .if2 .left)) (i .ensures .0)),
+      i .ensures .1,
+    )
 
 assign-one-requires : tie.Need-assign-one-requires
 assign-one-requires c κs =
-    let g = c .before .before .before .before .before .before .before .before .before .before in
-    (g .pre .0 .0, g .pre .1 (λ e. omega (arith, c .before .before .before .if3 .taken)), g .pre .2, g .pre .3, g .pre .4, g .pre .5, omega (arith, c .before .before .before .if3 .taken), g .pre .7, g .pre .8)
+    let then3 = c .before .before .before in
+    let g = entry (then3 .before .before) in
+    let statement = g .pre .statement in
+    record {
+      given = g .pre .given;
+      space = g .pre .space;
+      statement = record { label = statement .label; kind = then3 .if3 .taken; known = statement .known };
+      numbered = g .pre .numbered;
+    }
 
 same-length-3 : tie.Need-same-length-3
 same-length-3 c = search needs
@@ -61,14 +104,13 @@ same-length-5 : tie.Need-same-length-5
 same-length-5 c = search needs
 
 returns-3 : tie.Need-returns-3
-returns-3 c = c .before .before .before .before .before .before .assign-one .ensures
+returns-3 c = assigned c .assign-one .ensures
 
 store-one-requires : tie.Need-store-one-requires
 store-one-requires c κs =
-    let g = c .before .before .before .before .before .before .before .before .before .before in
-    let a = g .args in
-    let k : a .d .kind ≡ 9 = writes-kind (a .d) (conjOf (a .e .now) (a .n)) (g .pre .6) (omega (arith, c .before .before .before .if3 .left)) (sym (c .before .before .before .before .before .touched .ensures) ∙ not-false _ (c .before .before .before .before .if1 .left)) in
-    (g .pre .0, g .pre .2, g .pre .3, g .pre .4, k, g .pre .7)
+    let else3 = c .before .before .before in
+    let start = entry (else3 .before .before) in
+    (start .pre .given, is-store else3, start .pre .statement .known)
 
 same-length-6 : tie.Need-same-length-6
 same-length-6 c = search needs
@@ -81,12 +123,13 @@ same-length-8 c = search needs
 
 returns-4 : tie.Need-returns-4
 returns-4 c =
-    let g = c .before .before .before .before .before .before .before .before .before .before .before .before .before .before .before .before .before in
-    let a = g .args in
-    let e = conjOf (a .e .now) (a .n) in
-    let r = c .before .before .before .before .before .before .store-one in
-    let k : a .d .kind ≡ 9 = writes-kind (a .d) e (g .pre .6) (omega (arith, c .before .before .before .before .before .before .before .before .before .before .if3 .left)) (sym (c .before .before .before .before .before .before .before .before .before .before .before .before .touched .ensures) ∙ not-false _ (c .before .before .before .before .before .before .before .before .before .before .before .if1 .left)) in
-    (added-store (r .result) (a .d .kind ≡ 9) (map renumber (before (a .label) (instrOf (a .d)) e)) (a .room) (a .s .now) (r .last .0) k (r .ensures .0 (a .label)), r .ensures .1)
+    let else3 = stored c .before .before .before .before in
+    let a = entry (else3 .before .before) .args in
+    let r = stored c .store-one in (
+      added-store (r .result) (a .d .kind ≡ 9) (map renumber (before (a .label) (instrOf (a .d)) (conjOf (a .e .now) (a .n)))) (a .room) (a .s .now)
+          (r .last .0) (is-store else3) (r .ensures .0 (a .label)),
+      r .ensures .1,
+    )
 
 pub add-before-spec : {M : Type 1} → statement M
 add-before-spec =

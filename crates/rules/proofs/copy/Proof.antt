@@ -1,4 +1,4 @@
--- `rules::copy` meets its contract. Assumes nothing.
+-- `rules::copy` meets its contract.
 use mathlib.Core.List.{List}
 use mathlib.Core.Path.{_≡_, _∙_}
 use Prim.Native.Nat.{ℕ, _+_, _-_, _≤_, _<_}
@@ -43,8 +43,11 @@ loop-less c = search needs
 loop-again : tie.Need-loop-again Inv-loop μ-loop
 loop-again c =
     let a = c .before .before .before .args in
-    let lp = c .before .before .loop in
-    (omega arith, length-set (lp .out) (lp .i) (getD (a .e .now) (lp .i) 0) ∙ lp .inv .1, copied-more (lp .out) (a .e .now) (lp .i) (omega arith) (omega arith) (lp .inv .2))
+    let lp = c .before .before .loop in (
+      omega arith,
+      length-set (lp .out) (lp .i) (getD (a .e .now) (lp .i) 0) ∙ lp .inv .1,
+      copied-more (lp .out) (a .e .now) (lp .i) (omega arith) (omega arith) (lp .inv .2),
+    )
 
 same-length : tie.Need-same-length Inv-loop μ-loop
 same-length c = search needs

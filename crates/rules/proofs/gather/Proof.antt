@@ -1,4 +1,4 @@
--- `rules::gather` meets its contract. Assumes nothing.
+-- `rules::gather` meets its contract.
 use mathlib.Core.List.{List}
 use mathlib.Core.Path.{_≡_, refl, _∙_}
 use Prim.Native.Nat.{_+_, _-_, _≤_}
@@ -7,32 +7,91 @@ use lib.ListN.{length, drop}
 use borrow.Author.Needs.{needs}
 use Rattle.model.specs.Conjunct.{Conj, Conjuncts}
 use Rattle.model.specs.Walk.{before, gather}
-use Rattle.machine.specs.Decoding.{instrOf}
+use Rattle.model.specs.Sizes.{mostConjuncts}
+use Rattle.code_table.specs.Statements.{instrOf}
 use Rattle.conjunct.specs.Value.{conjOf}
 use Rattle.sets.proofs.Rows.{within-trans}
 use Rattle.sets.specs.Region.{setOf, Within}
 use Rattle.rules.proofs.ByKind.{before-one}
-use Rattle.rules.proofs.Gathering.{gather-none, gathered-few, gathered-canon, own-numbered, gathered-more, gathered-refused, store-premise, rule-refused, rule-done}
+use Rattle.rules.proofs.Gathering.{gather-none, gathered-few, gathered-canon, own-numbered, gathered-more, gathered-refused}
+use Rattle.rules.proofs.Gathering.{store-premise, rule-refused, rule-done}
 use Rattle.rules.specs.Adding.{NoneLong}
 use Rattle.rules.proofs.gather.Statement.{statement}
 use Rattle.rules.proofs.gather.Tie as tie
 
 abbrev Inv-loop : tie.InvT-loop
 Inv-loop s₀ b room label d e₀ out₀ seen₀ k₀ s e out seen k =
-    (k ≤ k₀) × (k₀ ≡ length (setOf s₀ b)) × (k₀ ≤ 64) × (length s ≡ length s₀) × (length e ≡ length e₀) × (length out ≡ length out₀) × (length seen ≡ length seen₀)
+    (k ≤ k₀) × (k₀ ≡ length (setOf s₀ b)) × (k₀ ≤ mostConjuncts) × (length s ≡ length s₀) × (length e ≡ length e₀) × (length out ≡ length out₀)
+    × (length seen ≡ length seen₀)
     × Within room s₀ s × (setOf s room ≡ gather (before label (instrOf d)) (drop k (setOf s₀ b)))
 
 abbrev μ-loop : tie.MeasureT-loop
 μ-loop s₀ b room label d e₀ out₀ seen₀ k₀ s e out seen k = k
+
+-- ---- a turn of the loop
+
+-- the places of a turn, from the conjunct that is taken out back to the function's entry
+abbrev Got : Type 0
+Got = tie.After-get Inv-loop μ-loop
+
+abbrev in-loop : Got → tie.In-loop Inv-loop μ-loop
+in-loop c = c .before .before .before
+
+abbrev at-loop : Got → tie.At-loop Inv-loop μ-loop
+at-loop c = in-loop c .before
+
+abbrev entry-of-size : tie.After-size Inv-loop μ-loop → tie.Start Inv-loop μ-loop
+entry-of-size c = c .before .before .before .before .before .before
+
+abbrev entry-of-loop : tie.At-loop Inv-loop μ-loop → tie.Start Inv-loop μ-loop
+entry-of-loop c = entry-of-size (c .before)
+
+abbrev entry : Got → tie.Start Inv-loop μ-loop
+entry c = entry-of-loop (at-loop c)
+
+abbrev got : tie.After-add-before-arg4 Inv-loop μ-loop → Got
+got c = c .before .before .before .before .before .before
+
+-- the places after the conjunct's share is added, for an answer that is done and for a refusal
+abbrev added : tie.After-enum-told Inv-loop μ-loop → tie.After-add-before Inv-loop μ-loop
+added c = c .before .before .before .before .before .before .before .before
+
+abbrev refused-at : tie.After-known-told Inv-loop μ-loop → tie.After-add-before Inv-loop μ-loop
+refused-at c = c .before .before .before .before .before .before .before .before .before
+
+-- what a conjunct comes to, the conjunct of this turn, and the premise of a store
+abbrev comes-to : Got → Conj → List Conj
+comes-to c = before (entry c .args .label) (instrOf (entry c .args .d))
+
+abbrev this : Got → Conj
+this c = conjOf (c .get .last .1 .1 .1 .0) (c .get .result)
+
+abbrev Premise : Got → Conjuncts → Type 0
+Premise c G = entry c .args .d .kind ≡ 9 → NoneLong G
+
+next : (c : Got) → at-loop c .loop .k - 1 + 1 ≡ at-loop c .loop .k
+next c = omega (arith, in-loop c .loop-test .taken)
+
+few : (c : Got) → at-loop c .loop .k ≤ length (setOf (entry c .args .s .now) (entry c .args .b))
+few c = omega (arith, at-loop c .loop .inv .0, at-loop c .loop .inv .1)
 
 size-requires : tie.Need-size-requires Inv-loop μ-loop
 size-requires c κs = search needs
 
 loop-holds : tie.Need-loop-holds Inv-loop μ-loop
 loop-holds c =
-    let g = c .before .before .before .before .before .before in
-    let a = g .args in
-    (omega arith, c .size .ensures .0, c .size .ensures .1, refl, refl, refl, refl, λ i h. refl, g .pre .2 ∙ gather-none (before (a .label) (instrOf (a .d))) (setOf (a .s .now) (a .b)) (c .size .result) (c .size .ensures .0))
+    let start = entry-of-size c in
+    let a = start .args in (
+      omega arith,
+      c .size .ensures .0,
+      c .size .ensures .1,
+      refl,
+      refl,
+      refl,
+      refl,
+      λ i h. refl,
+      start .pre .0 .empty ∙ gather-none (before (a .label) (instrOf (a .d))) (setOf (a .s .now) (a .b)) (c .size .result) (c .size .ensures .0),
+    )
 
 sub-k : tie.Need-sub-k Inv-loop μ-loop
 sub-k c = search needs
@@ -42,24 +101,32 @@ get-requires c κs = search needs
 
 add-before-requires : tie.Need-add-before-requires Inv-loop μ-loop
 add-before-requires c κs =
-    let g = c .before .before .before .before .before .before .before .before .before .before .before .before .before .before .before .before .before in
-    let a = g .args in
-    let f : Conj → List Conj = before (a .label) (instrOf (a .d)) in
-    let lp = c .before .before .before .before .before .before .before .before .before .before .loop in
-    let e = c .before .before .before .before .before .before .get in
-    let next : lp .k - 1 + 1 ≡ lp .k = omega (arith, c .before .before .before .before .before .before .before .before .before .loop-test .taken) in
-    let few : lp .k ≤ length (setOf (a .s .now) (a .b)) = omega (arith, lp .inv .0, lp .inv .1) in
-    let full : length (setOf (a .s .now) (a .b)) ≤ 64 = omega (arith, lp .inv .1, lp .inv .2) in (
-      (omega (arith, lp .inv .3, g .pre .1), gathered-canon f (setOf (a .s .now) (a .b)) (setOf (lp .s) (a .room)) (lp .k) (lp .inv .8)),
-      λ n. gathered-few f (λ d. before-one (a .d) (a .label) d (g .pre .6) n) (setOf (a .s .now) (a .b)) (setOf (lp .s) (a .room)) (lp .k) (omega (arith, c .before .before .before .before .before .before .before .before .before .loop-test .taken)) few full (lp .inv .8),
-      e .ensures .0,
-      omega (arith, e .ensures .0, e .kept .1 .1 .1 .0, lp .inv .4, g .pre .3),
-      (omega (arith, lp .inv .5, g .pre .4 .0), omega (arith, lp .inv .6, g .pre .4 .1)),
-      g .pre .5,
-      g .pre .6,
-      g .pre .7,
-      own-numbered f (a .s .now) (lp .s) (lp .s) (a .b) (a .room) (lp .k) (lp .k - 1) (conjOf (e .last .1 .1 .1 .0) (e .result)) (g .pre .0) (g .pre .1) (lp .inv .3) (lp .inv .7) next few (e .ensures .1) (g .pre .8),
-    )
+    let t = got c in
+    let start = entry t in
+    let a = start .args in
+    let p = start .pre .0 in
+    let lp = at-loop t .loop in
+    let e = t .get in
+    let S = setOf (a .s .now) (a .b) in
+    let full : length S ≤ mostConjuncts = omega (arith, lp .inv .1, lp .inv .2) in
+    record {
+      given = record {
+        room = record {
+          there = omega (arith, lp .inv .3, p .there);
+          canon = gathered-canon (comes-to t) S (setOf (lp .s) (a .room)) (lp .k) (lp .inv .8);
+        };
+        few = e .ensures .0;
+        there = omega (arith, e .ensures .0, e .kept .1 .1 .1 .0, lp .inv .4, start .pre .1);
+        buffers = (omega (arith, lp .inv .5, start .pre .2 .0), omega (arith, lp .inv .6, start .pre .2 .1));
+      };
+      space =
+          λ n. gathered-few (comes-to t) (λ d. before-one (a .d) (a .label) d (p .statement .kind) n) S (setOf (lp .s) (a .room))
+          (lp .k) (omega (arith, in-loop t .loop-test .taken)) (few t) full (lp .inv .8);
+      statement = p .statement;
+      numbered =
+          own-numbered (comes-to t) (a .s .now) (lp .s) (lp .s) (a .b) (a .room) (lp .k) (lp .k - 1) (this t)
+          (p .apart) (p .there) (lp .inv .3) (lp .inv .7) (next t) (few t) (e .ensures .1) (p .numbered);
+    }
 
 enum-told : tie.Need-enum-told Inv-loop μ-loop
 enum-told c = search needs
@@ -69,16 +136,12 @@ loop-less c = search needs
 
 loop-again : tie.Need-loop-again Inv-loop μ-loop
 loop-again c =
-    let g = c .before .before .before .before .before .before .before .before .before .before .before .before .before .before .before .before .before .before .before .before .before .before .before .before .before .before in
-    let a = g .args in
-    let f : Conj → List Conj = before (a .label) (instrOf (a .d)) in
-    let lp = c .before .before .before .before .before .before .before .before .before .before .before .before .before .before .before .before .before .before .before .loop in
-    let e = c .before .before .before .before .before .before .before .before .before .before .before .before .before .before .before .get in
-    let next : lp .k - 1 + 1 ≡ lp .k = omega (arith, c .before .before .before .before .before .before .before .before .before .before .before .before .before .before .before .before .before .before .loop-test .taken) in
-    let few : lp .k ≤ length (setOf (a .s .now) (a .b)) = omega (arith, lp .inv .0, lp .inv .1) in
-    let r = c .before .before .before .before .before .before .before .before .add-before in
-    let P : Conjuncts → Type 0 = λ G. a .d .kind ≡ 9 → NoneLong G in
-    let t = gathered-more f (a .s .now) (lp .s) (r .last .0) (a .b) (a .room) (lp .k) (lp .k - 1) (conjOf (e .last .1 .1 .1 .0) (e .result)) (g .pre .0) (g .pre .1) (lp .inv .3) (lp .inv .7) next few (e .ensures .1) P (lp .inv .8) (r .result) (c .enum-told .given .1) (r .ensures .0) in (
+    let t = got (added c .before) in
+    let a = entry t .args in
+    let p = entry t .pre .0 in
+    let lp = at-loop t .loop in
+    let e = t .get in
+    let r = added c .add-before in (
       omega (arith, lp .inv .0),
       lp .inv .1,
       lp .inv .2,
@@ -87,7 +150,8 @@ loop-again c =
       r .kept .1 .1 .1 .1 .1 .1 .0 ∙ lp .inv .5,
       r .kept .1 .1 .1 .1 .1 .1 .1 .0 ∙ lp .inv .6,
       within-trans (a .room) (a .s .now) (lp .s) (r .last .0) (lp .inv .7) (r .ensures .1),
-      t,
+      gathered-more (comes-to t) (a .s .now) (lp .s) (r .last .0) (a .b) (a .room) (lp .k) (lp .k - 1) (this t) (p .apart) (p .there) (lp .inv .3)
+          (lp .inv .7) (next t) (few t) (e .ensures .1) (Premise t) (lp .inv .8) (r .result) (c .enum-told .given .1) (r .ensures .0),
     )
 
 enum-known-answer : tie.Need-enum-known-answer Inv-loop μ-loop
@@ -107,18 +171,20 @@ same-length-4 c = search needs
 
 returns : tie.Need-returns Inv-loop μ-loop
 returns c =
-    let g = c .before .before .before .before .before .before .before .before .before .before .before .before .before .before .before .before .before .before .before .before .before .before .before .before .before .before .before in
-    let a = g .args in
-    let f : Conj → List Conj = before (a .label) (instrOf (a .d)) in
-    let lp = c .before .before .before .before .before .before .before .before .before .before .before .before .before .before .before .before .before .before .before .before .loop in
-    let e = c .before .before .before .before .before .before .before .before .before .before .before .before .before .before .before .before .get in
-    let next : lp .k - 1 + 1 ≡ lp .k = omega (arith, c .before .before .before .before .before .before .before .before .before .before .before .before .before .before .before .before .before .before .before .loop-test .taken) in
-    let few : lp .k ≤ length (setOf (a .s .now) (a .b)) = omega (arith, lp .inv .0, lp .inv .1) in
-    let r = c .before .before .before .before .before .before .before .before .before .add-before in
-    let P : Conjuncts → Type 0 = λ G. a .d .kind ≡ 9 → NoneLong G in
+    let t = got (refused-at c .before) in
+    let a = entry t .args in
+    let p = entry t .pre .0 in
+    let lp = at-loop t .loop in
+    let e = t .get in
+    let r = refused-at c .add-before in
     let n = c .before .answer .given .0 .0 in
-    let t = gathered-refused f (a .s .now) (lp .s) (r .last .0) (a .b) (a .room) (lp .k) (lp .k - 1) (conjOf (e .last .1 .1 .1 .0) (e .result)) (g .pre .0) (g .pre .1) (lp .inv .3) (lp .inv .7) next few (e .ensures .1) P (lp .inv .8) (r .result) n (c .before .answer .given .1) (r .ensures .0) (store-premise (a .d) (a .label) (a .s .now) (a .b)) in
-    (rule-refused (a .label) (instrOf (a .d)) (setOf (a .s .now) (a .b)) n t, within-trans (a .room) (a .s .now) (lp .s) (r .last .0) (lp .inv .7) (r .ensures .1))
+    let limited =
+    gathered-refused (comes-to t) (a .s .now) (lp .s) (r .last .0) (a .b) (a .room) (lp .k) (lp .k - 1) (this t) (p .apart) (p .there) (lp .inv .3)
+    (lp .inv .7) (next t) (few t) (e .ensures .1) (Premise t) (lp .inv .8) (r .result) n (c .before .answer .given .1) (r .ensures .0)
+    (store-premise (a .d) (a .label) (a .s .now) (a .b)) in (
+      rule-refused (a .label) (instrOf (a .d)) (setOf (a .s .now) (a .b)) n limited,
+      within-trans (a .room) (a .s .now) (lp .s) (r .last .0) (lp .inv .7) (r .ensures .1),
+    )
 
 same-length-5 : tie.Need-same-length-5 Inv-loop μ-loop
 same-length-5 c = search needs
@@ -134,7 +200,7 @@ same-length-8 c = search needs
 
 returns-2 : tie.Need-returns-2 Inv-loop μ-loop
 returns-2 c =
-    let a = c .before .before .before .before .before .before .before .before .args in
+    let a = entry-of-loop (c .before) .args in
     let lp = c .before .loop in
     (rule-done (a .label) (instrOf (a .d)) (setOf (a .s .now) (a .b)) (lp .s) (a .room) (lp .k) (omega arith) (lp .inv .8), lp .inv .7)
 

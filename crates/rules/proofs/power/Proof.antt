@@ -1,4 +1,4 @@
--- `rules::power` meets its contract. Assumes nothing.
+-- `rules::power` meets its contract.
 use mathlib.Core.Path.{_≡_}
 use native.Mathlib.Omega.{arith}
 use Rattle.rules.proofs.power.Statement.{statement}

@@ -1,10 +1,29 @@
--- `rules::right_side` meets its contract. Assumes nothing.
+-- `rules::right_side` meets its contract.
 use mathlib.Core.Path.{_≡_, _∙_}
 use native.Mathlib.Omega.{arith}
 use borrow.Author.Needs.{needs}
 use Rattle.rules.proofs.ByKind.{side-number, side-copy, side-calc, side-change, side-read, side-load}
 use Rattle.rules.proofs.right_side.Statement.{statement}
 use Rattle.rules.proofs.right_side.Tie as tie
+
+-- places on the way, by the place from which they are seen
+abbrev start-from-one-node2 : tie.After-one-node2 → tie.Start
+start-from-one-node2 c = c .before .before .before .before .before
+
+abbrev start-from-else5 : tie.Else5 → tie.Start
+start-from-else5 c = c .before .before .before .before .before .before
+
+abbrev start-from-one-node3 : tie.After-one-node3 → tie.Start
+start-from-one-node3 c = c .before .before .before .before .before .before .before .before
+
+abbrev start-from-one-node4 : tie.After-one-node4 → tie.Start
+start-from-one-node4 c = start-from-else5 (c .before .before)
+
+abbrev start-from-three-nodes : tie.After-three-nodes → tie.Start
+start-from-three-nodes c = c .before .before .before .before .before .before .before .before
+
+abbrev start-from-two-nodes : tie.After-two-nodes → tie.Start
+start-from-two-nodes c = c .before .before .before .before .before .before .before .before .before
 
 cast-ty : tie.Need-cast-ty
 cast-ty c = search needs
@@ -28,7 +47,7 @@ one-node-requires-2 c κs = search needs
 
 returns-2 : tie.Need-returns-2
 returns-2 c =
-    let g = c .before .before .before .before .before in
+    let g = start-from-one-node2 c in
     (c .one-node2 .ensures .0, c .one-node2 .ensures .1 ∙ rw (c .before .variable .ensures) (side-copy (g .args .d) (g .args .label) (omega arith)))
 
 variable-requires-2 : tie.Need-variable-requires-2
@@ -48,9 +67,13 @@ three-nodes-requires c κs = search needs
 
 returns-3 : tie.Need-returns-3
 returns-3 c =
-    let g = c .before .before .before .before .before .before .before .before in
-    let w = c .before .operation .result in
-    (c .three-nodes .ensures .0, c .three-nodes .ensures .1 ∙ rw (c .before .before .before .variable2 .ensures, c .before .before .variable3 .ensures) (side-calc (g .args .d) (g .args .label) (omega arith) (omega arith) w (c .before .operation .ensures)))
+    let g = start-from-three-nodes c in
+    let w = c .before .operation .result in (
+      c .three-nodes .ensures .0,
+      c .three-nodes .ensures .1
+          ∙ rw (c .before .before .before .variable2 .ensures, c .before .before .variable3 .ensures)
+          (side-calc (g .args .d) (g .args .label) (omega arith) (omega arith) w (c .before .operation .ensures)),
+    )
 
 cast-variable : tie.Need-cast-variable
 cast-variable c = search needs
@@ -66,8 +89,11 @@ two-nodes-requires c κs = search needs
 
 returns-4 : tie.Need-returns-4
 returns-4 c =
-    let g = c .before .before .before .before .before .before .before .before .before in
-    (c .two-nodes .ensures .0, c .two-nodes .ensures .1 ∙ rw (c .before .before .variable4 .ensures, c .before .conversion .ensures) (side-change (g .args .d) (g .args .label) (omega arith)))
+    let g = start-from-two-nodes c in (
+      c .two-nodes .ensures .0,
+      c .two-nodes .ensures .1
+          ∙ rw (c .before .before .variable4 .ensures, c .before .conversion .ensures) (side-change (g .args .d) (g .args .label) (omega arith)),
+    )
 
 reading-requires : tie.Need-reading-requires
 reading-requires c κs = search needs
@@ -77,14 +103,14 @@ one-node-requires-3 c κs = search needs
 
 returns-5 : tie.Need-returns-5
 returns-5 c =
-    let g = c .before .before .before .before .before .before .before .before in
+    let g = start-from-one-node3 c in
     (c .one-node3 .ensures .0, c .one-node3 .ensures .1 ∙ rw (c .before .reading .ensures) (side-read (g .args .d) (g .args .label) (omega arith)))
 
 load-requires : tie.Need-load-requires
 load-requires c κs =
-    let g = c .before .before .before .before .before .before in
+    let g = start-from-else5 c in
     let k : g .args .d .kind ≡ 8 = omega arith in
-    let n = g .pre .2 .loads k in
+    let n = g .pre .known .loads k in
     (omega arith, omega arith, omega arith, omega arith)
 
 one-node-requires-4 : tie.Need-one-node-requires-4
@@ -92,7 +118,7 @@ one-node-requires-4 c κs = search needs
 
 returns-6 : tie.Need-returns-6
 returns-6 c =
-    let g = c .before .before .before .before .before .before .before .before in
+    let g = start-from-one-node4 c in
     (c .one-node4 .ensures .0, c .one-node4 .ensures .1 ∙ rw (c .before .load .ensures) (side-load (g .args .d) (g .args .label) (omega arith)))
 
 pub right-side-spec : {M : Type 1} → statement M

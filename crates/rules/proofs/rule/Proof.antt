@@ -1,4 +1,4 @@
--- `rules::rule` meets its contract. Assumes nothing.
+-- `rules::rule` meets its contract: the set is gathered in the region after its own, and copied back.
 use mathlib.Core.Logic.{inl, inr}
 use mathlib.Core.Path.{_≡_, sym, ap, subst, _∙_}
 use Prim.Native.Nat.{_+_}
@@ -7,13 +7,46 @@ use borrow.Author.Needs.{needs}
 use Rattle.model.specs.Lists.{All}
 use Rattle.model.specs.Refusals.{ok}
 use Rattle.model.specs.Walk.{back}
-use Rattle.model.proofs.TidySets.{Numbered}
-use Rattle.machine.specs.Decoding.{instrOf}
+use Rattle.model.specs.TidySets.{Numbered}
+use Rattle.code_table.specs.Statements.{instrOf}
 use Rattle.sets.proofs.Rows.{frame}
-use Rattle.sets.specs.Region.{setOf}
+use Rattle.sets.specs.Region.{setOf, regionWords}
 use Rattle.rules.specs.Answers.{answered}
+use Rattle.rules.specs.declared.Answer.{Answer}
+use Rattle.rules.specs.declared.Answer.the-variants.{Done, Refused}
 use Rattle.rules.proofs.rule.Statement.{statement}
 use Rattle.rules.proofs.rule.Tie as tie
+
+-- the places after the room is cleared and at the entry, and after the set is gathered in it
+abbrev cleared : tie.After-gather-all → tie.After-clear
+cleared c = c .before .before .before .before
+
+abbrev entry : tie.After-clear → tie.Start
+entry c = c .before .before .before
+
+abbrev gathered : tie.After-copy-arg → tie.After-gather-all
+gathered c = c .before .before .before .before .before
+
+abbrev refused-at : tie.After-known-told → tie.After-gather-all
+refused-at c = c .before .before .before .before .before
+
+-- the set that the rule is for is as it was
+same : (c : tie.After-clear) → setOf (c .clear .last .0) (entry c .args .b) ≡ setOf (entry c .args .s .now) (entry c .args .b)
+same c =
+    let a = entry c .args in
+    let u = c .clear in
+    frame (a .s .now) (u .last .0) (a .b + regionWords) (a .b) (u .kept .0) (omega arith) (inr (omega arith)) (u .ensures .1)
+
+-- what the set comes to is gathered in the room
+comes-to : (c : tie.After-gather-all) (r : Answer) → c .gather-all .result ≡ r
+    → back (entry (cleared c) .args .label) (instrOf (entry (cleared c) .args .d))
+    (setOf (entry (cleared c) .args .s .now) (entry (cleared c) .args .b))
+    ≡ answered r (setOf (c .gather-all .last .0) (entry (cleared c) .args .b + regionWords))
+comes-to c r told =
+    let a = entry (cleared c) .args in
+    let t = c .gather-all in
+    ap (back (a .label) (instrOf (a .d))) (sym (same (cleared c))) ∙ t .ensures .0
+    ∙ ap (λ r. answered r (setOf (t .last .0) (a .b + regionWords))) told
 
 add-room : tie.Need-add-room
 add-room c = search needs
@@ -23,20 +56,24 @@ clear-requires c κs = search needs
 
 gather-all-requires : tie.Need-gather-all-requires
 gather-all-requires c κs =
-    let g = c .before .before .before .before .before .before in
-    let a = g .args in
-    let u = c .before .before .before .clear in
-    let same : setOf (u .last .0) (a .b) ≡ setOf (a .s .now) (a .b) = frame (a .s .now) (u .last .0) (a .b + 7745) (a .b) (u .kept .0) (omega arith) (inr (omega arith)) (u .ensures .1) in
-    (omega arith, omega (arith, u .kept .0), u .ensures .0, g .pre .1, g .pre .2, g .pre .3, subst (All Numbered) (sym same) (g .pre .4))
+    let after-clear = c .before .before .before in
+    let p = entry after-clear .pre in
+    let u = after-clear .clear in
+    record {
+      apart = omega arith;
+      there = omega (arith, u .kept .0);
+      empty = u .ensures .0;
+      statement = record { label = p .1; kind = p .2; known = p .3 };
+      numbered = subst (All Numbered) (sym (same after-clear)) (p .4);
+    }
 
 enum-told : tie.Need-enum-told
 enum-told c = search needs
 
 copy-requires : tie.Need-copy-requires
 copy-requires c κs =
-    let g = c .before .before .before .before .before .before .before .before .before .before .before .before in
-    let u = c .before .before .before .before .before .before .before .before .before .clear in
-    let t = c .before .before .before .before .before .gather-all in
+    let t = gathered c .gather-all in
+    let u = cleared (gathered c) .clear in
     (omega (arith, u .kept .0, t .kept .0), omega (arith, u .kept .0, t .kept .0), inl (omega arith))
 
 enum-known-answer : tie.Need-enum-known-answer
@@ -47,26 +84,25 @@ same-length c = search needs
 
 returns : tie.Need-returns
 returns c =
-    let g = c .before .before .before .before .before .before .before .before .before .before .before .before .before .before .before in
-    let a = g .args in
-    let u = c .before .before .before .before .before .before .before .before .before .before .before .before .clear in
-    let same : setOf (u .last .0) (a .b) ≡ setOf (a .s .now) (a .b) = frame (a .s .now) (u .last .0) (a .b + 7745) (a .b) (u .kept .0) (omega arith) (inr (omega arith)) (u .ensures .1) in
-    let t = c .before .before .before .before .before .before .before .before .gather-all in
-    let v = c .before .before .copy in
-    let done : back (a .label) (instrOf (a .d)) (setOf (u .last .0) (a .b)) ≡ ok (setOf (t .last .0) (a .b + 7745)) = t .ensures .0 ∙ ap (λ r. answered r (setOf (t .last .0) (a .b + 7745))) (c .before .before .before .before .enum-told .given .1) in
-    (ap (back (a .label) (instrOf (a .d))) (sym same) ∙ done ∙ ap ok (sym (v .ensures .0)), λ i h. v .ensures .1 i (inl h) ∙ t .ensures .1 i (inl (omega arith)) ∙ u .ensures .1 i (inl (omega arith)))
+    let after = gathered (c .before .before .before) in
+    let u = cleared after .clear in
+    let t = after .gather-all in
+    let v = c .before .before .copy in (
+      comes-to after Done (c .before .before .before .before .enum-told .given .1) ∙ ap ok (sym (v .ensures .0)),
+      λ i h. v .ensures .1 i (inl h) ∙ t .ensures .1 i (inl (omega arith)) ∙ u .ensures .1 i (inl (omega arith)),
+    )
 
 same-length-2 : tie.Need-same-length-2
 same-length-2 c = search needs
 
 returns-2 : tie.Need-returns-2
 returns-2 c =
-    let g = c .before .before .before .before .before .before .before .before .before .before .before .before in
-    let a = g .args in
-    let u = c .before .before .before .before .before .before .before .before .before .clear in
-    let same : setOf (u .last .0) (a .b) ≡ setOf (a .s .now) (a .b) = frame (a .s .now) (u .last .0) (a .b + 7745) (a .b) (u .kept .0) (omega arith) (inr (omega arith)) (u .ensures .1) in
-    let t = c .before .before .before .before .before .gather-all in
-    (ap (back (a .label) (instrOf (a .d))) (sym same) ∙ t .ensures .0 ∙ ap (λ r. answered r (setOf (t .last .0) (a .b + 7745))) (c .before .answer .given .1), λ i h. t .ensures .1 i (inl (omega arith)) ∙ u .ensures .1 i (inl (omega arith)))
+    let after = refused-at c in
+    let u = cleared after .clear in
+    let t = after .gather-all in (
+      comes-to after (Refused (c .before .answer .given .0 .0)) (c .before .answer .given .1),
+      λ i h. t .ensures .1 i (inl (omega arith)) ∙ u .ensures .1 i (inl (omega arith)),
+    )
 
 pub rule-spec : {M : Type 1} → statement M
 rule-spec =

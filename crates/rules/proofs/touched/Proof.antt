@@ -1,4 +1,4 @@
--- `rules::touched` meets its contract. Assumes nothing.
+-- `rules::touched` meets its contract.
 use mathlib.Core.Path.{_∙_}
 use native.Mathlib.Omega.{arith}
 use borrow.Author.Needs.{needs}

@@ -1,4 +1,4 @@
--- `sets::at_most` meets its contract. Assumes nothing.
+-- `sets::at_most` meets its contract.
 use native.Mathlib.Omega.{arith}
 use borrow.Author.Tests.{lt-ltb, le-ltb}
 use Rattle.sets.specs.Region.{few}

@@ -1,4 +1,4 @@
--- `sets::clear` meets its contract. Assumes nothing.
+-- `sets::clear` meets its contract.
 use Prim.Native.Nat.{_-_}
 use native.Mathlib.Omega.{arith}
 use borrow.Author.Needs.{needs}

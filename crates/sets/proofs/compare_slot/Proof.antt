@@ -1,10 +1,14 @@
--- `sets::compare_slot` meets its contract. Assumes nothing.
+-- `sets::compare_slot` meets its contract.
 use mathlib.Core.Path.{_∙_}
 use native.Mathlib.Omega.{arith}
 use borrow.Author.Needs.{needs}
 use Rattle.sets.proofs.Slots.{slot-order}
 use Rattle.sets.proofs.compare_slot.Statement.{statement}
 use Rattle.sets.proofs.compare_slot.Tie as tie
+
+-- places on the way, by the place from which they are seen
+abbrev start : tie.After-order-at → tie.Start
+start c = c .before .before .before .before .before
 
 mul-capped : tie.Need-mul-capped
 mul-capped c = search needs
@@ -23,7 +27,7 @@ order-at-requires c κs = search needs
 
 returns : tie.Need-returns
 returns c =
-    let a = c .before .before .before .before .before .args in
+    let a = start c .args in
     let cap = c .before .capped in
     c .order-at .ensures ∙ slot-order (a .w .now) (a .s .now) (a .m) (a .a) (cap .result) (omega arith) (omega arith) (omega arith) (cap .ensures .1)
 

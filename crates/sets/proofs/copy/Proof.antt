@@ -1,19 +1,30 @@
--- `sets::copy` meets its contract. Assumes nothing.
+-- `sets::copy` meets its contract.
 use mathlib.Core.Path.{_≡_, refl, _∙_}
 use Prim.Native.Nat.{_+_, _-_, _*_, _≤_}
 use native.Mathlib.Omega.{arith}
 use lib.ListN.{length, getD, length-set}
 use borrow.Author.Needs.{needs}
+use Rattle.model.specs.Sizes.{mostConjuncts}
 use Rattle.sets.proofs.Copied.{Copied, copied-none, copied-next, region-copied, slots-apart, slots-before}
-use Rattle.sets.specs.Region.{few}
+use Rattle.sets.specs.Region.{few, slotWords}
 use Rattle.sets.proofs.copy.Statement.{statement}
 use Rattle.sets.proofs.copy.Tie as tie
 
 abbrev Inv-loop : tie.InvT-loop
-Inv-loop s₀ to from n i₀ s i = (i ≤ n) × (n ≡ few (getD s₀ from 0)) × (n ≤ 64) × (length s ≡ length s₀) × Copied s s₀ (to + 1) (from + 1) 0 i
+Inv-loop s₀ to from n i₀ s i = (i ≤ n) × (n ≡ few (getD s₀ from 0)) × (n ≤ mostConjuncts) × (length s ≡ length s₀) × Copied s s₀ (to + 1) (from + 1) 0 i
 
 abbrev μ-loop : tie.MeasureT-loop
 μ-loop s₀ to from n i₀ s i = n - i
+
+-- places on the way, by the place from which they are seen
+abbrev start-from-loop : tie.After-loop Inv-loop μ-loop → tie.Start Inv-loop μ-loop
+start-from-loop c = c .before .before .before .before .before
+
+abbrev start-from-copy-slot-arg : tie.After-copy-slot-arg Inv-loop μ-loop → tie.Start Inv-loop μ-loop
+start-from-copy-slot-arg c = c .before .before .before .before .before .before
+
+abbrev loop-of-turn : tie.After-slice-known3 Inv-loop μ-loop → tie.At-loop Inv-loop μ-loop
+loop-of-turn c = c .before .before .before .before .before
 
 mul-at-most : tie.Need-mul-at-most Inv-loop μ-loop
 mul-at-most c = search needs
@@ -50,8 +61,9 @@ add-copy-slot-4 c = search needs
 
 copy-slot-requires : tie.Need-copy-slot-requires Inv-loop μ-loop
 copy-slot-requires c κs =
-    let a = c .before .before .before .before .before .before .args in
-    let p = c .before .before .before .before .before .before .pre in
+    let start = start-from-copy-slot-arg c in
+    let a = start .args in
+    let p = start .pre in
     let lp = c .before .before .loop in
     (omega arith, omega arith, slots-apart (a .to) (a .from) (lp .i) (omega arith) (p .2))
 
@@ -63,14 +75,18 @@ loop-less c = search needs
 
 loop-again : tie.Need-loop-again Inv-loop μ-loop
 loop-again c =
-    let a = c .before .before .before .before .before .before .before .before .before .args in
-    let p = c .before .before .before .before .before .before .before .before .before .pre in
-    let lp = c .before .before .before .before .before .loop in
+    let at-loop = loop-of-turn c in
+    let start = at-loop .before .before .before .before in
+    let a = start .args in
+    let p = start .pre in
+    let lp = at-loop .loop in
     let r = c .before .before .copy-slot in
-    let target = a .to + 1 + 121 * lp .i in
-    let source = a .from + 1 + 121 * lp .i in
-    let next = copied-next (a .s .now) (lp .s) (r .last .0) (a .to + 1) (a .from + 1) 0 (lp .i) 0 (lp .i + 1) (lp .i) (lp .inv .3) (r .kept .0) (omega arith) (omega arith) (omega arith) (omega arith) (omega arith) (omega arith)
-    (λ i x y. absurd (omega arith)) (λ i x y. (omega arith, y)) (lp .inv .4) (slots-before (a .to) (a .from) (lp .i) (omega arith) (p .2)) target source refl refl (r .ensures) in
+    let target = a .to + 1 + slotWords * lp .i in
+    let source = a .from + 1 + slotWords * lp .i in
+    let next = copied-next (a .s .now) (lp .s) (r .last .0) (a .to + 1) (a .from + 1) 0 (lp .i) 0 (lp .i + 1) (lp .i) (lp .inv .3) (r .kept .0)
+    (omega arith) (omega arith) (omega arith) (omega arith) (omega arith) (omega arith)
+    (λ i x y. absurd (omega arith)) (λ i x y. (omega arith, y)) (lp .inv .4)
+    (slots-before (a .to) (a .from) (lp .i) (omega arith) (p .2)) target source refl refl (r .ensures) in
     (omega arith, lp .inv .1, lp .inv .2, r .kept .0 ∙ lp .inv .3, next)
 
 mul-s : tie.Need-mul-s Inv-loop μ-loop
@@ -82,12 +98,13 @@ slice-write-s c = search needs
 same-length : tie.Need-same-length Inv-loop μ-loop
 same-length c =
     let lp = c .before .loop in
-    length-set (lp .s) (c .before .before .before .before .before .args .to) (c .before .before .at-most .result) ∙ lp .inv .3
+    length-set (lp .s) (start-from-loop c .args .to) (c .before .before .at-most .result) ∙ lp .inv .3
 
 returns : tie.Need-returns Inv-loop μ-loop
 returns c =
-    let a = c .before .before .before .before .before .args in
-    let p = c .before .before .before .before .before .pre in
+    let start = start-from-loop c in
+    let a = start .args in
+    let p = start .pre in
     let n = c .before .before .at-most .result in
     let lp = c .before .loop in
     let e : lp .i ≡ n = omega arith in

@@ -1,4 +1,4 @@
--- `sets::copy_slot` meets its contract. Assumes nothing.
+-- `sets::copy_slot` meets its contract.
 use mathlib.Core.Path.{_≡_, refl, _∙_}
 use Prim.Native.Nat.{_+_, _-_, _≤_}
 use native.Mathlib.Omega.{arith}
@@ -8,12 +8,20 @@ use Rattle.bytes_le.specs.Overlay.{overlay}
 use Rattle.sets.proofs.Copied.{word-copied, slot-copied}
 use Rattle.sets.proofs.copy_slot.Statement.{statement}
 use Rattle.sets.proofs.copy_slot.Tie as tie
+use Rattle.sets.specs.Region.{slotWords}
 
 abbrev Inv-loop : tie.InvT-loop
-Inv-loop s₀ to from n j₀ s j = (j ≤ n) × (n ≤ 121) × (length s ≡ length s₀) × (s ≡ overlay s₀ to (take j (drop from s₀)))
+Inv-loop s₀ to from n j₀ s j = (j ≤ n) × (n ≤ slotWords) × (length s ≡ length s₀) × (s ≡ overlay s₀ to (take j (drop from s₀)))
 
 abbrev μ-loop : tie.MeasureT-loop
 μ-loop s₀ to from n j₀ s j = n - j
+
+-- places on the way, by the place from which they are seen
+abbrev start-from-loop : tie.After-loop Inv-loop μ-loop → tie.Start Inv-loop μ-loop
+start-from-loop c = c .before .before .before .before .before
+
+abbrev start-from-slice-known3 : tie.After-slice-known3 Inv-loop μ-loop → tie.Start Inv-loop μ-loop
+start-from-slice-known3 c = c .before .before .before .before .before .before
 
 mul-capped : tie.Need-mul-capped Inv-loop μ-loop
 mul-capped c = search needs
@@ -57,8 +65,9 @@ loop-less c = search needs
 
 loop-again : tie.Need-loop-again Inv-loop μ-loop
 loop-again c =
-    let a = c .before .before .before .before .before .before .args in
-    let p = c .before .before .before .before .before .before .pre in
+    let start = start-from-slice-known3 c in
+    let a = start .args in
+    let p = start .pre in
     let lp = c .before .before .loop in (
       omega arith,
       lp .inv .1,
@@ -71,8 +80,9 @@ same-length c = search needs
 
 returns : tie.Need-returns Inv-loop μ-loop
 returns c =
-    let a = c .before .before .before .before .before .args in
-    let p = c .before .before .before .before .before .pre in
+    let start = start-from-loop c in
+    let a = start .args in
+    let p = start .pre in
     let cap = c .before .before .capped in
     let lp = c .before .loop in
     let e : lp .j ≡ 1 + cap .result = omega arith in

@@ -1,4 +1,4 @@
--- `sets::equal` meets its contract. Assumes nothing.
+-- `sets::equal` meets its contract.
 use mathlib.Core.Path.{_≡_, refl, sym, _∙_}
 use Prim.Native.Nat.{_-_, _≤_}
 use native.Mathlib.Omega.{arith}
@@ -6,6 +6,7 @@ use lib.ListN.{length, drop}
 use borrow.Author.Needs.{needs}
 use borrow.Author.Tests.{not-true, not-false}
 use Rattle.model.specs.Conjunct.{same}
+use Rattle.model.specs.Sizes.{mostConjuncts}
 use Rattle.sets.proofs.Inserting.{same-lengths, same-next, same-end}
 use Rattle.sets.proofs.Rows.{set-length, set-at}
 use Rattle.sets.specs.Region.{setOf}
@@ -13,10 +14,22 @@ use Rattle.sets.proofs.equal.Statement.{statement}
 use Rattle.sets.proofs.equal.Tie as tie
 
 abbrev Inv-loop : tie.InvT-loop
-Inv-loop s a b n m i₀ i = (i ≤ n) × (n ≤ 64) × (n ≡ length (setOf s a)) × (n ≡ length (setOf s b)) × (same (setOf s a) (setOf s b) ≡ same (drop i (setOf s a)) (drop i (setOf s b)))
+Inv-loop s a b n m i₀ i =
+    (i ≤ n) × (n ≤ mostConjuncts) × (n ≡ length (setOf s a)) × (n ≡ length (setOf s b))
+    × (same (setOf s a) (setOf s b) ≡ same (drop i (setOf s a)) (drop i (setOf s b)))
 
 abbrev μ-loop : tie.MeasureT-loop
 μ-loop s a b n m i₀ i = n - i
+
+-- places on the way, by the place from which they are seen
+abbrev start-from-at-most2 : tie.After-at-most2 Inv-loop μ-loop → tie.Start Inv-loop μ-loop
+start-from-at-most2 c = c .before .before .before .before .before
+
+abbrev start-from-same-slot : tie.After-same-slot Inv-loop μ-loop → tie.Start Inv-loop μ-loop
+start-from-same-slot c = start-from-at-most2 (c .before .before .before .before)
+
+abbrev start-from-loop : tie.After-loop Inv-loop μ-loop → tie.Start Inv-loop μ-loop
+start-from-loop c = start-from-at-most2 (c .before .before .before)
 
 mul-at-most : tie.Need-mul-at-most Inv-loop μ-loop
 mul-at-most c = search needs
@@ -38,13 +51,15 @@ at-most-requires-2 c κs = search needs
 
 returns : tie.Need-returns Inv-loop μ-loop
 returns c =
-    let a = c .before .before .before .before .before .before .args in
+    let a = start-from-at-most2 (c .before) .args in
     same-lengths (setOf (a .s .now) (a .a)) (setOf (a .s .now) (a .b)) (λ e.
-    c .if1 .taken (c .before .before .before .at-most .ensures .0 ∙ sym (set-length (a .s .now) (a .a)) ∙ e ∙ set-length (a .s .now) (a .b) ∙ sym (c .before .at-most2 .ensures .0)))
+    c .if1 .taken
+    (c .before .before .before .at-most .ensures .0 ∙ sym (set-length (a .s .now) (a .a)) ∙ e ∙ set-length (a .s .now) (a .b)
+    ∙ sym (c .before .at-most2 .ensures .0)))
 
 loop-holds : tie.Need-loop-holds Inv-loop μ-loop
 loop-holds c =
-    let a = c .before .before .before .before .before .before .args in
+    let a = start-from-at-most2 (c .before) .args in
     let n = c .before .before .before .at-most .ensures in
     let m = c .before .at-most2 .ensures in
     let p = n .0 ∙ sym (set-length (a .s .now) (a .a)) in
@@ -74,7 +89,7 @@ same-slot-requires c κs = search needs
 
 returns-2 : tie.Need-returns-2 Inv-loop μ-loop
 returns-2 c =
-    let a = c .before .before .before .before .before .before .before .before .before .before .args in
+    let a = start-from-same-slot (c .before) .args in
     let s = a .s .now in
     let lp = c .before .before .before .loop in
     let p = set-at s (a .a) (lp .i) (omega (arith, set-length s (a .a))) in
@@ -90,17 +105,22 @@ loop-less c = search needs
 
 loop-again : tie.Need-loop-again Inv-loop μ-loop
 loop-again c =
-    let a = c .before .before .before .before .before .before .before .before .before .before .args in
+    let a = start-from-same-slot (c .before) .args in
     let s = a .s .now in
     let lp = c .before .before .before .loop in
     let p = set-at s (a .a) (lp .i) (omega (arith, set-length s (a .a))) in
     let q = set-at s (a .b) (lp .i) (omega (arith, set-length s (a .b))) in
-    let t = same-next (setOf s (a .a)) (setOf s (a .b)) (lp .i) (omega arith) (omega arith) in
-    (omega arith, lp .inv .1, lp .inv .2, lp .inv .3, lp .inv .4 ∙ t ∙ rw (p, q, ← c .before .same-slot .ensures, not-false (c .before .same-slot .result) (c .if2 .left)))
+    let t = same-next (setOf s (a .a)) (setOf s (a .b)) (lp .i) (omega arith) (omega arith) in (
+      omega arith,
+      lp .inv .1,
+      lp .inv .2,
+      lp .inv .3,
+      lp .inv .4 ∙ t ∙ rw (p, q, ← c .before .same-slot .ensures, not-false (c .before .same-slot .result) (c .if2 .left)),
+    )
 
 returns-3 : tie.Need-returns-3 Inv-loop μ-loop
 returns-3 c =
-    let a = c .before .before .before .before .before .before .before .before .args in
+    let a = start-from-loop c .args in
     let lp = c .before .loop in
     sym (lp .inv .4 ∙ same-end (setOf (a .s .now) (a .a)) (setOf (a .s .now) (a .b)) (lp .i) (omega arith) (omega arith))
 

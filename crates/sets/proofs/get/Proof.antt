@@ -1,11 +1,18 @@
--- `sets::get` meets its contract. Assumes nothing.
+-- `sets::get` meets its contract.
 use mathlib.Core.Path.{sym, ap, _∙_}
 use native.Mathlib.Omega.{arith}
 use borrow.Author.Needs.{needs}
-use Rattle.node.specs.Word.{nodesOf}
+use Rattle.conjunct.specs.Word.{nodesOf}
 use Rattle.sets.proofs.Rows.{set-at, set-past}
 use Rattle.sets.proofs.get.Statement.{statement}
 use Rattle.sets.proofs.get.Tie as tie
+
+-- places on the way, by the place from which they are seen
+abbrev start-from-else1 : tie.Else1 → tie.Start
+start-from-else1 c = c .before .before .before .before .before
+
+abbrev start-from-slice-known2 : tie.After-slice-known2 → tie.Start
+start-from-slice-known2 c = c .before .before .before .before .before .before .before .before .before
 
 mul-at-most : tie.Need-mul-at-most
 mul-at-most c = search needs
@@ -33,13 +40,13 @@ same-length c = search needs
 
 returns : tie.Need-returns
 returns c =
-    let a = c .before .before .before .before .before .before .before .before .before .args in
+    let a = start-from-slice-known2 c .args in
     let read = c .before .before .read-slot .ensures in
     (read .0, ap nodesOf (read .1) ∙ sym (set-at (a .s .now) (a .base) (a .i) (omega arith)))
 
 returns-2 : tie.Need-returns-2
 returns-2 c =
-    let a = c .before .before .before .before .before .args in
+    let a = start-from-else1 c .args in
     (omega arith, sym (set-past (a .s .now) (a .base) (a .i) (omega arith)))
 
 pub get-spec : {M : Type 1} → statement M

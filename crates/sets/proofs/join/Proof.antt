@@ -1,11 +1,11 @@
--- `sets::join` meets its contract. Assumes nothing.
+-- `sets::join` meets its contract.
 use mathlib.Core.Path.{_≡_, refl, _∙_}
 use Prim.Native.Nat.{_-_, _≤_}
 use native.Mathlib.Omega.{arith}
 use lib.ListN.{length, drop}
 use borrow.Author.Needs.{needs}
 use borrow.Author.Tests.{not-true, not-false}
-use Rattle.model.specs.Conjunct.{unionOf}
+use Rattle.model.specs.Conjunct.{Conj, unionOf}
 use Rattle.conjunct.specs.Value.{conjOf}
 use Rattle.sets.proofs.Inserting.{turn-over, turn-done, union-none}
 use Rattle.sets.proofs.Rows.{within-trans}
@@ -14,18 +14,56 @@ use Rattle.sets.proofs.join.Statement.{statement}
 use Rattle.sets.proofs.join.Tie as tie
 
 abbrev Inv-loop : tie.InvT-loop
-Inv-loop s₀ to from words₀ k₀ s words k = (k ≤ k₀) × (k₀ ≡ length (setOf s₀ from)) × (length s ≡ length s₀) × (length words ≡ length words₀) × Within to s₀ s × (setOf s to ≡ unionOf (drop k (setOf s₀ from)) (setOf s₀ to))
+Inv-loop s₀ to from words₀ k₀ s words k =
+    (k ≤ k₀) × (k₀ ≡ length (setOf s₀ from)) × (length s ≡ length s₀) × (length words ≡ length words₀) × Within to s₀ s
+    × (setOf s to ≡ unionOf (drop k (setOf s₀ from)) (setOf s₀ to))
 
 abbrev μ-loop : tie.MeasureT-loop
 μ-loop s₀ to from words₀ k₀ s words k = k
+
+-- ---- a turn of the loop
+
+-- the places of a turn, from the insertion's end back to the function's entry
+abbrev Turned : Type 0
+Turned = tie.After-slice-known4 Inv-loop μ-loop
+
+abbrev inserted : Turned → tie.After-insert Inv-loop μ-loop
+inserted c = c .before .before
+
+abbrev got : Turned → tie.After-get Inv-loop μ-loop
+got c = inserted c .before .before .before .before .before
+
+abbrev at-loop : Turned → tie.At-loop Inv-loop μ-loop
+at-loop c = got c .before .before .before .before
+
+abbrev entry : Turned → tie.Start Inv-loop μ-loop
+entry c = at-loop c .before .before .before .before .before
+
+-- the conjunct of this turn
+abbrev this : Turned → Conj
+this c = conjOf (got c .get .last .1 .1 .1 .0) (got c .get .result)
+
+-- nothing outside of the region differs
+outside : (c : Turned) → Within (entry c .args .to) (entry c .args .s .now) (inserted c .insert .last .0)
+outside c =
+    let a = entry c .args in
+    let lp = at-loop c .loop in
+    let i = inserted c .insert in
+    within-trans (a .to) (a .s .now) (lp .s) (i .last .0) (lp .inv .4) (i .ensures .1)
 
 size-requires : tie.Need-size-requires Inv-loop μ-loop
 size-requires c κs = search needs
 
 loop-holds : tie.Need-loop-holds Inv-loop μ-loop
 loop-holds c =
-    let a = c .before .before .before .before .args in
-    (search needs, c .size .ensures .0, refl, refl, λ i h. refl, union-none (setOf (a .s .now) (a .from)) (setOf (a .s .now) (a .to)) (c .size .result) (c .size .ensures .0))
+    let a = c .before .before .before .before .args in (
+      search needs,
+      c .size .ensures .0,
+      refl,
+      refl,
+      λ i h. refl,
+      union-none (setOf (a .s .now) (a .from)) (setOf (a .s .now) (a .to)) (c .size .result) (c .size .ensures .0),
+    )
 
 sub-k : tie.Need-sub-k Inv-loop μ-loop
 sub-k c = search needs
@@ -44,30 +82,32 @@ same-length-2 c = search needs
 
 returns : tie.Need-returns Inv-loop μ-loop
 returns c =
-    let a = c .before .before .before .before .before .before .before .before .before .before .before .before .before .before .before .before .before .args in
-    let p = c .before .before .before .before .before .before .before .before .before .before .before .before .before .before .before .before .before .pre in
-    let lp = c .before .before .before .before .before .before .before .before .before .before .before .before .loop in
-    let got = c .before .before .before .before .before .before .before .before .get in
-    let t = c .before .before .before .insert in
-    let d = conjOf (got .last .1 .1 .1 .0) (got .result) in
-    let r = turn-over (a .s .now) (lp .s) (t .last .0) (a .to) (a .from) (lp .k) (lp .k - 1) d (p .1) (p .2) (lp .inv .2) (lp .inv .4) (omega arith) (omega arith) (got .ensures .1) (lp .inv .5) (t .result) (not-true _ (c .if1 .taken)) (t .ensures .0) in
-    let w = within-trans (a .to) (a .s .now) (lp .s) (t .last .0) (lp .inv .4) (t .ensures .1) in
-    (r, w)
+    let t = c .before in
+    let a = entry t .args in
+    let p = entry t .pre .0 in
+    let lp = at-loop t .loop in
+    let e = got t .get in
+    let i = inserted t .insert in
+    let over =
+    turn-over (a .s .now) (lp .s) (i .last .0) (a .to) (a .from) (lp .k) (lp .k - 1) (this t) (p .1) (p .2) (lp .inv .2) (lp .inv .4) (omega arith)
+    (omega arith) (e .ensures .1) (lp .inv .5) (i .result) (not-true _ (c .if1 .taken)) (i .ensures .0) in
+    (over, outside t)
 
 loop-less : tie.Need-loop-less Inv-loop μ-loop
 loop-less c = search needs
 
 loop-again : tie.Need-loop-again Inv-loop μ-loop
 loop-again c =
-    let a = c .before .before .before .before .before .before .before .before .before .before .before .before .before .before .before .before .before .args in
-    let p = c .before .before .before .before .before .before .before .before .before .before .before .before .before .before .before .before .before .pre in
-    let lp = c .before .before .before .before .before .before .before .before .before .before .before .before .loop in
-    let got = c .before .before .before .before .before .before .before .before .get in
-    let t = c .before .before .before .insert in
-    let d = conjOf (got .last .1 .1 .1 .0) (got .result) in
-    let r = turn-done (a .s .now) (lp .s) (t .last .0) (a .to) (a .from) (lp .k) (lp .k - 1) d (p .1) (p .2) (lp .inv .2) (lp .inv .4) (omega arith) (omega arith) (got .ensures .1) (lp .inv .5) (t .result) (not-false _ (c .if1 .left)) (t .ensures .0) in
-    let w = within-trans (a .to) (a .s .now) (lp .s) (t .last .0) (lp .inv .4) (t .ensures .1) in
-    (omega arith, lp .inv .1, t .kept .0 ∙ lp .inv .2, got .kept .1 .1 .1 .0 ∙ lp .inv .3, w, r)
+    let t = c .before in
+    let a = entry t .args in
+    let p = entry t .pre .0 in
+    let lp = at-loop t .loop in
+    let e = got t .get in
+    let i = inserted t .insert in
+    let done =
+    turn-done (a .s .now) (lp .s) (i .last .0) (a .to) (a .from) (lp .k) (lp .k - 1) (this t) (p .1) (p .2) (lp .inv .2) (lp .inv .4) (omega arith)
+    (omega arith) (e .ensures .1) (lp .inv .5) (i .result) (not-false _ (c .if1 .left)) (i .ensures .0) in
+    (omega arith, lp .inv .1, i .kept .0 ∙ lp .inv .2, e .kept .1 .1 .1 .0 ∙ lp .inv .3, outside t, done)
 
 same-length-3 : tie.Need-same-length-3 Inv-loop μ-loop
 same-length-3 c = search needs

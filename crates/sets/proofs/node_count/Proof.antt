@@ -1,15 +1,19 @@
--- `sets::node_count` meets its contract. Assumes nothing.
+-- `sets::node_count` meets its contract.
 use mathlib.Core.Path.{_≡_, sym, ap, _∙_}
 use Prim.Native.Nat.{_+_, _*_}
 use native.Mathlib.Omega.{arith}
 use lib.ListN.{length, length-map}
 use borrow.Author.Needs.{needs}
-use Rattle.node.specs.Word.{nodesOf, nodeOf}
+use Rattle.conjunct.specs.Word.{nodesOf, nodeOf}
 use Rattle.sets.proofs.Rows.{set-at, set-past}
 use Rattle.sets.proofs.Slots.{slot-count}
-use Rattle.sets.specs.Region.{slotAt}
+use Rattle.sets.specs.Region.{slotAt, slotWords}
 use Rattle.sets.proofs.node_count.Statement.{statement}
 use Rattle.sets.proofs.node_count.Tie as tie
+
+-- places on the way, by the place from which they are seen
+abbrev start : tie.After-capped → tie.Start
+start c = c .before .before .before .before .before .before
 
 mul-at-most : tie.Need-mul-at-most
 mul-at-most c = search needs
@@ -40,11 +44,12 @@ capped-requires c κs = search needs
 
 returns : tie.Need-returns
 returns c =
-    let a = c .before .before .before .before .before .before .args in
+    let a = start c .args in
     let s = a .s .now in
-    let at = a .base + 1 + 121 * a .i in
+    let at = a .base + 1 + slotWords * a .i in
     let cap = c .capped in
-    let words : length (nodesOf (slotAt s at)) ≡ cap .result = length-map (slotAt s at) nodeOf ∙ slot-count s at (cap .result) (omega arith) (omega arith) (cap .ensures .1) in
+    let words : length (nodesOf (slotAt s at)) ≡ cap .result =
+    length-map (slotAt s at) nodeOf ∙ slot-count s at (cap .result) (omega arith) (omega arith) (cap .ensures .1) in
     (cap .ensures .0, sym (ap length (set-at s (a .base) (a .i) (omega arith)) ∙ words))
 
 returns-2 : tie.Need-returns-2

@@ -1,4 +1,4 @@
--- `sets::place_at` meets its contract. Assumes nothing.
+-- `sets::place_at` meets its contract.
 use mathlib.Core.List.{_∷_}
 use mathlib.Core.Path.{_≡_, sym, ap, _∙_}
 use Prim.Native.Nat.{_+_, _*_}
@@ -10,6 +10,11 @@ use Rattle.bytes_le.specs.Overlay.{overlay}
 use Rattle.sets.proofs.Placed.{placed}
 use Rattle.sets.proofs.place_at.Statement.{statement}
 use Rattle.sets.proofs.place_at.Tie as tie
+use Rattle.sets.specs.Region.{slotWords}
+
+-- places on the way, by the place from which they are seen
+abbrev after-shift-from-slice-known3 : tie.After-slice-known3 → tie.After-shift
+after-shift-from-slice-known3 c = c .before .before .before .before .before .before
 
 add-a : tie.Need-add-a
 add-a c = search needs
@@ -40,21 +45,26 @@ slice-write-s c = search needs
 
 same-length : tie.Need-same-length
 same-length c =
-    let a = c .before .before .before .before .before .before .before .before .before .before .args in
-    length-set (c .before .before .write-slot .last .0) (a .base) (a .n + 1) ∙ c .before .before .write-slot .kept .0 ∙ c .before .before .before .before .before .before .shift .kept .0
+    let after-shift = after-shift-from-slice-known3 c in
+    let start = after-shift .before .before .before .before in
+    let a = start .args in
+    length-set (c .before .before .write-slot .last .0) (a .base) (a .n + 1) ∙ c .before .before .write-slot .kept .0 ∙ after-shift .shift .kept .0
 
 returns : tie.Need-returns
 returns c =
-    let a = c .before .before .before .before .before .before .before .before .before .before .args in
-    let p = c .before .before .before .before .before .before .before .before .before .before .pre in
+    let after-shift = after-shift-from-slice-known3 c in
+    let start = after-shift .before .before .before .before in
+    let a = start .args in
+    let p = start .pre in
     let ws = take (a .m) (a .w .now) in
     let count : length ws ≡ a .m = length-take-le (a .m) (a .w .now) (p .4) in
-    let A = a .base + 1 + 121 * a .i in
+    let A = a .base + 1 + slotWords * a .i in
     let after = c .before .before .write-slot .last .0 in
-    let moved = c .before .before .before .before .before .before .shift in
+    let moved = after-shift .shift in
     let u = moved .last .0 in
     let e : after ≡ overlay u A (length ws ∷ ws) = c .before .before .write-slot .ensures ∙ ap (λ k. overlay u A (k ∷ ws)) (sym count) in
-    placed (a .s .now) u (a .base) (a .n) (a .i) ws (p .0) (p .1) (p .2) (omega arith) (moved .kept .0) (moved .ensures .0) (moved .ensures .1) (set after (a .base) (a .n + 1)) (ap (λ l. set l (a .base) (a .n + 1)) e)
+    placed (a .s .now) u (a .base) (a .n) (a .i) ws (p .0) (p .1) (p .2) (omega arith) (moved .kept .0) (moved .ensures .0) (moved .ensures .1)
+    (set after (a .base) (a .n + 1)) (ap (λ l. set l (a .base) (a .n + 1)) e)
 
 pub place-at-spec : {M : Type 1} → statement M
 place-at-spec =

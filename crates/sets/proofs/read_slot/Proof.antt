@@ -1,18 +1,26 @@
--- `sets::read_slot` meets its contract. Assumes nothing.
+-- `sets::read_slot` meets its contract.
 use mathlib.Core.Path.{_≡_, _∙_}
 use Prim.Native.Nat.{_+_, _-_, _≤_}
 use native.Mathlib.Omega.{arith}
 use lib.ListN.{length, take, drop, getD, length-set}
 use borrow.Author.Needs.{needs}
+use Rattle.model.specs.Sizes.{mostNodes}
 use Rattle.sets.proofs.Slots.{read-more, slot-words}
 use Rattle.sets.proofs.read_slot.Statement.{statement}
 use Rattle.sets.proofs.read_slot.Tie as tie
 
 abbrev Inv-loop : tie.InvT-loop
-Inv-loop s a out₀ n j₀ out j = (j ≤ n) × (n ≤ 120) × (length out ≡ length out₀) × (take j out ≡ take j (drop (a + 1) s))
+Inv-loop s a out₀ n j₀ out j = (j ≤ n) × (n ≤ mostNodes) × (length out ≡ length out₀) × (take j out ≡ take j (drop (a + 1) s))
 
 abbrev μ-loop : tie.MeasureT-loop
 μ-loop s a out₀ n j₀ out j = n - j
+
+-- places on the way, by the place from which they are seen
+abbrev start-from-loop : tie.After-loop Inv-loop μ-loop → tie.Start Inv-loop μ-loop
+start-from-loop c = c .before .before .before .before .before .before
+
+abbrev start-from-shared-slice-known3 : tie.After-shared-slice-known3 Inv-loop μ-loop → tie.Start Inv-loop μ-loop
+start-from-shared-slice-known3 c = c .before .before .before .before .before .before .before
 
 mul-capped : tie.Need-mul-capped Inv-loop μ-loop
 mul-capped c = search needs
@@ -52,7 +60,7 @@ loop-less c = search needs
 
 loop-again : tie.Need-loop-again Inv-loop μ-loop
 loop-again c =
-    let a = c .before .before .before .before .before .before .before .args in
+    let a = start-from-shared-slice-known3 c .args in
     let lp = c .before .before .loop in (
       omega arith,
       lp .inv .1,
@@ -65,7 +73,7 @@ same-length c = search needs
 
 returns : tie.Need-returns Inv-loop μ-loop
 returns c =
-    let a = c .before .before .before .before .before .before .args in
+    let a = start-from-loop c .args in
     let cap = c .before .before .capped in
     let lp = c .before .loop in
     let e : lp .j ≡ cap .result = omega arith in

@@ -1,4 +1,4 @@
--- `sets::size` meets its contract. Assumes nothing.
+-- `sets::size` meets its contract.
 use mathlib.Core.Path.{sym, _∙_}
 use Prim.Native.Nat.{_-_}
 use borrow.Author.Needs.{needs}

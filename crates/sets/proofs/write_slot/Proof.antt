@@ -1,4 +1,4 @@
--- `sets::write_slot` meets its contract. Assumes nothing.
+-- `sets::write_slot` meets its contract.
 use mathlib.Core.Path.{_≡_, refl, ap, _∙_}
 use Prim.Native.Nat.{_+_, _-_, _≤_}
 use native.Mathlib.Omega.{arith}
@@ -9,9 +9,10 @@ use Rattle.bytes_le.specs.Overlay.{overlay}
 use Rattle.sets.proofs.Slots.{written}
 use Rattle.sets.proofs.write_slot.Statement.{statement}
 use Rattle.sets.proofs.write_slot.Tie as tie
+use Rattle.sets.specs.Region.{slotWords}
 
 abbrev Inv-loop : tie.InvT-loop
-Inv-loop s₀ a w n j₀ s j = (j ≤ n) × (length s ≡ length s₀) × (s ≡ overlay s₀ (a + 1) (take j w)) × (a + 121 ≤ length s)
+Inv-loop s₀ a w n j₀ s j = (j ≤ n) × (length s ≡ length s₀) × (s ≡ overlay s₀ (a + 1) (take j w)) × (a + slotWords ≤ length s)
 
 abbrev μ-loop : tie.MeasureT-loop
 μ-loop s₀ a w n j₀ s j = n - j

@@ -1,26 +1,30 @@
 -- The cycle of `walk::walk`, `turn`, `branch` and `rounds` meets its contracts. The measure is made of the remaining depth, which falls
--- with every way into a block. In an answer i is the place where the function begins, h the head of its loop, and the other letters
--- the places of the calls and tests on the way. Assumes nothing.
+-- with every way into a block. Each answer cites one law of `Walking`, `Joining`, `Rounding` or `Entered`; the functions before the
+-- answers gather what such a law is given from the place where they begin.
 use mathlib.Core.List.{List}
-use mathlib.Core.Path.{_≡_, refl, sym, subst, _∙_}
+use mathlib.Core.Path.{_≡_, refl, sym, ap, subst, _∙_}
 use Prim.Native.Nat.{ℕ, _+_, _-_, _*_, _≤_, _<_}
 use native.Mathlib.Omega.{arith}
-use lib.ListN.{length, getD}
+use lib.ListN.{length}
 use borrow.Author.Needs.{needs}
-use Rattle.program.specs.Reading.{tablesOf, statementOf, stmtAt}
-use Rattle.sets.specs.Region.{setOf}
-use Rattle.machine.specs.Decoding.{instrOf}
+use Rattle.model.specs.Code.{plain, if, while}
+use Rattle.model.specs.Sizes.{mostStatements, mostRounds}
+use Rattle.model.proofs.Laid.{laid-le}
+use Rattle.code_table.specs.Statements.{stmtFrom, instrOf, Known}
+use Rattle.code_table.specs.Table.{tableWords, tableOf, stmts, mates}
+use Rattle.code_table.proofs.Meanings.{plain-stmt, if-stmt, while-stmt}
+use Rattle.model.specs.TidySets.{Tidy}
+use Rattle.sets.specs.Region.{setOf, regionWords}
 use Rattle.footprint.specs.Footprints.{CoversSet}
-use Rattle.rules.specs.Answers.{answered, Below}
-use Rattle.model.specs.Code.{Stmt}
-use Rattle.model.proofs.Laid.{Laid, laid-le}
-use Rattle.model.proofs.TidySets.{Tidy}
-use Rattle.walk.proofs.Joining.{first-refused, other-tidy, other-refused, branches-tidy, branches-joined}
-use Rattle.walk.proofs.Rounding.{Goes, goes-first, goes-over, start-tidy, goes-refused, closing-tidy, goes-long, goes-settled, goes-again}
-use Rattle.walk.proofs.Turns.{Stands, stands-first, stands-done, stands-due, stands-bounds, stands-turned, stands-refused, stands-passed, stands-over}
-use Rattle.walk.proofs.Entered.{begins, single-some, single-step, single-if, single-while}
-use Rattle.walk.proofs.ByKind.{at-if, at-while, at-plain}
-use Rattle.walk.proofs.Regions.{below-self, below-trans, walked-done, walked-refused}
+use Rattle.footprint.specs.declared.Footprint.{Footprint}
+use Rattle.rules.specs.declared.Answer.the-variants.{Done}
+use Rattle.walk.specs.Piece.{Lies}
+use Rattle.walk.proofs.Joining.{First, Other, first-branch-refused, other-branch-tidy, switched-table, other-branch-refused, both-tidy, both-joined}
+use Rattle.walk.proofs.Rounding.{RoundsFrom, InRounds, rounds-begin, never-settled, round-tidy, body-refused, round-closing, closing-refused, rounds-settled, next-round}
+use Rattle.walk.proofs.Walking.{Walking, walking-first, knows-here, passes-over, finished, bounds, due, passes-block, turn-refused, turn-done}
+use Rattle.walk.proofs.Entered.{Branching, Looping, begins, single-some, single-step, single-if, single-while}
+use Rattle.walk.proofs.ByKind.{plain-kind}
+use Rattle.walk.proofs.Regions.{below-table, lies-on, piece-on, inner-ready, block-ready}
 use borrow.Fn.Kinds.{In}
 use borrow.Fn.PlainCycle.{Measures, is, falls, and}
 use Rattle.walk.proofs.branch.Reads as branch
@@ -35,84 +39,178 @@ use Rattle.walk.proofs.+branch+rounds+turn+walk.Lts-turn as turn-lts
 use Rattle.walk.proofs.walk.Reads as walk
 use Rattle.walk.proofs.walk.Kinds as walk-kinds
 use Rattle.walk.proofs.+branch+rounds+turn+walk.Lts-walk as walk-lts
-use Rattle.decoding.proofs.decoded.Reads as decoded-reads
+use Rattle.code_table.proofs.fetch.Reads as fetch-reads
+use Rattle.code_table.proofs.mate.Reads as mate-reads
 use Rattle.footprint.proofs.of_set.Reads as of-set-reads
 use Rattle.footprint.proofs.spared_plain.Reads as spared-plain-reads
 use Rattle.footprint.proofs.spares_all.Reads as spares-all-reads
+use Rattle.rules.proofs.rule.Reads as rule-reads
 use Rattle.walk.proofs.beginning.Reads as beginning-reads
 use Rattle.walk.proofs.close_branch.Reads as close-branch-reads
 use Rattle.walk.proofs.close_round.Reads as close-round-reads
-use Rattle.walk.proofs.mate.Reads as mate-reads
 use Rattle.walk.proofs.open_branch.Reads as open-branch-reads
 use Rattle.walk.proofs.open_rounds.Reads as open-rounds-reads
-use Rattle.rules.proofs.rule.Reads as rule-reads
 use Rattle.walk.proofs.switch_branch.Reads as switch-branch-reads
 use Rattle.walk.proofs.+branch+rounds+turn+walk.{statement}
 use Rattle.walk.proofs.+branch+rounds+turn+walk.Tie.{close}
 
--- the statement of a label, and its mate
-abbrev stmts : List ℕ → ℕ → Stmt
-stmts program = stmtAt (tablesOf program)
+abbrev μ-branch : Measures 1 branch-kinds.ps ℕ
+μ-branch κs a = 3 * a .1 .0 + 2
 
-abbrev mates : List ℕ → ℕ → ℕ
-mates table = λ i. getD table i 0
+abbrev μ-rounds : Measures 1 rounds-kinds.ps ℕ
+μ-rounds κs a = 3 * a .1 .0 + 2
 
-abbrev μ-branch : Measures 3 branch-kinds.ps ℕ
-μ-branch κs a = 3 * a .1 .1 .1 .1 .0 + 2
+abbrev μ-turn : Measures 1 turn-kinds.ps ℕ
+μ-turn κs a = 3 * a .1 .0
 
-abbrev μ-rounds : Measures 3 rounds-kinds.ps ℕ
-μ-rounds κs a = 3 * a .1 .1 .1 .1 .0 + 2
+abbrev μ-walk : Measures 1 walk-kinds.ps ℕ
+μ-walk κs a = 3 * a .1 .0 + 1
 
-abbrev μ-turn : Measures 3 turn-kinds.ps ℕ
-μ-turn κs a = 3 * a .1 .1 .1 .1 .0
+abbrev branch-at : ℕ → In 1 branch-kinds.ps
+branch-at t = and 1 branch-kinds.ps (is 1 branch-kinds.ps μ-branch t) branch.Pre
 
-abbrev μ-walk : Measures 3 walk-kinds.ps ℕ
-μ-walk κs a = 3 * a .1 .1 .1 .1 .0 + 1
+abbrev branch-below : ℕ → In 1 branch-kinds.ps
+branch-below t = and 1 branch-kinds.ps (falls 1 branch-kinds.ps _<_ μ-branch t) branch.Pre
 
-abbrev branch-at : ℕ → In 3 branch-kinds.ps
-branch-at t = and 3 branch-kinds.ps (is 3 branch-kinds.ps μ-branch t) branch.Pre
+abbrev rounds-at : ℕ → In 1 rounds-kinds.ps
+rounds-at t = and 1 rounds-kinds.ps (is 1 rounds-kinds.ps μ-rounds t) rounds.Pre
 
-abbrev branch-below : ℕ → In 3 branch-kinds.ps
-branch-below t = and 3 branch-kinds.ps (falls 3 branch-kinds.ps _<_ μ-branch t) branch.Pre
+abbrev rounds-below : ℕ → In 1 rounds-kinds.ps
+rounds-below t = and 1 rounds-kinds.ps (falls 1 rounds-kinds.ps _<_ μ-rounds t) rounds.Pre
 
-abbrev rounds-at : ℕ → In 3 rounds-kinds.ps
-rounds-at t = and 3 rounds-kinds.ps (is 3 rounds-kinds.ps μ-rounds t) rounds.Pre
+abbrev turn-at : ℕ → In 1 turn-kinds.ps
+turn-at t = and 1 turn-kinds.ps (is 1 turn-kinds.ps μ-turn t) turn.Pre
 
-abbrev rounds-below : ℕ → In 3 rounds-kinds.ps
-rounds-below t = and 3 rounds-kinds.ps (falls 3 rounds-kinds.ps _<_ μ-rounds t) rounds.Pre
+abbrev turn-below : ℕ → In 1 turn-kinds.ps
+turn-below t = and 1 turn-kinds.ps (falls 1 turn-kinds.ps _<_ μ-turn t) turn.Pre
 
-abbrev turn-at : ℕ → In 3 turn-kinds.ps
-turn-at t = and 3 turn-kinds.ps (is 3 turn-kinds.ps μ-turn t) turn.Pre
+abbrev walk-at : ℕ → In 1 walk-kinds.ps
+walk-at t = and 1 walk-kinds.ps (is 1 walk-kinds.ps μ-walk t) walk.Pre
 
-abbrev turn-below : ℕ → In 3 turn-kinds.ps
-turn-below t = and 3 turn-kinds.ps (falls 3 turn-kinds.ps _<_ μ-turn t) turn.Pre
-
-abbrev walk-at : ℕ → In 3 walk-kinds.ps
-walk-at t = and 3 walk-kinds.ps (is 3 walk-kinds.ps μ-walk t) walk.Pre
-
-abbrev walk-below : ℕ → In 3 walk-kinds.ps
-walk-below t = and 3 walk-kinds.ps (falls 3 walk-kinds.ps _<_ μ-walk t) walk.Pre
+abbrev walk-below : ℕ → In 1 walk-kinds.ps
+walk-below t = and 1 walk-kinds.ps (falls 1 walk-kinds.ps _<_ μ-walk t) walk.Pre
 
 -- what `branch` may ask of its callees, and what it learns
 abbrev branch-told : ℕ → branch-lts.Claims
 branch-told t = (open-branch-reads.Asked, open-branch-reads.Learnt, walk-below t, walk.Post, switch-branch-reads.Asked, switch-branch-reads.Learnt, close-branch-reads.Asked, close-branch-reads.Learnt)
 
+-- the places of `branch`: where it begins
+abbrev BranchStart : ℕ → Type 0
+BranchStart t = branch-lts.Start (branch-told t) (branch-at t) branch.Post
+
+-- behind the first walk
+abbrev BranchFirst : ℕ → Type 0
+BranchFirst t = branch-lts.After-walk (branch-told t) (branch-at t) branch.Post
+
+-- between the walks
+abbrev BranchSwitch : ℕ → Type 0
+BranchSwitch t = branch-lts.After-switch-branch (branch-told t) (branch-at t) branch.Post
+
+-- behind the second walk
+abbrev BranchOther : ℕ → Type 0
+BranchOther t = branch-lts.After-walk2 (branch-told t) (branch-at t) branch.Post
+
+abbrev branch-opened : (t : ℕ) → BranchFirst t → branch-lts.After-open-branch (branch-told t) (branch-at t) branch.Post
+branch-opened t c = c .before .before .before .before
+
+abbrev branch-start : (t : ℕ) → BranchFirst t → BranchStart t
+branch-start t c = branch-opened t c .before .before .before
+
+abbrev first-of : (t : ℕ) → BranchSwitch t → BranchFirst t
+first-of t c = c .before .before .before .before .before .before
+
+abbrev switch-of : (t : ℕ) → BranchOther t → BranchSwitch t
+switch-of t c = c .before .before .before .before
+
+-- the first branch was walked
+branch-first : (t : ℕ) (c : BranchFirst t) → let g = branch-start t c .args in First (g .p) (g .e) (g .f) (g .b) (g .s .now) (c .walk .result) (c .walk .last .0)
+branch-first t c =
+    let o = branch-opened t c .open-branch in
+    let g = branch-start t c in
+    let ready = g .pre .1 .0 in
+    record {
+      s = o .last .0;
+      room = omega (arith, o .kept .0, ready .room);
+      same-start = o .kept .0;
+      table = below-table (g .args .b) (g .args .s .now) (o .last .0) (ready .behind) (omega (arith, ready .room)) (o .kept .0) (o .ensures .below);
+      opened = o .ensures;
+      same-length = c .walk .kept .0;
+      walked = c .walk .ensures;
+    }
+
+-- the table is as it was between the walks
+branch-table : (t : ℕ) (c : BranchSwitch t) → tableOf 0 (c .switch-branch .last .0) ≡ tableOf 0 (branch-start t (first-of t c) .args .s .now)
+branch-table t c =
+    let w = first-of t c in
+    let g = branch-start t w in
+    switched-table (g .args .p) (g .args .e) (g .args .f) (g .args .b) (g .args .s .now) (w .walk .result) (w .walk .last .0) (branch-first t w)
+    (c .before .before .enum-told .given .1) (c .switch-branch .last .0) (c .switch-branch .kept .0) (c .switch-branch .ensures) (g .pre .1 .0 .behind)
+
+-- the other branch was walked
+branch-other : (t : ℕ) (c : BranchOther t) → let g = branch-start t (first-of t (switch-of t c)) .args in
+    Other (g .p) (g .e) (g .f) (g .b) (g .s .now) (c .walk2 .result) (c .walk2 .last .0)
+branch-other t c =
+    let u = switch-of t c in
+    let w = first-of t u in
+    record {
+      first-answer = w .walk .result;
+      t = w .walk .last .0;
+      u = u .switch-branch .last .0;
+      first = branch-first t w;
+      told = u .before .before .enum-told .given .1;
+      same-u = u .switch-branch .kept .0;
+      table = branch-table t u;
+      switched = u .switch-branch .ensures;
+      same-length = c .walk2 .kept .0;
+      walked = c .walk2 .ensures;
+    }
+
+-- the label of the else is a label before the end of the block
+branch-else : (t : ℕ) (g : BranchStart t) → g .args .e + 1 ≤ g .args .f
+branch-else t g =
+    let other = g .pre .1 .2 in
+    laid-le (stmts (g .args .s .now)) (mates (g .args .s .now)) (other .code) (g .args .e + 1) (g .args .f) (other .lies)
+
+-- places on the way, by the place from which they are seen
+abbrev branch-after-walk-from-known-told : (t : ℕ) → branch-lts.After-known-told (branch-told t) (branch-at t) branch.Post → branch-lts.After-walk (branch-told t) (branch-at t) branch.Post
+branch-after-walk-from-known-told t c = c .before .before .before .before .before
+
+abbrev branch-after-walk-from-switch-branch-arg : (t : ℕ) → branch-lts.After-switch-branch-arg (branch-told t) (branch-at t) branch.Post
+    → branch-lts.After-walk (branch-told t) (branch-at t) branch.Post
+branch-after-walk-from-switch-branch-arg t c = c .before .before .before .before .before
+
+abbrev branch-after-walk2-from-close-branch-arg : (t : ℕ) → branch-lts.After-close-branch-arg (branch-told t) (branch-at t) branch.Post
+    → branch-lts.After-walk2 (branch-told t) (branch-at t) branch.Post
+branch-after-walk2-from-close-branch-arg t c = c .before .before .before .before .before
+
+abbrev branch-after-walk2-from-known-told2 : (t : ℕ) → branch-lts.After-known-told2 (branch-told t) (branch-at t) branch.Post → branch-lts.After-walk2 (branch-told t) (branch-at t) branch.Post
+branch-after-walk2-from-known-told2 t c = c .before .before .before .before .before
+
 branch-open-branch-requires : (t : ℕ) → branch-lts.Need-open-branch-requires (branch-told t) (branch-at t) branch.Post
 branch-open-branch-requires t c κs = search needs
 
-branch-add-walk : (t : ℕ) → branch-lts.Need-add-walk (branch-told t) (branch-at t) branch.Post
-branch-add-walk t c = search needs
+branch-mul-inner : (t : ℕ) → branch-lts.Need-mul-inner (branch-told t) (branch-at t) branch.Post
+branch-mul-inner t c = search needs
+
+branch-add-inner : (t : ℕ) → branch-lts.Need-add-inner (branch-told t) (branch-at t) branch.Post
+branch-add-inner t c = search needs
 
 branch-walk-requires : (t : ℕ) → branch-lts.Need-walk-requires (branch-told t) (branch-at t) branch.Post
 branch-walk-requires t c κs =
     let o = c .before .before .before in
-    let i = o .before .before .before .before .before in
-    let a = i .args in
-    let p = i .pre .1 in
-    let stmt = stmts (a .program .now) in
-    let mate = mates (a .table .now) in
-    let h = laid-le stmt mate (p .6 .0) (a .e + 1) (a .f) (p .6 .1) in
-    (search needs, (p .0, search needs, search needs, search needs, subst Tidy (sym (o .open-branch .ensures .0)) (p .4), p .5))
+    let g = o .before .before .before in
+    let ready = g .pre .1 .0 in
+    let s = o .open-branch .last .0 in
+    let kept = o .open-branch .kept .0 in
+    let table = below-table (g .args .b) (g .args .s .now) s (ready .behind) (omega (arith, ready .room)) kept (o .open-branch .ensures .below) in
+    let le = branch-else t g in (
+      omega (arith, g .pre .0),
+      (
+        inner-ready (g .args .s .now) s (g .args .depth) (g .args .b) (g .args .f) (g .args .e) ready table kept (omega arith)
+            (subst Tidy (sym (o .open-branch .ensures .second)) (ready .tidy)),
+        piece-on (g .args .s .now) s table (g .args .depth) (g .args .p) (g .args .e) (g .pre .1 .1),
+      ),
+    )
 
 branch-enum-known-n : (t : ℕ) → branch-lts.Need-enum-known-n (branch-told t) (branch-at t) branch.Post
 branch-enum-known-n t c = search needs
@@ -121,33 +219,33 @@ branch-enum-told : (t : ℕ) → branch-lts.Need-enum-told (branch-told t) (bran
 branch-enum-told t c = search needs
 
 branch-switch-branch-requires : (t : ℕ) → branch-lts.Need-switch-branch-requires (branch-told t) (branch-at t) branch.Post
-branch-switch-branch-requires t c κs = search needs
+branch-switch-branch-requires t c κs =
+    let w = branch-after-walk-from-switch-branch-arg t c in
+    let g = branch-start t w in
+    omega (arith, branch-opened t w .open-branch .kept .0, w .walk .kept .0, g .pre .1 .0 .room)
 
-branch-add-walk-2 : (t : ℕ) → branch-lts.Need-add-walk-2 (branch-told t) (branch-at t) branch.Post
-branch-add-walk-2 t c = search needs
-
-branch-add-walk-3 : (t : ℕ) → branch-lts.Need-add-walk-3 (branch-told t) (branch-at t) branch.Post
-branch-add-walk-3 t c =
-    let i = c .before .before .before .before .before .before .before .before .before .before .before .before .before .before .before .before .before .before in
-    let a = i .args in
-    let p = i .pre .1 in
-    let stmt = stmts (a .program .now) in
-    let mate = mates (a .table .now) in
-    omega (arith, laid-le stmt mate (p .6 .0) (a .e + 1) (a .f) (p .6 .1), p .1)
+branch-add-walk : (t : ℕ) → branch-lts.Need-add-walk (branch-told t) (branch-at t) branch.Post
+branch-add-walk t c =
+    let g = branch-start t (first-of t (c .before .before .before)) in
+    omega (arith, branch-else t g, g .pre .1 .0 .knows .few)
 
 branch-walk-requires-2 : (t : ℕ) → branch-lts.Need-walk-requires-2 (branch-told t) (branch-at t) branch.Post
 branch-walk-requires-2 t c κs =
     let u = c .before .before .before in
-    let d = u .before .before in
-    let w = d .before .before .before .before in
-    let o = w .before .before .before .before in
-    let i = o .before .before .before .before .before in
-    let a = i .args in
-    let p = i .pre .1 in
-    let stmt = stmts (a .program .now) in
-    let mate = mates (a .table .now) in
-    let y = other-tidy stmt mate (a .p) (a .e) (a .f) (a .b) (a .s .now) (o .open-branch .last .0) (omega (arith, o .open-branch .kept .0, p .3)) (o .open-branch .ensures) (w .walk .last .1 .1 .1 .0) (w .walk .kept .1 .1 .1 .0) (w .walk .result) (w .walk .ensures) (d .enum-told .given .1) (u .switch-branch .last .0) (u .switch-branch .kept .0) (u .switch-branch .ensures) (p .4) in
-    (omega (arith, i .pre .0), (p .0, search needs, search needs, omega (arith, o .open-branch .kept .0, w .walk .kept .1 .1 .1 .0, u .switch-branch .kept .0, p .3), y, p .6))
+    let w = first-of t u in
+    let g = branch-start t w in
+    let ready = g .pre .1 .0 in
+    let s = u .switch-branch .last .0 in
+    let kept : length s ≡ length (g .args .s .now) = u .switch-branch .kept .0 ∙ w .walk .kept .0 ∙ branch-opened t w .open-branch .kept .0 in
+    let tidy =
+    other-branch-tidy (g .args .p) (g .args .e) (g .args .f) (g .args .b) (g .args .s .now) (w .walk .result) (w .walk .last .0) (branch-first t w)
+    (u .before .before .enum-told .given .1) s (u .switch-branch .kept .0) (u .switch-branch .ensures) (ready .tidy) in (
+      omega (arith, g .pre .0),
+      (
+        inner-ready (g .args .s .now) s (g .args .depth) (g .args .b) (g .args .f) (g .args .f) ready (branch-table t u) kept (omega arith) tidy,
+        piece-on (g .args .s .now) s (branch-table t u) (g .args .depth) (g .args .e + 1) (g .args .f) (g .pre .1 .2),
+      ),
+    )
 
 branch-enum-known-n-2 : (t : ℕ) → branch-lts.Need-enum-known-n-2 (branch-told t) (branch-at t) branch.Post
 branch-enum-known-n-2 t c = search needs
@@ -157,108 +255,144 @@ branch-enum-told-2 t c = search needs
 
 branch-close-branch-requires : (t : ℕ) → branch-lts.Need-close-branch-requires (branch-told t) (branch-at t) branch.Post
 branch-close-branch-requires t c κs =
-    let f = c .before in
-    let v = f .before .before .before .before in
-    let u = v .before .before .before .before in
-    let d = u .before .before in
-    let w = d .before .before .before .before in
-    let o = w .before .before .before .before in
-    let i = o .before .before .before .before .before in
-    let a = i .args in
-    let p = i .pre .1 in
-    let stmt = stmts (a .program .now) in
-    let mate = mates (a .table .now) in
-    let y = branches-tidy stmt mate (a .p) (a .e) (a .f) (a .b) (a .s .now) (o .open-branch .last .0) (omega (arith, o .open-branch .kept .0, p .3)) (o .open-branch .ensures) (w .walk .last .1 .1 .1 .0) (w .walk .kept .1 .1 .1 .0) (w .walk .result) (w .walk .ensures) (d .enum-told .given .1) (u .switch-branch .last .0) (u .switch-branch .kept .0) (u .switch-branch .ensures) (v .walk2 .last .1 .1 .1 .0) (v .walk2 .kept .1 .1 .1 .0) (v .walk2 .result) (v .walk2 .ensures) (f .enum-told2 .given .1) (p .5 .0) (p .6 .0) (p .5 .1) (p .6 .1) (p .4) in
-    (omega (arith, o .open-branch .kept .0, w .walk .kept .1 .1 .1 .0, u .switch-branch .kept .0, v .walk2 .kept .1 .1 .1 .0, p .3), y .0, y .1)
+    let v = branch-after-walk2-from-close-branch-arg t c in
+    let u = switch-of t v in
+    let w = first-of t u in
+    let g = branch-start t w in
+    let tidy =
+    both-tidy (g .args .p) (g .args .e) (g .args .f) (g .args .b) (g .args .s .now) (v .walk2 .result) (v .walk2 .last .0) (branch-other t v)
+    (c .before .enum-told2 .given .1) (g .pre .1 .1 .code) (g .pre .1 .2 .code) (g .pre .1 .1 .lies) (g .pre .1 .2 .lies) (g .pre .1 .0 .tidy) in (
+      omega (arith, branch-opened t w .open-branch .kept .0, w .walk .kept .0, u .switch-branch .kept .0, v .walk2 .kept .0, g .pre .1 .0 .room),
+      tidy .0,
+      tidy .1,
+    )
 
 branch-same-length : (t : ℕ) → branch-lts.Need-same-length (branch-told t) (branch-at t) branch.Post
 branch-same-length t c = search needs
 
 branch-returns : (t : ℕ) → branch-lts.Need-returns (branch-told t) (branch-at t) branch.Post
 branch-returns t c =
-    let w = c .before .before .before .before .before in
-    let o = w .before .before .before .before in
-    let i = o .before .before .before .before .before in
-    let a = i .args in
-    let p = i .pre .1 in
-    let stmt = stmts (a .program .now) in
-    let mate = mates (a .table .now) in
-    first-refused stmt mate (a .p) (a .e) (a .f) (a .b) (a .s .now) (o .open-branch .last .0) (omega (arith, o .open-branch .kept .0, p .3)) (o .open-branch .ensures) (w .walk .last .1 .1 .1 .0) (w .walk .kept .1 .1 .1 .0) (w .walk .result) (w .walk .ensures) _ (c .before .n .given .1)
+    let w = branch-after-walk-from-known-told t c in
+    let g = branch-start t w .args in
+    first-branch-refused (g .p) (g .e) (g .f) (g .b) (g .s .now) (w .walk .result) (w .walk .last .0) (branch-first t w) _ (c .before .n .given .1)
 
 branch-same-length-2 : (t : ℕ) → branch-lts.Need-same-length-2 (branch-told t) (branch-at t) branch.Post
 branch-same-length-2 t c = search needs
 
 branch-returns-2 : (t : ℕ) → branch-lts.Need-returns-2 (branch-told t) (branch-at t) branch.Post
 branch-returns-2 t c =
-    let v = c .before .before .before .before .before in
-    let u = v .before .before .before .before in
-    let d = u .before .before in
-    let w = d .before .before .before .before in
-    let o = w .before .before .before .before in
-    let i = o .before .before .before .before .before in
-    let a = i .args in
-    let p = i .pre .1 in
-    let stmt = stmts (a .program .now) in
-    let mate = mates (a .table .now) in
-    other-refused stmt mate (a .p) (a .e) (a .f) (a .b) (a .s .now) (o .open-branch .last .0) (omega (arith, o .open-branch .kept .0, p .3)) (o .open-branch .ensures) (w .walk .last .1 .1 .1 .0) (w .walk .kept .1 .1 .1 .0) (w .walk .result) (w .walk .ensures) (d .enum-told .given .1) (u .switch-branch .last .0) (u .switch-branch .kept .0) (u .switch-branch .ensures) (v .walk2 .last .1 .1 .1 .0) (v .walk2 .kept .1 .1 .1 .0) (v .walk2 .result) (v .walk2 .ensures) _ (c .before .n2 .given .1)
+    let v = branch-after-walk2-from-known-told2 t c in
+    let g = branch-start t (first-of t (switch-of t v)) .args in
+    other-branch-refused (g .p) (g .e) (g .f) (g .b) (g .s .now) (v .walk2 .result) (v .walk2 .last .0) (branch-other t v) _ (c .before .n2 .given .1)
 
 branch-same-length-3 : (t : ℕ) → branch-lts.Need-same-length-3 (branch-told t) (branch-at t) branch.Post
 branch-same-length-3 t c = search needs
 
 branch-returns-3 : (t : ℕ) → branch-lts.Need-returns-3 (branch-told t) (branch-at t) branch.Post
 branch-returns-3 t c =
-    let z = c .before .before in
-    let f = z .before .before in
-    let v = f .before .before .before .before in
-    let u = v .before .before .before .before in
-    let d = u .before .before in
-    let w = d .before .before .before .before in
-    let o = w .before .before .before .before in
-    let i = o .before .before .before .before .before in
-    let a = i .args in
-    let p = i .pre .1 in
-    let stmt = stmts (a .program .now) in
-    let mate = mates (a .table .now) in
-    let r = z .close-branch in
-    branches-joined stmt mate (a .p) (a .e) (a .f) (a .b) (a .s .now) (o .open-branch .last .0) (omega (arith, o .open-branch .kept .0, p .3)) (o .open-branch .ensures) (w .walk .last .1 .1 .1 .0) (w .walk .kept .1 .1 .1 .0) (w .walk .result) (w .walk .ensures) (d .enum-told .given .1) (u .switch-branch .last .0) (u .switch-branch .kept .0) (u .switch-branch .ensures) (v .walk2 .last .1 .1 .1 .0) (v .walk2 .kept .1 .1 .1 .0) (v .walk2 .result) (v .walk2 .ensures) (f .enum-told2 .given .1) (r .last .0) (answered (r .result) (setOf (r .last .0) (a .b))) (r .ensures)
+    let r = c .before .before in
+    let v = branch-after-walk2-from-close-branch-arg t (r .before) in
+    let g = branch-start t (first-of t (switch-of t v)) .args in
+    both-joined (g .p) (g .e) (g .f) (g .b) (g .s .now) (v .walk2 .result) (v .walk2 .last .0) (branch-other t v) (r .before .before .enum-told2 .given .1)
+    (r .close-branch .last .0) (r .close-branch .result) (r .close-branch .ensures)
 
 abbrev rounds-Inv-loop : rounds-lts.InvT-loop
-rounds-Inv-loop program layout table s₀ depth b p q k₀ s k =
-    (k ≤ 16) × (length s ≡ length s₀) × Goes (stmts program) (mates table) p q b s₀ k s
+rounds-Inv-loop s₀ depth b p q inner k₀ s k = InRounds p q b s₀ k s
 
 abbrev rounds-μ-loop : rounds-lts.MeasureT-loop
-rounds-μ-loop program layout table s₀ depth b p q k₀ s k = 16 - k
+rounds-μ-loop s₀ depth b p q inner k₀ s k = mostRounds - k
 
 -- what `rounds` may ask of its callees, and what it learns
 abbrev rounds-told : ℕ → rounds-lts.Claims
 rounds-told t = (open-rounds-reads.Asked, open-rounds-reads.Learnt, walk-below t, walk.Post, close-round-reads.Asked, close-round-reads.Learnt)
 
+-- the places of `rounds`: before the loop
+abbrev RoundsOpen : ℕ → Type 0
+RoundsOpen t = rounds-lts.After-open-rounds (rounds-told t) (rounds-at t) rounds.Post rounds-Inv-loop rounds-μ-loop
+
+-- at the head of its loop
+abbrev RoundsLoop : ℕ → Type 0
+RoundsLoop t = rounds-lts.At-loop (rounds-told t) (rounds-at t) rounds.Post rounds-Inv-loop rounds-μ-loop
+
+-- behind the walk of the body
+abbrev RoundsBody : ℕ → Type 0
+RoundsBody t = rounds-lts.After-walk (rounds-told t) (rounds-at t) rounds.Post rounds-Inv-loop rounds-μ-loop
+
+-- at the end of a round
+abbrev RoundsClosed : ℕ → Type 0
+RoundsClosed t = rounds-lts.After-close-round (rounds-told t) (rounds-at t) rounds.Post rounds-Inv-loop rounds-μ-loop
+
+abbrev open-of : (t : ℕ) → RoundsLoop t → RoundsOpen t
+open-of t c = c .before .before .before
+
+abbrev loop-of : (t : ℕ) → RoundsBody t → RoundsLoop t
+loop-of t c = c .before .before .before
+
+abbrev body-of : (t : ℕ) → RoundsClosed t → RoundsBody t
+body-of t c = c .before .before .before .before .before .before
+
+abbrev rounds-start : (t : ℕ) → RoundsOpen t → rounds-lts.Start (rounds-told t) (rounds-at t) rounds.Post rounds-Inv-loop rounds-μ-loop
+rounds-start t c = c .before .before .before
+
+-- the set was copied
+rounds-from : (t : ℕ) (c : RoundsOpen t) → let g = rounds-start t c .args in RoundsFrom (g .p) (g .q) (g .b) (g .s .now) (c .open-rounds .last .0)
+rounds-from t c =
+    let o = c .open-rounds in
+    let g = rounds-start t c in
+    let ready = g .pre .1 .0 in
+    record {
+      opened = o .ensures;
+      room = omega (arith, o .kept .0, ready .room);
+      same-length = o .kept .0;
+      table = below-table (g .args .b) (g .args .s .now) (o .last .0) (ready .behind) (omega (arith, ready .room)) (o .kept .0) (o .ensures .below);
+    }
+
+-- places on the way, by the place from which they are seen
+abbrev rounds-after-walk-from-close-round-arg : (t : ℕ)
+    → rounds-lts.After-close-round-arg (rounds-told t) (rounds-at t) rounds.Post rounds-Inv-loop rounds-μ-loop
+    → rounds-lts.After-walk (rounds-told t) (rounds-at t) rounds.Post rounds-Inv-loop rounds-μ-loop
+rounds-after-walk-from-close-round-arg t c = c .before .before .before .before .before
+
+abbrev rounds-after-walk-from-known-told : (t : ℕ) → rounds-lts.After-known-told (rounds-told t) (rounds-at t) rounds.Post rounds-Inv-loop rounds-μ-loop
+    → rounds-lts.After-walk (rounds-told t) (rounds-at t) rounds.Post rounds-Inv-loop rounds-μ-loop
+rounds-after-walk-from-known-told t c = c .before .before .before .before .before
+
+abbrev rounds-after-close-round-from-known-told2 : (t : ℕ)
+    → rounds-lts.After-known-told2 (rounds-told t) (rounds-at t) rounds.Post rounds-Inv-loop rounds-μ-loop
+    → rounds-lts.After-close-round (rounds-told t) (rounds-at t) rounds.Post rounds-Inv-loop rounds-μ-loop
+rounds-after-close-round-from-known-told2 t c = c .before .before .before .before .before
+
 rounds-open-rounds-requires : (t : ℕ) → rounds-lts.Need-open-rounds-requires (rounds-told t) (rounds-at t) rounds.Post rounds-Inv-loop rounds-μ-loop
 rounds-open-rounds-requires t c κs = search needs
+
+rounds-mul-inner : (t : ℕ) → rounds-lts.Need-mul-inner (rounds-told t) (rounds-at t) rounds.Post rounds-Inv-loop rounds-μ-loop
+rounds-mul-inner t c = search needs
+
+rounds-add-inner : (t : ℕ) → rounds-lts.Need-add-inner (rounds-told t) (rounds-at t) rounds.Post rounds-Inv-loop rounds-μ-loop
+rounds-add-inner t c = search needs
 
 rounds-loop-holds : (t : ℕ) → rounds-lts.Need-loop-holds (rounds-told t) (rounds-at t) rounds.Post rounds-Inv-loop rounds-μ-loop
 rounds-loop-holds t c =
     let o = c .before .before in
-    let i = o .before .before .before .before .before in
-    let a = i .args in
-    let p = i .pre .1 in
-    let stmt = stmts (a .program .now) in
-    let mate = mates (a .table .now) in
-    (search needs, refl, goes-first stmt mate (a .p) (a .q) (a .b) (a .s .now) (o .open-rounds .last .0) (o .open-rounds .ensures) (p .4))
-
-rounds-add-walk : (t : ℕ) → rounds-lts.Need-add-walk (rounds-told t) (rounds-at t) rounds.Post rounds-Inv-loop rounds-μ-loop
-rounds-add-walk t c = search needs
+    let g = rounds-start t o in
+    rounds-begin (g .args .p) (g .args .q) (g .args .b) (g .args .s .now) (o .open-rounds .last .0) (rounds-from t o) (g .pre .1 .0 .tidy)
 
 rounds-walk-requires : (t : ℕ) → rounds-lts.Need-walk-requires (rounds-told t) (rounds-at t) rounds.Post rounds-Inv-loop rounds-μ-loop
 rounds-walk-requires t c κs =
     let h = c .before .before in
-    let o = h .before .before .before in
-    let i = o .before .before .before .before .before in
-    let a = i .args in
-    let p = i .pre .1 in
-    let stmt = stmts (a .program .now) in
-    let mate = mates (a .table .now) in
-    (search needs, (p .0, p .1, search needs, omega (arith, h .loop .inv .1, o .open-rounds .kept .0, p .3), start-tidy stmt mate (a .p) (a .q) (a .b) (a .s .now) (o .open-rounds .last .0) (o .open-rounds .ensures) (h .loop .k) (h .loop .s) (h .loop .inv .2), p .5))
+    let o = open-of t h in
+    let g = rounds-start t o in
+    let from = rounds-from t o in
+    let inv = h .loop .inv in
+    let table = inv .table ∙ from .table in (
+      omega (arith, g .pre .0),
+      (
+        inner-ready (g .args .s .now) (h .loop .s) (g .args .depth) (g .args .b) (g .args .q) (g .args .q) (g .pre .1 .0) table
+            (inv .goes .same-length ∙ from .same-length) (omega arith)
+            (round-tidy (g .args .p) (g .args .q) (g .args .b) (g .args .s .now) (o .open-rounds .last .0) from (h .loop .k) (h .loop .s) inv),
+        piece-on (g .args .s .now) (h .loop .s) table (g .args .depth) (g .args .p) (g .args .q) (g .pre .1 .1),
+      ),
+    )
 
 rounds-enum-known-n : (t : ℕ) → rounds-lts.Need-enum-known-n (rounds-told t) (rounds-at t) rounds.Post rounds-Inv-loop rounds-μ-loop
 rounds-enum-known-n t c = search needs
@@ -268,17 +402,15 @@ rounds-enum-told t c = search needs
 
 rounds-close-round-requires : (t : ℕ) → rounds-lts.Need-close-round-requires (rounds-told t) (rounds-at t) rounds.Post rounds-Inv-loop rounds-μ-loop
 rounds-close-round-requires t c κs =
-    let d = c .before in
-    let w = d .before .before .before .before in
-    let h = w .before .before .before in
-    let o = h .before .before .before in
-    let i = o .before .before .before .before .before in
-    let a = i .args in
-    let p = i .pre .1 in
-    let stmt = stmts (a .program .now) in
-    let mate = mates (a .table .now) in
-    let y = closing-tidy stmt mate (a .p) (a .q) (a .b) (a .s .now) (o .open-rounds .last .0) (o .open-rounds .ensures) (h .loop .k) (h .loop .s) (h .loop .inv .2) (omega arith) (omega (arith, h .loop .inv .1, o .open-rounds .kept .0, p .3)) (w .walk .last .1 .1 .1 .0) (w .walk .kept .1 .1 .1 .0) (w .walk .result) (w .walk .ensures) (d .enum-told .given .1) (p .5 .0) (p .5 .1) (p .4) in
-    (omega (arith, w .walk .kept .1 .1 .1 .0, h .loop .inv .1, o .open-rounds .kept .0, p .3), y .0, y .1)
+    let w = rounds-after-walk-from-close-round-arg t c in
+    let h = loop-of t w in
+    let o = open-of t h in
+    let g = rounds-start t o in
+    let tidy =
+    round-closing (g .args .p) (g .args .q) (g .args .b) (g .args .s .now) (o .open-rounds .last .0) (rounds-from t o) (h .loop .k) (h .loop .s) (h .loop .inv)
+    (w .before .before .if1 .left) (w .walk .result) (w .walk .last .0) (w .walk .kept .0) (w .walk .ensures)
+    (c .before .enum-told .given .1) (g .pre .1 .1 .code) (g .pre .1 .1 .lies) (g .pre .1 .0 .tidy) in
+    (omega (arith, w .walk .kept .0, h .loop .inv .goes .same-length, rounds-from t o .room), tidy .0, tidy .1)
 
 rounds-enum-told-2 : (t : ℕ) → rounds-lts.Need-enum-told-2 (rounds-told t) (rounds-at t) rounds.Post rounds-Inv-loop rounds-μ-loop
 rounds-enum-told-2 t c = search needs
@@ -298,17 +430,14 @@ rounds-loop-less t c = search needs
 rounds-loop-again : (t : ℕ) → rounds-lts.Need-loop-again (rounds-told t) (rounds-at t) rounds.Post rounds-Inv-loop rounds-μ-loop
 rounds-loop-again t c =
     let u = c .before .before .before .before in
-    let d = u .before .before in
-    let w = d .before .before .before .before in
-    let h = w .before .before .before in
-    let o = h .before .before .before in
-    let i = o .before .before .before .before .before in
-    let a = i .args in
-    let p = i .pre .1 in
-    let stmt = stmts (a .program .now) in
-    let mate = mates (a .table .now) in
-    let g = goes-again stmt mate (a .p) (a .q) (a .b) (a .s .now) (o .open-rounds .last .0) (o .open-rounds .ensures) (h .loop .k) (h .loop .s) (h .loop .inv .2) (omega arith) (omega (arith, h .loop .inv .1, o .open-rounds .kept .0, p .3)) (w .walk .last .1 .1 .1 .0) (w .walk .kept .1 .1 .1 .0) (w .walk .result) (w .walk .ensures) (d .enum-told .given .1) (u .close-round .last .0) (u .close-round .kept .0) (u .close-round .result) (u .close-round .ensures) (c .enum-told3 .given .1) (p .5 .0) (p .5 .1) (p .4) in
-    (omega arith, g .same-length, g)
+    let w = body-of t u in
+    let h = loop-of t w in
+    let o = open-of t h in
+    let g = rounds-start t o in
+    next-round (g .args .p) (g .args .q) (g .args .b) (g .args .s .now) (o .open-rounds .last .0) (rounds-from t o) (h .loop .k) (h .loop .s) (h .loop .inv)
+    (w .before .before .if1 .left) (w .walk .result) (w .walk .last .0) (w .walk .kept .0) (w .walk .ensures)
+    (u .before .before .enum-told .given .1) (u .close-round .last .0) (u .close-round .kept .0) (u .close-round .result) (u .close-round .ensures)
+    (c .enum-told3 .given .1) (g .pre .1 .1 .code) (g .pre .1 .1 .lies) (g .pre .1 .0 .tidy) (g .pre .1 .0 .behind)
 
 rounds-same-length : (t : ℕ) → rounds-lts.Need-same-length (rounds-told t) (rounds-at t) rounds.Post rounds-Inv-loop rounds-μ-loop
 rounds-same-length t c = search needs
@@ -316,28 +445,21 @@ rounds-same-length t c = search needs
 rounds-returns : (t : ℕ) → rounds-lts.Need-returns (rounds-told t) (rounds-at t) rounds.Post rounds-Inv-loop rounds-μ-loop
 rounds-returns t c =
     let h = c .before in
-    let o = h .before .before .before in
-    let i = o .before .before .before .before .before in
-    let a = i .args in
-    let p = i .pre .1 in
-    let stmt = stmts (a .program .now) in
-    let mate = mates (a .table .now) in
-    goes-over stmt mate (a .p) (a .q) (a .b) (a .s .now) (o .open-rounds .last .0) (o .open-rounds .ensures) (h .loop .k) (h .loop .s) (h .loop .inv .2) (c .if1 .taken)
+    let o = open-of t h in
+    let g = rounds-start t o in
+    never-settled (g .args .p) (g .args .q) (g .args .b) (g .args .s .now) (o .open-rounds .last .0) (rounds-from t o) (h .loop .k) (h .loop .s) (h .loop .inv) (c .if1 .taken)
 
 rounds-same-length-2 : (t : ℕ) → rounds-lts.Need-same-length-2 (rounds-told t) (rounds-at t) rounds.Post rounds-Inv-loop rounds-μ-loop
 rounds-same-length-2 t c = search needs
 
 rounds-returns-2 : (t : ℕ) → rounds-lts.Need-returns-2 (rounds-told t) (rounds-at t) rounds.Post rounds-Inv-loop rounds-μ-loop
 rounds-returns-2 t c =
-    let w = c .before .before .before .before .before in
-    let h = w .before .before .before in
-    let o = h .before .before .before in
-    let i = o .before .before .before .before .before in
-    let a = i .args in
-    let p = i .pre .1 in
-    let stmt = stmts (a .program .now) in
-    let mate = mates (a .table .now) in
-    goes-refused stmt mate (a .p) (a .q) (a .b) (a .s .now) (o .open-rounds .last .0) (o .open-rounds .ensures) (h .loop .k) (h .loop .s) (h .loop .inv .2) (omega arith) (omega (arith, h .loop .inv .1, o .open-rounds .kept .0, p .3)) (w .walk .last .1 .1 .1 .0) (w .walk .kept .1 .1 .1 .0) (w .walk .result) (w .walk .ensures) _ (c .before .n .given .1)
+    let w = rounds-after-walk-from-known-told t c in
+    let h = loop-of t w in
+    let o = open-of t h in
+    let g = rounds-start t o in
+    body-refused (g .args .p) (g .args .q) (g .args .b) (g .args .s .now) (o .open-rounds .last .0) (rounds-from t o) (h .loop .k) (h .loop .s) (h .loop .inv)
+    (w .before .before .if1 .left) (w .walk .result) (w .walk .last .0) (w .walk .kept .0) (w .walk .ensures) _ (c .before .n .given .1)
 
 rounds-same-length-3 : (t : ℕ) → rounds-lts.Need-same-length-3 (rounds-told t) (rounds-at t) rounds.Post rounds-Inv-loop rounds-μ-loop
 rounds-same-length-3 t c = search needs
@@ -345,163 +467,161 @@ rounds-same-length-3 t c = search needs
 rounds-returns-3 : (t : ℕ) → rounds-lts.Need-returns-3 (rounds-told t) (rounds-at t) rounds.Post rounds-Inv-loop rounds-μ-loop
 rounds-returns-3 t c =
     let u = c .before .before .before .before in
-    let d = u .before .before in
-    let w = d .before .before .before .before in
-    let h = w .before .before .before in
-    let o = h .before .before .before in
-    let i = o .before .before .before .before .before in
-    let a = i .args in
-    let p = i .pre .1 in
-    let stmt = stmts (a .program .now) in
-    let mate = mates (a .table .now) in
-    goes-settled stmt mate (a .p) (a .q) (a .b) (a .s .now) (o .open-rounds .last .0) (o .open-rounds .ensures) (h .loop .k) (h .loop .s) (h .loop .inv .2) (omega arith) (omega (arith, h .loop .inv .1, o .open-rounds .kept .0, p .3)) (w .walk .last .1 .1 .1 .0) (w .walk .kept .1 .1 .1 .0) (w .walk .result) (w .walk .ensures) (d .enum-told .given .1) (u .close-round .last .0) (u .close-round .kept .0) (u .close-round .result) (u .close-round .ensures) (c .enum-told2 .given .1)
+    let w = body-of t u in
+    let h = loop-of t w in
+    let o = open-of t h in
+    let g = rounds-start t o in
+    rounds-settled (g .args .p) (g .args .q) (g .args .b) (g .args .s .now) (o .open-rounds .last .0) (rounds-from t o) (h .loop .k) (h .loop .s) (h .loop .inv)
+    (w .before .before .if1 .left) (w .walk .result) (w .walk .last .0) (w .walk .kept .0) (w .walk .ensures)
+    (u .before .before .enum-told .given .1) (u .close-round .last .0) (u .close-round .kept .0) (u .close-round .result) (u .close-round .ensures)
+    (c .enum-told2 .given .1)
 
 rounds-same-length-4 : (t : ℕ) → rounds-lts.Need-same-length-4 (rounds-told t) (rounds-at t) rounds.Post rounds-Inv-loop rounds-μ-loop
 rounds-same-length-4 t c = search needs
 
 rounds-returns-4 : (t : ℕ) → rounds-lts.Need-returns-4 (rounds-told t) (rounds-at t) rounds.Post rounds-Inv-loop rounds-μ-loop
 rounds-returns-4 t c =
-    let u = c .before .before .before .before .before in
-    let d = u .before .before in
-    let w = d .before .before .before .before in
-    let h = w .before .before .before in
-    let o = h .before .before .before in
-    let i = o .before .before .before .before .before in
-    let a = i .args in
-    let p = i .pre .1 in
-    let stmt = stmts (a .program .now) in
-    let mate = mates (a .table .now) in
-    goes-long stmt mate (a .p) (a .q) (a .b) (a .s .now) (o .open-rounds .last .0) (o .open-rounds .ensures) (h .loop .k) (h .loop .s) (h .loop .inv .2) (omega arith) (omega (arith, h .loop .inv .1, o .open-rounds .kept .0, p .3)) (w .walk .last .1 .1 .1 .0) (w .walk .kept .1 .1 .1 .0) (w .walk .result) (w .walk .ensures) (d .enum-told .given .1) (u .close-round .last .0) (u .close-round .kept .0) (u .close-round .result) (u .close-round .ensures) _ (c .before .n2 .given .1)
+    let u = rounds-after-close-round-from-known-told2 t c in
+    let w = body-of t u in
+    let h = loop-of t w in
+    let o = open-of t h in
+    let g = rounds-start t o in
+    closing-refused (g .args .p) (g .args .q) (g .args .b) (g .args .s .now) (o .open-rounds .last .0) (rounds-from t o) (h .loop .k) (h .loop .s) (h .loop .inv)
+    (w .before .before .if1 .left) (w .walk .result) (w .walk .last .0) (w .walk .kept .0) (w .walk .ensures)
+    (u .before .before .enum-told .given .1) (u .close-round .last .0) (u .close-round .kept .0) (u .close-round .result) (u .close-round .ensures) _ (c .before .n2 .given .1)
 
 -- what `turn` may ask of its callees, and what it learns
 abbrev turn-told : ℕ → turn-lts.Claims
-turn-told t = (decoded-reads.Asked, decoded-reads.Learnt, mate-reads.Asked, mate-reads.Learnt, branch-below t, branch.Post, rounds-below t, rounds.Post, rule-reads.Asked, rule-reads.Learnt)
+turn-told t = (fetch-reads.Asked, fetch-reads.Learnt, mate-reads.Asked, mate-reads.Learnt, branch-below t, branch.Post, rounds-below t, rounds.Post, rule-reads.Asked, rule-reads.Learnt)
 
-turn-decoded-requires : (t : ℕ) → turn-lts.Need-decoded-requires (turn-told t) (turn-at t) turn.Post
-turn-decoded-requires t c κs =
-    let i = c .before .before .before in
-    let a = i .args in
-    let p = i .pre .1 in
-    let stmt = stmts (a .program .now) in
-    let mate = mates (a .table .now) in
-    let some = single-some stmt mate (p .5 .0) (a .p) (a .q) (p .5 .1) (p .5 .3) in
-    (p .0, omega arith)
+-- the places of `turn`: where it begins
+abbrev TurnStart : ℕ → Type 0
+TurnStart t = turn-lts.Start (turn-told t) (turn-at t) turn.Post
 
-turn-sub-branch : (t : ℕ) → turn-lts.Need-sub-branch (turn-told t) (turn-at t) turn.Post
-turn-sub-branch t c =
-    let k = c .before in
-    let d = k .before in
-    let i = d .before .before .before .before in
-    let a = i .args in
-    let p = i .pre .1 in
-    let T = tablesOf (a .program .now) in
-    let stmt = stmts (a .program .now) in
-    let mate = mates (a .table .now) in
-    let b = single-if stmt mate (a .depth) (p .5 .0) (a .p) (a .q) (p .5 .1) (p .5 .2) (p .5 .3) (statementOf T (a .p) .a) (at-if T (a .p) (sym (d .decoded .ensures .0) ∙ k .match .keys1)) in
-    b .deep
+-- where the statement is at hand
+abbrev TurnFetched : ℕ → Type 0
+TurnFetched t = turn-lts.After-fetch (turn-told t) (turn-at t) turn.Post
 
-turn-add-branch : (t : ℕ) → turn-lts.Need-add-branch (turn-told t) (turn-at t) turn.Post
-turn-add-branch t c =
-    let i = c .before .before .before .before .before .before in
-    let a = i .args in
-    let p = i .pre .1 in
-    let stmt = stmts (a .program .now) in
-    let mate = mates (a .table .now) in
-    let some = single-some stmt mate (p .5 .0) (a .p) (a .q) (p .5 .1) (p .5 .3) in
-    omega (arith, p .1, p .0 .placed .statements, p .0 .placed .small)
+-- where it is an if
+abbrev TurnIf : ℕ → Type 0
+TurnIf t = turn-lts.At-match-keys1 (turn-told t) (turn-at t) turn.Post
+
+-- where it is a while
+abbrev TurnWhile : ℕ → Type 0
+TurnWhile t = turn-lts.At-match-keys2 (turn-told t) (turn-at t) turn.Post
+
+-- where it is plain
+abbrev TurnPlain : ℕ → Type 0
+TurnPlain t = turn-lts.At-match-rest (turn-told t) (turn-at t) turn.Post
+
+abbrev turn-start : (t : ℕ) → TurnFetched t → TurnStart t
+turn-start t c = c .before .before .before
+
+-- there is a statement
+turn-some : (t : ℕ) (g : TurnStart t) → g .args .p < g .args .q
+turn-some t g =
+    let one = g .pre .1 .1 in
+    single-some (stmts (g .args .s .now)) (mates (g .args .s .now)) (one .code) (g .args .p) (g .args .q) (one .lies) (one .sole)
+
+-- the branches of an if
+turn-branches : (t : ℕ) (c : TurnIf t) → let g = turn-start t (c .before) .args in Branching (stmts (g .s .now)) (mates (g .s .now)) (g .depth) (g .p) (g .q)
+turn-branches t c =
+    let g = turn-start t (c .before) in
+    let one = g .pre .1 .1 in
+    let d = c .before .fetch in
+    single-if (stmts (g .args .s .now)) (mates (g .args .s .now)) (g .args .depth) (one .code) (g .args .p) (g .args .q) (one .lies) (one .nested) (one .sole)
+    (d .result .a) (ap stmtFrom (sym (d .ensures)) ∙ if-stmt (d .result) (c .match .keys1))
+
+-- the body of a while
+turn-body : (t : ℕ) (c : TurnWhile t) → let g = turn-start t (c .before) .args in Looping (stmts (g .s .now)) (mates (g .s .now)) (g .depth) (g .p) (g .q)
+turn-body t c =
+    let g = turn-start t (c .before) in
+    let one = g .pre .1 .1 in
+    let d = c .before .fetch in
+    single-while (stmts (g .args .s .now)) (mates (g .args .s .now)) (g .args .depth) (one .code) (g .args .p) (g .args .q) (one .lies) (one .nested) (one .sole)
+    (d .result .a) (ap stmtFrom (sym (d .ensures)) ∙ while-stmt (d .result) (c .match .keys2))
+
+-- a plain statement
+turn-plain : (t : ℕ) (c : TurnPlain t) → c .before .fetch .result .kind ≤ 10
+turn-plain t c =
+    let g = turn-start t (c .before) in
+    let one = g .pre .1 .1 in
+    let d = c .before .fetch in
+    let b = begins (stmts (g .args .s .now)) (mates (g .args .s .now)) (one .code) (g .args .p) (g .args .q) (one .lies) (one .sole) in
+    let is : stmtFrom (d .result) ≡ stmts (g .args .s .now) (g .args .p) = ap stmtFrom (d .ensures) in
+    plain-kind (d .result) (λ e. b .0 (sym is ∙ e)) (λ e. b .1 (sym is ∙ e)) (c .match .rest .0 .1) (c .match .rest .1)
+
+turn-fetch-requires : (t : ℕ) → turn-lts.Need-fetch-requires (turn-told t) (turn-at t) turn.Post
+turn-fetch-requires t c κs =
+    let g = c .before .before in
+    (omega (arith, g .pre .1 .0 .behind, g .pre .1 .0 .room), omega (arith, turn-some t g, g .pre .1 .0 .knows .few))
 
 turn-mate-requires : (t : ℕ) → turn-lts.Need-mate-requires (turn-told t) (turn-at t) turn.Post
-turn-mate-requires t c κs = search needs
+turn-mate-requires t c κs = let g = turn-start t (c .before .before) in omega (arith, g .pre .1 .0 .behind, g .pre .1 .0 .room)
+
+turn-sub-branch : (t : ℕ) → turn-lts.Need-sub-branch (turn-told t) (turn-at t) turn.Post
+turn-sub-branch t c = turn-branches t (c .before .before .before) .deep
+
+turn-add-branch : (t : ℕ) → turn-lts.Need-add-branch (turn-told t) (turn-at t) turn.Post
+turn-add-branch t c = let g = turn-start t (c .before .before .before .before) in omega (arith, turn-some t g, g .pre .1 .0 .knows .few)
 
 turn-sub-branch-2 : (t : ℕ) → turn-lts.Need-sub-branch-2 (turn-told t) (turn-at t) turn.Post
-turn-sub-branch-2 t c =
-    let i = c .before .before .before .before .before .before .before in
-    let a = i .args in
-    let p = i .pre .1 in
-    let stmt = stmts (a .program .now) in
-    let mate = mates (a .table .now) in
-    let some = single-some stmt mate (p .5 .0) (a .p) (a .q) (p .5 .1) (p .5 .3) in
-    omega arith
+turn-sub-branch-2 t c = let g = turn-start t (c .before .before .before .before) in omega (arith, turn-some t g)
 
 turn-branch-requires : (t : ℕ) → turn-lts.Need-branch-requires (turn-told t) (turn-at t) turn.Post
 turn-branch-requires t c κs =
-    let k = c .before .before in
-    let d = k .before in
-    let i = d .before .before .before .before in
-    let m = c in
-    let a = i .args in
-    let p = i .pre .1 in
-    let T = tablesOf (a .program .now) in
-    let stmt = stmts (a .program .now) in
-    let mate = mates (a .table .now) in
-    let b = single-if stmt mate (a .depth) (p .5 .0) (a .p) (a .q) (p .5 .1) (p .5 .2) (p .5 .3) (statementOf T (a .p) .a) (at-if T (a .p) (sym (d .decoded .ensures .0) ∙ k .match .keys1)) in
-    let first : Laid stmt mate (b .first) (a .p + 1) (m .mate .result) = subst (Laid stmt mate (b .first) (a .p + 1)) (sym (m .mate .ensures)) (b .first-lies) in
-    let other : Laid stmt mate (b .other) (m .mate .result + 1) (a .q - 1) = subst (λ x. Laid stmt mate (b .other) (x + 1) (a .q - 1)) (sym (m .mate .ensures)) (b .other-lies) in
-    let deep = b .deep in
-    (omega (arith, i .pre .0), (p .0, omega (arith, p .1), omega (arith, p .2), omega (arith, p .3), p .4, (b .first, first, b .first-nested), (b .other, other, b .other-nested)))
+    let k = c .before .before .before in
+    let g = turn-start t (k .before) in
+    let b = turn-branches t k in
+    let m = c .before .mate in
+    let deep = b .deep in (
+      omega (arith, g .pre .0),
+      (
+        block-ready (g .args .s .now) (g .args .depth) (g .args .b) (g .args .q) (g .args .q - 1) (g .pre .1 .0) (b .deep) (omega arith),
+        record { code = b .first; lies = subst (Lies (g .args .s .now) (b .first) (g .args .p + 1)) (sym (m .ensures)) (b .first-lies); nested = b .first-nested },
+        record {
+          code = b .other;
+          lies = subst (λ x. Lies (g .args .s .now) (b .other) (x + 1) (g .args .q - 1)) (sym (m .ensures)) (b .other-lies);
+          nested = b .other-nested;
+        },
+      ),
+    )
 
 turn-sub-rounds : (t : ℕ) → turn-lts.Need-sub-rounds (turn-told t) (turn-at t) turn.Post
-turn-sub-rounds t c =
-    let k = c .before in
-    let d = k .before in
-    let i = d .before .before .before .before in
-    let a = i .args in
-    let p = i .pre .1 in
-    let T = tablesOf (a .program .now) in
-    let stmt = stmts (a .program .now) in
-    let mate = mates (a .table .now) in
-    let b = single-while stmt mate (a .depth) (p .5 .0) (a .p) (a .q) (p .5 .1) (p .5 .2) (p .5 .3) (statementOf T (a .p) .a) (at-while T (a .p) (sym (d .decoded .ensures .0) ∙ k .match .keys2)) in
-    b .deep
+turn-sub-rounds t c = turn-body t (c .before) .deep
 
 turn-add-rounds : (t : ℕ) → turn-lts.Need-add-rounds (turn-told t) (turn-at t) turn.Post
-turn-add-rounds t c =
-    let i = c .before .before .before .before .before .before in
-    let a = i .args in
-    let p = i .pre .1 in
-    let stmt = stmts (a .program .now) in
-    let mate = mates (a .table .now) in
-    let some = single-some stmt mate (p .5 .0) (a .p) (a .q) (p .5 .1) (p .5 .3) in
-    omega (arith, p .1, p .0 .placed .statements, p .0 .placed .small)
+turn-add-rounds t c = let g = turn-start t (c .before .before) in omega (arith, turn-some t g, g .pre .1 .0 .knows .few)
 
 turn-sub-rounds-2 : (t : ℕ) → turn-lts.Need-sub-rounds-2 (turn-told t) (turn-at t) turn.Post
-turn-sub-rounds-2 t c =
-    let i = c .before .before .before .before .before .before in
-    let a = i .args in
-    let p = i .pre .1 in
-    let stmt = stmts (a .program .now) in
-    let mate = mates (a .table .now) in
-    let some = single-some stmt mate (p .5 .0) (a .p) (a .q) (p .5 .1) (p .5 .3) in
-    omega arith
+turn-sub-rounds-2 t c = let g = turn-start t (c .before .before) in omega (arith, turn-some t g)
 
 turn-rounds-requires : (t : ℕ) → turn-lts.Need-rounds-requires (turn-told t) (turn-at t) turn.Post
 turn-rounds-requires t c κs =
     let k = c .before in
-    let d = k .before in
-    let i = d .before .before .before .before in
-    let a = i .args in
-    let p = i .pre .1 in
-    let T = tablesOf (a .program .now) in
-    let stmt = stmts (a .program .now) in
-    let mate = mates (a .table .now) in
-    let b = single-while stmt mate (a .depth) (p .5 .0) (a .p) (a .q) (p .5 .1) (p .5 .2) (p .5 .3) (statementOf T (a .p) .a) (at-while T (a .p) (sym (d .decoded .ensures .0) ∙ k .match .keys2)) in
-    let deep = b .deep in
-    (omega (arith, i .pre .0), (p .0, omega (arith, p .1), omega (arith, p .2), omega (arith, p .3), p .4, (b .body, b .lies, b .nested)))
+    let g = turn-start t (k .before) in
+    let b = turn-body t k in
+    let deep = b .deep in (
+      omega (arith, g .pre .0),
+      (
+        block-ready (g .args .s .now) (g .args .depth) (g .args .b) (g .args .q) (g .args .q - 1) (g .pre .1 .0) (b .deep) (omega arith),
+        record { code = b .body; lies = b .lies; nested = b .nested },
+      ),
+    )
 
 turn-rule-requires : (t : ℕ) → turn-lts.Need-rule-requires (turn-told t) (turn-at t) turn.Post
 turn-rule-requires t c κs =
     let k = c .before in
-    let d = k .before in
-    let i = d .before .before .before .before in
-    let a = i .args in
-    let p = i .pre .1 in
-    let T = tablesOf (a .program .now) in
-    let stmt = stmts (a .program .now) in
-    let mate = mates (a .table .now) in
-    let some = single-some stmt mate (p .5 .0) (a .p) (a .q) (p .5 .1) (p .5 .3) in
-    let g = begins stmt mate (p .5 .0) (a .p) (a .q) (p .5 .1) (p .5 .3) in
-    let h = at-plain T (a .p) (g .0) (g .1) (λ e. k .match .rest .0 .1 (d .decoded .ensures .0 ∙ e)) (λ e. k .match .rest .1 (d .decoded .ensures .0 ∙ e)) in
-    let l : d .decoded .result .kind ≤ 10 = subst (_≤ 10) (sym (d .decoded .ensures .0)) h in
-    (omega (arith, p .3), omega (arith, p .1, p .0 .placed .statements, p .0 .placed .small), l, d .decoded .ensures .3, p .4 .numbered)
+    let g = turn-start t (k .before) in
+    let ready = g .pre .1 .0 in
+    let d = k .before .fetch in
+    let some = turn-some t g in (
+      omega (arith, ready .room),
+      omega (arith, some, ready .knows .few),
+      turn-plain t k,
+      subst Known (sym (d .ensures)) (ready .knows .known (g .args .p) some),
+      ready .tidy .numbered,
+    )
 
 turn-same-length : (t : ℕ) → turn-lts.Need-same-length (turn-told t) (turn-at t) turn.Post
 turn-same-length t c = search needs
@@ -509,19 +629,17 @@ turn-same-length t c = search needs
 turn-returns : (t : ℕ) → turn-lts.Need-returns (turn-told t) (turn-at t) turn.Post
 turn-returns t c =
     let w = c .before .before in
-    let m = w .before in
-    let k = m .before .before in
-    let d = k .before in
-    let i = d .before .before .before .before in
-    let a = i .args in
-    let p = i .pre .1 in
-    let T = tablesOf (a .program .now) in
-    let stmt = stmts (a .program .now) in
-    let mate = mates (a .table .now) in
-    let b = single-if stmt mate (a .depth) (p .5 .0) (a .p) (a .q) (p .5 .1) (p .5 .2) (p .5 .3) (statementOf T (a .p) .a) (at-if T (a .p) (sym (d .decoded .ensures .0) ∙ k .match .keys1)) in
-    let first : Laid stmt mate (b .first) (a .p + 1) (m .mate .result) = subst (Laid stmt mate (b .first) (a .p + 1)) (sym (m .mate .ensures)) (b .first-lies) in
-    let other : Laid stmt mate (b .other) (m .mate .result + 1) (a .q - 1) = subst (λ x. Laid stmt mate (b .other) (x + 1) (a .q - 1)) (sym (m .mate .ensures)) (b .other-lies) in
-    (λ x h. b .walked x (setOf (a .s .now) (a .b)) h ∙ w .branch .ensures .0 (b .first) (b .other) first other, w .branch .ensures .1)
+    let arg = w .before in
+    let k = arg .before .before .before in
+    let g = turn-start t (k .before) .args in
+    let b = turn-branches t k in
+    let m = arg .before .mate in (
+      λ x h.
+          b .walked x (setOf (g .s .now) (g .b)) h
+          ∙ w .branch .ensures .0 (b .first) (b .other) (subst (Lies (g .s .now) (b .first) (g .p + 1)) (sym (m .ensures)) (b .first-lies))
+          (subst (λ y. Lies (g .s .now) (b .other) (y + 1) (g .q - 1)) (sym (m .ensures)) (b .other-lies)),
+      w .branch .ensures .1,
+    )
 
 turn-same-length-2 : (t : ℕ) → turn-lts.Need-same-length-2 (turn-told t) (turn-at t) turn.Post
 turn-same-length-2 t c = search needs
@@ -530,15 +648,9 @@ turn-returns-2 : (t : ℕ) → turn-lts.Need-returns-2 (turn-told t) (turn-at t)
 turn-returns-2 t c =
     let w = c .before .before in
     let k = w .before .before in
-    let d = k .before in
-    let i = d .before .before .before .before in
-    let a = i .args in
-    let p = i .pre .1 in
-    let T = tablesOf (a .program .now) in
-    let stmt = stmts (a .program .now) in
-    let mate = mates (a .table .now) in
-    let b = single-while stmt mate (a .depth) (p .5 .0) (a .p) (a .q) (p .5 .1) (p .5 .2) (p .5 .3) (statementOf T (a .p) .a) (at-while T (a .p) (sym (d .decoded .ensures .0) ∙ k .match .keys2)) in
-    (λ x h. b .walked x (setOf (a .s .now) (a .b)) h ∙ w .rounds .ensures .0 (b .body) (b .lies), w .rounds .ensures .1)
+    let g = turn-start t (k .before) .args in
+    let b = turn-body t k in
+    (λ x h. b .walked x (setOf (g .s .now) (g .b)) h ∙ w .rounds .ensures .0 (b .body) (b .lies), w .rounds .ensures .1)
 
 turn-same-length-3 : (t : ℕ) → turn-lts.Need-same-length-3 (turn-told t) (turn-at t) turn.Post
 turn-same-length-3 t c = search needs
@@ -547,132 +659,174 @@ turn-returns-3 : (t : ℕ) → turn-lts.Need-returns-3 (turn-told t) (turn-at t)
 turn-returns-3 t c =
     let w = c .before .before in
     let k = w .before .before in
-    let d = k .before in
-    let i = d .before .before .before .before in
-    let a = i .args in
-    let p = i .pre .1 in
-    let T = tablesOf (a .program .now) in
-    let stmt = stmts (a .program .now) in
-    let mate = mates (a .table .now) in
-    let some = single-some stmt mate (p .5 .0) (a .p) (a .q) (p .5 .1) (p .5 .3) in
-    let g = begins stmt mate (p .5 .0) (a .p) (a .q) (p .5 .1) (p .5 .3) in
-    let h = at-plain T (a .p) (g .0) (g .1) (λ e. k .match .rest .0 .1 (d .decoded .ensures .0 ∙ e)) (λ e. k .match .rest .1 (d .decoded .ensures .0 ∙ e)) in
-    let l : d .decoded .result .kind ≤ 10 = subst (_≤ 10) (sym (d .decoded .ensures .0)) h in
-    let e = single-step stmt mate (p .5 .0) (a .p) (a .q) (p .5 .1) (p .5 .3) (instrOf (d .decoded .result)) (d .decoded .ensures .2 l) in
-    (λ x y. e x (setOf (a .s .now) (a .b)) y ∙ w .rule .ensures .0, w .rule .ensures .1)
+    let g = turn-start t (k .before) in
+    let one = g .pre .1 .1 in
+    let d = k .before .fetch in
+    let e =
+    single-step (stmts (g .args .s .now)) (mates (g .args .s .now)) (one .code) (g .args .p) (g .args .q) (one .lies) (one .sole) (instrOf (d .result))
+    (ap stmtFrom (sym (d .ensures)) ∙ plain-stmt (d .result) (turn-plain t k)) in
+    (λ x y. e x (setOf (g .args .s .now) (g .args .b)) y ∙ w .rule .ensures .0, w .rule .ensures .1)
 
 abbrev walk-Inv-loop : walk-lts.InvT-loop
-walk-Inv-loop program layout table s₀ depth b p q m₀ r₀ s m r =
-    (r ≤ q)
-    × (length s ≡ length s₀)
-    × Below b s₀ s
-    × CoversSet m (setOf s b)
-    × Stands (stmts program) (mates table) depth p q r (setOf s₀ b) (setOf s b)
+walk-Inv-loop s₀ depth b p q m₀ r₀ s m r = Walking s₀ depth b p q s m r
 
 abbrev walk-μ-loop : walk-lts.MeasureT-loop
-walk-μ-loop program layout table s₀ depth b p q m₀ r₀ s m r = r
+walk-μ-loop s₀ depth b p q m₀ r₀ s m r = r
 
 -- what `walk` may ask of its callees, and what it learns
 abbrev walk-told : ℕ → walk-lts.Claims
-walk-told t = (of-set-reads.Asked, of-set-reads.Learnt, spared-plain-reads.Asked, spared-plain-reads.Learnt, beginning-reads.Asked, beginning-reads.Learnt, spares-all-reads.Asked, spares-all-reads.Learnt, turn-below t, turn.Post)
+walk-told t = (
+  of-set-reads.Asked,
+  of-set-reads.Learnt,
+  spared-plain-reads.Asked,
+  spared-plain-reads.Learnt,
+  beginning-reads.Asked,
+  beginning-reads.Learnt,
+  spares-all-reads.Asked,
+  spares-all-reads.Learnt,
+  turn-below t,
+  turn.Post,
+)
+
+-- the places of `walk`: where it begins
+abbrev WalkStart : ℕ → Type 0
+WalkStart t = walk-lts.Start (walk-told t) (walk-at t) walk.Post walk-Inv-loop walk-μ-loop
+
+-- at the head of its loop
+abbrev WalkLoop : ℕ → Type 0
+WalkLoop t = walk-lts.At-loop (walk-told t) (walk-at t) walk.Post walk-Inv-loop walk-μ-loop
+
+-- where the last statement or block is at hand
+abbrev WalkBegun : ℕ → Type 0
+WalkBegun t = walk-lts.After-beginning (walk-told t) (walk-at t) walk.Post walk-Inv-loop walk-μ-loop
+
+-- behind its walk
+abbrev WalkTurned : ℕ → Type 0
+WalkTurned t = walk-lts.After-turn (walk-told t) (walk-at t) walk.Post walk-Inv-loop walk-μ-loop
+
+abbrev walk-start : (t : ℕ) → WalkLoop t → WalkStart t
+walk-start t c = c .before .before .before .before .before .before
+
+abbrev head-of : (t : ℕ) → WalkBegun t → WalkLoop t
+head-of t c = c .before .before .before
+
+abbrev begun-of : (t : ℕ) → WalkTurned t → WalkBegun t
+begun-of t c = c .before .before .before .before .before
+
+-- where the last statement or block lies
+walk-bounds : (t : ℕ) (c : WalkBegun t) → (walk-start t (head-of t c) .args .p ≤ c .beginning .result) × (c .beginning .result < head-of t c .loop .r)
+walk-bounds t c =
+    let h = head-of t c .loop in
+    let g = walk-start t (head-of t c) .args in
+    bounds (g .s .now) (g .depth) (g .b) (g .p) (g .q) (h .s) (h .m) (h .r) (h .inv) (c .beginning .result) (c .before .before .loop-test .taken) (c .beginning .ensures)
+
+-- the words hold the table, and every label up to the last is one of it
+walk-room : (t : ℕ) (h : WalkLoop t) → (tableWords ≤ length (h .loop .s)) × (h .loop .r ≤ mostStatements)
+walk-room t h =
+    let g = walk-start t h in
+    let ready = g .pre .1 .0 in
+    (omega (arith, ready .behind, ready .room, h .loop .inv .same-length), omega (arith, h .loop .inv .most, ready .knows .few))
+
+-- the walk behind its last statement or block
+walk-turned : (t : ℕ) (c : WalkTurned t) → c .turn .result ≡ Done → (m : Footprint) → let g = walk-start t (head-of t (begun-of t c)) .args in
+    CoversSet m (setOf (c .turn .last .0) (g .b)) → Walking (g .s .now) (g .depth) (g .b) (g .p) (g .q) (c .turn .last .0) m (begun-of t c .beginning .result)
+walk-turned t c e m k =
+    let f = begun-of t c in
+    let h = head-of t f .loop in
+    let g = walk-start t (head-of t f) in
+    let ready = g .pre .1 .0 in
+    turn-done (g .args .s .now) (g .args .depth) (g .args .b) (g .args .p) (g .args .q) (h .s) (h .m) (h .r) (h .inv) (f .beginning .result)
+    (f .before .before .loop-test .taken) (f .beginning .ensures) (c .turn .last .0) (c .turn .result) (c .turn .ensures) e (ready .behind)
+    (omega (arith, ready .room)) (c .turn .kept .0) m k
+
+-- places on the way, by the place from which they are seen
+abbrev walk-after-beginning-from-spared-plain2 : (t : ℕ) → walk-lts.After-spared-plain2 (walk-told t) (walk-at t) walk.Post walk-Inv-loop walk-μ-loop
+    → walk-lts.After-beginning (walk-told t) (walk-at t) walk.Post walk-Inv-loop walk-μ-loop
+walk-after-beginning-from-spared-plain2 t c = c .before .before .before .before .before
+
+abbrev walk-after-turn-from-known-told : (t : ℕ) → walk-lts.After-known-told (walk-told t) (walk-at t) walk.Post walk-Inv-loop walk-μ-loop
+    → walk-lts.After-turn (walk-told t) (walk-at t) walk.Post walk-Inv-loop walk-μ-loop
+walk-after-turn-from-known-told t c = c .before .before .before .before .before
+
+abbrev walk-after-turn-from-of-set-arg2 : (t : ℕ) → walk-lts.After-of-set-arg2 (walk-told t) (walk-at t) walk.Post walk-Inv-loop walk-μ-loop
+    → walk-lts.After-turn (walk-told t) (walk-at t) walk.Post walk-Inv-loop walk-μ-loop
+walk-after-turn-from-of-set-arg2 t c = c .before .before .before .before .before
 
 walk-of-set-requires : (t : ℕ) → walk-lts.Need-of-set-requires (walk-told t) (walk-at t) walk.Post walk-Inv-loop walk-μ-loop
-walk-of-set-requires t c κs = search needs
+walk-of-set-requires t c κs = let g = c .before .before in omega (arith, g .pre .1 .0 .room)
 
 walk-spared-plain-requires : (t : ℕ) → walk-lts.Need-spared-plain-requires (walk-told t) (walk-at t) walk.Post walk-Inv-loop walk-μ-loop
 walk-spared-plain-requires t c κs =
-    let i = c .before .before .before .before .before in
-    let a = i .args in
-    let p = i .pre .1 in
-    let stmt = stmts (a .program .now) in
-    let mate = mates (a .table .now) in
-    (p .0 .placed, laid-le stmt mate (p .5 .0) (a .p) (a .q) (p .5 .1), p .1)
+    let g = c .before .before .before .before in
+    let ready = g .pre .1 .0 in
+    let piece = g .pre .1 .1 in (
+      omega (arith, ready .behind, ready .room),
+      laid-le (stmts (g .args .s .now)) (mates (g .args .s .now)) (piece .code) (g .args .p) (g .args .q) (piece .lies),
+      ready .knows .few,
+    )
 
 walk-loop-holds : (t : ℕ) → walk-lts.Need-loop-holds (walk-told t) (walk-at t) walk.Post walk-Inv-loop walk-μ-loop
 walk-loop-holds t c =
-    let i = c .before .before .before .before .before .before in
-    let a = i .args in
-    let p = i .pre .1 in
-    let o = c .spared-plain in
-    let S = setOf (a .s .now) (a .b) in
-    let stmt = stmts (a .program .now) in
-    let mate = mates (a .table .now) in
-    let y = stands-first stmt mate (a .depth) (a .p) (a .q) S (p .5 .0) (p .5 .1) (p .5 .2) (p .4) in (
-      o .ensures .1,
-      refl,
-      below-self (a .b) (a .s .now),
-      c .before .of-set .ensures,
-      stands-over stmt mate (a .depth) (a .p) (a .q) (o .result) (a .q) S S y (c .before .of-set .result) (c .before .of-set .ensures) (o .ensures .0) (o .ensures .1) (o .ensures .2),
-    )
+    let f = c .before .before in
+    let g = f .before .before .before in
+    let first = walking-first (g .args .s .now) (g .args .depth) (g .args .b) (g .args .p) (g .args .q) (g .pre .1 .0) (g .pre .1 .1) (f .of-set .result) (f .of-set .ensures) in
+    passes-over (g .args .s .now) (g .args .depth) (g .args .b) (g .args .p) (g .args .q) (g .args .s .now) (f .of-set .result) (g .args .q) first (c .spared-plain .result) (c .spared-plain .ensures)
 
 walk-sub-beginning : (t : ℕ) → walk-lts.Need-sub-beginning (walk-told t) (walk-at t) walk.Post walk-Inv-loop walk-μ-loop
 walk-sub-beginning t c = search needs
 
 walk-beginning-requires : (t : ℕ) → walk-lts.Need-beginning-requires (walk-told t) (walk-at t) walk.Post walk-Inv-loop walk-μ-loop
-walk-beginning-requires t c κs = search needs
+walk-beginning-requires t c κs =
+    let h = c .before .before in
+    let room = walk-room t h in
+    (room .0, omega (arith, room .1, c .before .loop-test .taken))
 
 walk-spares-all-requires : (t : ℕ) → walk-lts.Need-spares-all-requires (walk-told t) (walk-at t) walk.Post walk-Inv-loop walk-μ-loop
-walk-spares-all-requires t c κs =
-    let h = c .before .before in
-    let i = h .before .before .before .before .before .before .before in
-    let p = i .pre .1 in
-    (p .0 .placed, omega (arith, h .loop .inv .0, p .1))
+walk-spares-all-requires t c κs = walk-room t (head-of t (c .before))
 
 walk-spared-plain-requires-2 : (t : ℕ) → walk-lts.Need-spared-plain-requires-2 (walk-told t) (walk-at t) walk.Post walk-Inv-loop walk-μ-loop
 walk-spared-plain-requires-2 t c κs =
-    let f = c .before .before in
-    let g = f .before in
-    let h = g .before in
-    let i = h .before .before .before .before .before .before .before in
-    let a = i .args in
-    let p = i .pre .1 in
-    let stmt = stmts (a .program .now) in
-    let mate = mates (a .table .now) in
-    let y = stands-bounds stmt mate (a .depth) (a .p) (a .q) (f .beginning .result) (h .loop .r) (setOf (a .s .now) (a .b)) (setOf (h .loop .s) (a .b)) (h .loop .inv .4) (g .loop-test .taken) (f .beginning .ensures) in
-    (p .0 .placed, y .0, omega (arith, y .1, h .loop .inv .0, p .1))
+    let f = c .before .before .before .before in
+    let room = walk-room t (head-of t f) in
+    let b = walk-bounds t f in
+    (room .0, b .0, omega (arith, b .1, room .1))
 
 walk-loop-less : (t : ℕ) → walk-lts.Need-loop-less (walk-told t) (walk-at t) walk.Post walk-Inv-loop walk-μ-loop
 walk-loop-less t c =
-    let f = c .before .before .before in
-    let g = f .before in
-    let h = g .before in
-    let i = h .before .before .before .before .before .before .before in
-    let a = i .args in
-    let stmt = stmts (a .program .now) in
-    let mate = mates (a .table .now) in
-    let y = stands-bounds stmt mate (a .depth) (a .p) (a .q) (f .beginning .result) (h .loop .r) (setOf (a .s .now) (a .b)) (setOf (h .loop .s) (a .b)) (h .loop .inv .4) (g .loop-test .taken) (f .beginning .ensures) in
-    omega (arith, y .1, c .spared-plain2 .ensures .1)
+    let f = walk-after-beginning-from-spared-plain2 t c in
+    omega (arith, walk-bounds t f .1, c .spared-plain2 .ensures .most)
 
 walk-loop-again : (t : ℕ) → walk-lts.Need-loop-again (walk-told t) (walk-at t) walk.Post walk-Inv-loop walk-μ-loop
 walk-loop-again t c =
-    let f = c .before .before .before in
-    let g = f .before in
-    let h = g .before in
-    let i = h .before .before .before .before .before .before .before in
-    let a = i .args in
-    let o = c .spared-plain2 in
-    let stmt = stmts (a .program .now) in
-    let mate = mates (a .table .now) in
-    let y = stands-bounds stmt mate (a .depth) (a .p) (a .q) (f .beginning .result) (h .loop .r) (setOf (a .s .now) (a .b)) (setOf (h .loop .s) (a .b)) (h .loop .inv .4) (g .loop-test .taken) (f .beginning .ensures) in
-    let z = stands-passed stmt mate (a .depth) (a .p) (a .q) (f .beginning .result) (h .loop .r) (setOf (a .s .now) (a .b)) (setOf (h .loop .s) (a .b)) (h .loop .inv .4) (g .loop-test .taken) (f .beginning .ensures) (h .loop .m) (h .loop .inv .3) (c .before .before .spares-all .ensures (c .before .if1 .taken)) in (
-      omega (arith, y .1, o .ensures .1, h .loop .inv .0),
-      h .loop .inv .1,
-      h .loop .inv .2,
-      h .loop .inv .3,
-      stands-over stmt mate (a .depth) (a .p) (a .q) (o .result) (f .beginning .result) (setOf (a .s .now) (a .b)) (setOf (h .loop .s) (a .b)) z (h .loop .m) (h .loop .inv .3) (o .ensures .0) (o .ensures .1) (o .ensures .2),
-    )
+    let i = c .before .before in
+    let f = i .before .before .before in
+    let h = head-of t f .loop in
+    let g = walk-start t (head-of t f) in
+    let passed =
+    passes-block (g .args .s .now) (g .args .depth) (g .args .b) (g .args .p) (g .args .q) (h .s) (h .m) (h .r) (h .inv) (f .beginning .result)
+    (f .before .before .loop-test .taken) (f .beginning .ensures)
+    (i .before .spares-all .ensures (i .if1 .taken)) in
+    passes-over (g .args .s .now) (g .args .depth) (g .args .b) (g .args .p) (g .args .q) (h .s) (h .m) (f .beginning .result) passed (c .spared-plain2 .result) (c .spared-plain2 .ensures)
 
 walk-turn-requires : (t : ℕ) → walk-lts.Need-turn-requires (walk-told t) (walk-at t) walk.Post walk-Inv-loop walk-μ-loop
 walk-turn-requires t c κs =
-    let f = c .before .before .before in
-    let g = f .before in
-    let h = g .before in
-    let i = h .before .before .before .before .before .before .before in
-    let a = i .args in
-    let p = i .pre .1 in
-    let stmt = stmts (a .program .now) in
-    let mate = mates (a .table .now) in
-    (omega (arith, i .pre .0), (p .0, omega (arith, h .loop .inv .0, p .1), p .2, omega (arith, p .3, h .loop .inv .1), h .loop .inv .4 .tidy, stands-due stmt mate (a .depth) (a .p) (a .q) (f .beginning .result) (h .loop .r) (setOf (a .s .now) (a .b)) (setOf (h .loop .s) (a .b)) (h .loop .inv .4) (g .loop-test .taken) (f .beginning .ensures)))
+    let f = c .before .before .before .before in
+    let h = head-of t f .loop in
+    let g = walk-start t (head-of t f) in
+    let ready = g .pre .1 .0 in (
+      omega (arith, g .pre .0),
+      (
+        record {
+          knows = knows-here (g .args .s .now) (g .args .depth) (g .args .b) (g .args .p) (g .args .q) (h .s) (h .m) (h .r) (h .inv) (h .r) (omega arith) (ready .knows);
+          shallow = ready .shallow;
+          behind = ready .behind;
+          room = omega (arith, ready .room, h .inv .same-length);
+          tidy = h .inv .stands .tidy;
+        },
+        due (g .args .s .now) (g .args .depth) (g .args .b) (g .args .p) (g .args .q) (h .s) (h .m) (h .r) (h .inv) (f .beginning .result)
+            (f .before .before .loop-test .taken) (f .beginning .ensures),
+      ),
+    )
 
 walk-enum-known-n : (t : ℕ) → walk-lts.Need-enum-known-n (walk-told t) (walk-at t) walk.Post walk-Inv-loop walk-μ-loop
 walk-enum-known-n t c = search needs
@@ -682,80 +836,45 @@ walk-same-length t c = search needs
 
 walk-returns : (t : ℕ) → walk-lts.Need-returns (walk-told t) (walk-at t) walk.Post walk-Inv-loop walk-μ-loop
 walk-returns t c =
-    let w = c .before .before .before .before .before in
-    let f = w .before .before .before .before in
-    let g = f .before in
-    let h = g .before in
-    let i = h .before .before .before .before .before .before .before in
-    let a = i .args in
-    let stmt = stmts (a .program .now) in
-    let mate = mates (a .table .now) in
-    let n = c .before .n .given in (
-      stands-refused stmt mate (a .depth) (a .p) (a .q) (f .beginning .result) (h .loop .r) (setOf (a .s .now) (a .b)) (setOf (h .loop .s) (a .b)) (h .loop .inv .4) (g .loop-test .taken) (f .beginning .ensures) (n .0 .0) (walked-refused stmt mate (w .turn .result) (f .beginning .result) (h .loop .r) (a .b) (h .loop .s) (w .turn .last .1 .1 .1 .0) (w .turn .ensures) (n .0 .0) (n .1)),
-      below-trans (a .b) (a .s .now) (h .loop .s) (w .turn .last .1 .1 .1 .0) (h .loop .inv .2) (w .turn .ensures .1),
-    )
+    let w = walk-after-turn-from-known-told t c in
+    let f = begun-of t w in
+    let h = head-of t f .loop in
+    let g = walk-start t (head-of t f) in
+    turn-refused (g .args .s .now) (g .args .depth) (g .args .b) (g .args .p) (g .args .q) (h .s) (h .m) (h .r) (h .inv) (f .beginning .result)
+    (f .before .before .loop-test .taken) (f .beginning .ensures)
+    (w .turn .last .0) (w .turn .result) (w .turn .ensures) _ (c .before .n .given .1)
 
 walk-enum-told : (t : ℕ) → walk-lts.Need-enum-told (walk-told t) (walk-at t) walk.Post walk-Inv-loop walk-μ-loop
 walk-enum-told t c = search needs
 
 walk-of-set-requires-2 : (t : ℕ) → walk-lts.Need-of-set-requires-2 (walk-told t) (walk-at t) walk.Post walk-Inv-loop walk-μ-loop
 walk-of-set-requires-2 t c κs =
-    let w = c .before .before .before .before .before in
-    let f = w .before .before .before .before in
-    let g = f .before in
-    let h = g .before in
-    let i = h .before .before .before .before .before .before .before in
-    let a = i .args in
-    let p = i .pre .1 in
-    omega (arith, p .3, h .loop .inv .1, w .turn .kept .1 .1 .1 .0)
+    let w = walk-after-turn-from-of-set-arg2 t c in
+    let h = head-of t (begun-of t w) in
+    omega (arith, walk-start t h .pre .1 .0 .room, h .loop .inv .same-length, w .turn .kept .0)
 
 walk-spared-plain-requires-3 : (t : ℕ) → walk-lts.Need-spared-plain-requires-3 (walk-told t) (walk-at t) walk.Post walk-Inv-loop walk-μ-loop
 walk-spared-plain-requires-3 t c κs =
-    let f = c .before .before .before .before .before .before .before .before .before .before in
-    let g = f .before in
-    let h = g .before in
-    let i = h .before .before .before .before .before .before .before in
-    let a = i .args in
-    let p = i .pre .1 in
-    let stmt = stmts (a .program .now) in
-    let mate = mates (a .table .now) in
-    let y = stands-bounds stmt mate (a .depth) (a .p) (a .q) (f .beginning .result) (h .loop .r) (setOf (a .s .now) (a .b)) (setOf (h .loop .s) (a .b)) (h .loop .inv .4) (g .loop-test .taken) (f .beginning .ensures) in
-    (p .0 .placed, y .0, omega (arith, y .1, h .loop .inv .0, p .1))
+    let e = c .before .before .before in
+    let w = e .before .before .before .before in
+    let f = begun-of t w in
+    let room = walk-room t (head-of t f) in
+    let b = walk-bounds t f in
+    (omega (arith, room .0, w .turn .kept .0), b .0, omega (arith, b .1, room .1))
 
 walk-loop-less-2 : (t : ℕ) → walk-lts.Need-loop-less-2 (walk-told t) (walk-at t) walk.Post walk-Inv-loop walk-μ-loop
 walk-loop-less-2 t c =
-    let f = c .before .before .before .before .before .before .before .before .before .before .before in
-    let g = f .before in
-    let h = g .before in
-    let i = h .before .before .before .before .before .before .before in
-    let a = i .args in
-    let stmt = stmts (a .program .now) in
-    let mate = mates (a .table .now) in
-    let y = stands-bounds stmt mate (a .depth) (a .p) (a .q) (f .beginning .result) (h .loop .r) (setOf (a .s .now) (a .b)) (setOf (h .loop .s) (a .b)) (h .loop .inv .4) (g .loop-test .taken) (f .beginning .ensures) in
-    omega (arith, y .1, c .spared-plain3 .ensures .1)
+    let e = c .before .before .before .before in
+    omega (arith, walk-bounds t (begun-of t (e .before .before .before .before)) .1, c .spared-plain3 .ensures .most)
 
 walk-loop-again-2 : (t : ℕ) → walk-lts.Need-loop-again-2 (walk-told t) (walk-at t) walk.Post walk-Inv-loop walk-μ-loop
 walk-loop-again-2 t c =
-    let k = c .before in
+    let k = c .before .before in
     let e = k .before .before in
     let w = e .before .before .before .before in
-    let f = w .before .before .before .before in
-    let g = f .before in
-    let h = g .before in
-    let i = h .before .before .before .before .before .before .before in
-    let a = i .args in
-    let o = c .spared-plain3 in
-    let v = w .turn .last .1 .1 .1 .0 in
-    let stmt = stmts (a .program .now) in
-    let mate = mates (a .table .now) in
-    let y = stands-bounds stmt mate (a .depth) (a .p) (a .q) (f .beginning .result) (h .loop .r) (setOf (a .s .now) (a .b)) (setOf (h .loop .s) (a .b)) (h .loop .inv .4) (g .loop-test .taken) (f .beginning .ensures) in
-    let z = stands-turned stmt mate (a .depth) (a .p) (a .q) (f .beginning .result) (h .loop .r) (setOf (a .s .now) (a .b)) (setOf (h .loop .s) (a .b)) (h .loop .inv .4) (g .loop-test .taken) (f .beginning .ensures) (setOf v (a .b)) (walked-done stmt mate (w .turn .result) (f .beginning .result) (h .loop .r) (a .b) (h .loop .s) v (w .turn .ensures) (e .enum-told .given .1)) in (
-      omega (arith, y .1, o .ensures .1, h .loop .inv .0),
-      w .turn .kept .1 .1 .1 .0 ∙ h .loop .inv .1,
-      below-trans (a .b) (a .s .now) (h .loop .s) v (h .loop .inv .2) (w .turn .ensures .1),
-      k .of-set2 .ensures,
-      stands-over stmt mate (a .depth) (a .p) (a .q) (o .result) (f .beginning .result) (setOf (a .s .now) (a .b)) (setOf v (a .b)) z (k .of-set2 .result) (k .of-set2 .ensures) (o .ensures .0) (o .ensures .1) (o .ensures .2),
-    )
+    let g = walk-start t (head-of t (begun-of t w)) in
+    passes-over (g .args .s .now) (g .args .depth) (g .args .b) (g .args .p) (g .args .q) (w .turn .last .0) (k .of-set2 .result) (begun-of t w .beginning .result)
+    (walk-turned t w (e .enum-told .given .1) (k .of-set2 .result) (k .of-set2 .ensures)) (c .spared-plain3 .result) (c .spared-plain3 .ensures)
 
 walk-same-length-2 : (t : ℕ) → walk-lts.Need-same-length-2 (walk-told t) (walk-at t) walk.Post walk-Inv-loop walk-μ-loop
 walk-same-length-2 t c = search needs
@@ -763,24 +882,20 @@ walk-same-length-2 t c = search needs
 walk-returns-2 : (t : ℕ) → walk-lts.Need-returns-2 (walk-told t) (walk-at t) walk.Post walk-Inv-loop walk-μ-loop
 walk-returns-2 t c =
     let h = c .before in
-    let i = h .before .before .before .before .before .before .before in
-    let a = i .args in
-    let stmt = stmts (a .program .now) in
-    let mate = mates (a .table .now) in
-    (stands-done stmt mate (a .depth) (a .p) (a .q) (h .loop .r) (setOf (a .s .now) (a .b)) (setOf (h .loop .s) (a .b)) (h .loop .inv .4) (c .loop-test .left), h .loop .inv .2)
+    let g = walk-start t h in
+    finished (g .args .s .now) (g .args .depth) (g .args .b) (g .args .p) (g .args .q) (h .loop .s) (h .loop .m) (h .loop .r) (h .loop .inv) (c .loop-test .left)
 
 pub +branch+rounds+turn+walk-spec : {M : Type 1} → statement M
-+branch+rounds+turn+walk-spec = close μ-branch μ-rounds μ-turn μ-walk (λ t. branch-lts.spec (branch-told t)
-    (branch-at t)
++branch+rounds+turn+walk-spec = close μ-branch μ-rounds μ-turn μ-walk (λ t. branch-lts.spec (branch-told t) (branch-at t)
     branch.Post
     (branch-open-branch-requires t)
-    (branch-add-walk t)
+    (branch-mul-inner t)
+    (branch-add-inner t)
     (branch-walk-requires t)
     (branch-enum-known-n t)
     (branch-enum-told t)
     (branch-switch-branch-requires t)
-    (branch-add-walk-2 t)
-    (branch-add-walk-3 t)
+    (branch-add-walk t)
     (branch-walk-requires-2 t)
     (branch-enum-known-n-2 t)
     (branch-enum-told-2 t)
@@ -791,14 +906,14 @@ pub +branch+rounds+turn+walk-spec : {M : Type 1} → statement M
     (branch-returns-2 t)
     (branch-same-length-3 t)
     (branch-returns-3 t))
-    (λ t. rounds-lts.spec (rounds-told t)
-    (rounds-at t)
+    (λ t. rounds-lts.spec (rounds-told t) (rounds-at t)
     rounds.Post
     rounds-Inv-loop
     rounds-μ-loop
     (rounds-open-rounds-requires t)
+    (rounds-mul-inner t)
+    (rounds-add-inner t)
     (rounds-loop-holds t)
-    (rounds-add-walk t)
     (rounds-walk-requires t)
     (rounds-enum-known-n t)
     (rounds-enum-told t)
@@ -817,13 +932,12 @@ pub +branch+rounds+turn+walk-spec : {M : Type 1} → statement M
     (rounds-returns-3 t)
     (rounds-same-length-4 t)
     (rounds-returns-4 t))
-    (λ t. turn-lts.spec (turn-told t)
-    (turn-at t)
+    (λ t. turn-lts.spec (turn-told t) (turn-at t)
     turn.Post
-    (turn-decoded-requires t)
+    (turn-fetch-requires t)
+    (turn-mate-requires t)
     (turn-sub-branch t)
     (turn-add-branch t)
-    (turn-mate-requires t)
     (turn-sub-branch-2 t)
     (turn-branch-requires t)
     (turn-sub-rounds t)
@@ -837,8 +951,7 @@ pub +branch+rounds+turn+walk-spec : {M : Type 1} → statement M
     (turn-returns-2 t)
     (turn-same-length-3 t)
     (turn-returns-3 t))
-    λ t. walk-lts.spec (walk-told t)
-    (walk-at t)
+    λ t. walk-lts.spec (walk-told t) (walk-at t)
     walk.Post
     walk-Inv-loop
     walk-μ-loop

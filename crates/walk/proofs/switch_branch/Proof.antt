@@ -1,4 +1,4 @@
--- `walk::switch_branch` meets its contract. Assumes nothing.
+-- `walk::switch_branch` meets its contract.
 use mathlib.Core.Logic.{inl, inr}
 use native.Mathlib.Omega.{arith}
 use Rattle.walk.proofs.Regions.{branch-switched}
@@ -6,17 +6,25 @@ use borrow.Author.Needs.{needs}
 use Rattle.walk.proofs.switch_branch.Statement.{statement}
 use Rattle.walk.proofs.switch_branch.Tie as tie
 
+-- where the function begins
+abbrev entered : tie.After-copy → tie.Start
+entered c = c .before .before .before
+
+-- the first copy, from the second
+abbrev first : tie.After-copy2 → tie.After-copy
+first c = c .before .before .before .before
+
+mul-other : tie.Need-mul-other
+mul-other c = search needs
+
+add-other : tie.Need-add-other
+add-other c = search needs
+
 add-copy : tie.Need-add-copy
 add-copy c = search needs
 
-add-copy-2 : tie.Need-add-copy-2
-add-copy-2 c = search needs
-
 copy-requires : tie.Need-copy-requires
 copy-requires c κs = (search needs, search needs, inl (omega arith))
-
-add-copy-3 : tie.Need-add-copy-3
-add-copy-3 c = search needs
 
 copy-requires-2 : tie.Need-copy-requires-2
 copy-requires-2 c κs = (search needs, search needs, inr (omega arith))
@@ -26,12 +34,13 @@ same-length c = search needs
 
 returns : tie.Need-returns
 returns c =
-    let a = c .before .before .before .before .before .before .before .before .before .args in
-    let w = c .before .before .before .before .before .before .copy in
+    let w = first (c .before .before) .copy in
     let v = c .before .before .copy2 in
-    branch-switched (a .s .now) (w .last .0) (a .b) (omega arith) (w .kept .0) (v .last .0) (v .kept .0) (w .ensures .0) (w .ensures .1) (v .ensures .0) (v .ensures .1)
+    let g = entered (first (c .before .before)) in
+    branch-switched (g .args .s .now) (w .last .0) (g .args .b) (g .pre) (w .kept .0) (v .last .0) (v .kept .0) (w .ensures .0) (w .ensures .1) (v .ensures .0)
+    (v .ensures .1)
 
 pub switch-branch-spec : {M : Type 1} → statement M
 switch-branch-spec =
     tie.close
-    (tie.spec add-copy add-copy-2 copy-requires add-copy-3 copy-requires-2 same-length returns)
+    (tie.spec mul-other add-other add-copy copy-requires copy-requires-2 same-length returns)

@@ -1,8 +1,8 @@
--- `writer::put_high_first` meets its contract. Assumes nothing.
+-- `writer::put_high_first` meets its contract.
 use native.Mathlib.Omega.{arith}
 use lib.ListN.{length-set}
 use borrow.Author.Needs.{needs}
-use Rattle.node.specs.Word.{fileBytes}
+use Rattle.conjunct.specs.Word.{fileBytes}
 use Rattle.writer.proofs.Written.{stored-eight}
 use Rattle.writer.proofs.put_high_first.Statement.{statement}
 use Rattle.writer.proofs.put_high_first.Tie as tie

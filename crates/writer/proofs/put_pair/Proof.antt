@@ -1,4 +1,4 @@
--- `writer::put_pair` meets its contract. Assumes nothing.
+-- `writer::put_pair` meets its contract.
 use Prim.Native.Nat.{_+_, _*_}
 use native.Mathlib.Omega.{arith}
 use borrow.Author.Needs.{needs}
@@ -6,6 +6,10 @@ use Rattle.model.specs.Bytes.{bytes4}
 use Rattle.writer.proofs.Written.{stored-then, four-bytes}
 use Rattle.writer.proofs.put_pair.Statement.{statement}
 use Rattle.writer.proofs.put_pair.Tie as tie
+
+-- places on the way, by the place from which they are seen
+abbrev put-u32-done : tie.After-slice-known3 → tie.After-put-u32
+put-u32-done c = c .before .before .before .before .before .before
 
 put-u32-requires : tie.Need-put-u32-requires
 put-u32-requires c κs = search needs
@@ -24,8 +28,11 @@ same-length c = search needs
 
 returns : tie.Need-returns
 returns c =
-    let a = c .before .before .before .before .before .before .before .before .before .args in
-    stored-then (a .out .now) _ _ (bytes4 (a .place)) (bytes4 (8 * a .n)) (a .a) (a .a + 4) (omega (arith, four-bytes (a .place))) (c .before .before .before .before .before .before .put-u32 .ensures) (c .before .before .put-u322 .ensures)
+    let after-put-u32 = put-u32-done c in
+    let start = after-put-u32 .before .before .before in
+    let a = start .args in
+    stored-then (a .out .now) _ _ (bytes4 (a .place)) (bytes4 (8 * a .n)) (a .a) (a .a + 4) (omega (arith, four-bytes (a .place)))
+    (after-put-u32 .put-u32 .ensures) (c .before .before .put-u322 .ensures)
 
 pub put-pair-spec : {M : Type 1} → statement M
 put-pair-spec =

@@ -1,17 +1,42 @@
--- `writer::write` meets its contract. Assumes nothing.
+-- `writer::write` meets its contract: the five parts of the file are stored one behind the other (`Written.file-stored`).
 use mathlib.Core.Path.{_≡_, ap, _∙_}
-use Prim.Native.Nat.{_+_, _*_}
+use Prim.Native.Nat.{_+_, _*_, _≤_}
 use native.Mathlib.Omega.{arith}
 use lib.ListN.{length}
 use lib.Seq.{take-all}
 use borrow.Author.Needs.{needs}
+use Rattle.model.specs.Formed.{size}
 use Rattle.bytes_le.specs.Overlay.{overlay}
-use Rattle.model.proofs.FileBytes.{size}
 use Rattle.program.specs.Reading.{tablesOf}
 use Rattle.sets.specs.Region.{setOf}
 use Rattle.writer.proofs.Written.{fields-few, nodes-of-file, file-length, file-stored}
 use Rattle.writer.proofs.write.Statement.{statement}
 use Rattle.writer.proofs.write.Tie as tie
+
+-- the places after each part of the file, from the last to the first, and the entry
+abbrev pairs-next : tie.After-words → tie.After-put-pairs-arg
+pairs-next c = c .before .before .before .before .before
+
+abbrev types-next : tie.After-put-pairs-arg → tie.After-put-bytes-arg
+types-next c = c .before .before .before .before
+
+abbrev fields-next : tie.After-put-bytes-arg → tie.After-put-u32-arg2
+fields-next c = c .before .before .before .before
+
+abbrev after-types : tie.After-put-u32-arg2 → tie.After-field-types
+after-types c = c .before .before .before .before .before .before
+
+abbrev entry : tie.After-field-types → tie.Start
+entry c = c .before .before .before .before
+
+abbrev all-put : tie.After-words2 → tie.After-put-pairs
+all-put c = c .before .before .before .before .before .before .before .before
+
+-- the program has at most 32 fields
+few-types : (c : tie.After-field-types) → length (c .field-types .result .now) ≤ 32
+few-types c =
+    let start = entry c in
+    omega (arith, ap length (c .field-types .ensures), fields-few (start .args .program .now) (start .args .layout) (start .pre .read))
 
 field-types-requires : tie.Need-field-types-requires
 field-types-requires c κs = search needs
@@ -33,16 +58,12 @@ put-u32-requires c κs = search needs
 
 put-u32-requires-2 : tie.Need-put-u32-requires-2
 put-u32-requires-2 c κs =
-    let a = c .before .before .before .before .before .before .before .before .before .before .args in
-    let few = fields-few (a .program .now) (a .layout) (c .before .before .before .before .before .before .before .before .before .before .pre .0) in
-    let types = ap length (c .before .before .before .before .before .before .field-types .ensures) in
+    let few = few-types (after-types c) in
     omega arith
 
 put-bytes-requires : tie.Need-put-bytes-requires
 put-bytes-requires c κs =
-    let a = c .before .before .before .before .before .before .before .before .before .before .before .before .before .before .args in
-    let few = fields-few (a .program .now) (a .layout) (c .before .before .before .before .before .before .before .before .before .before .before .before .before .before .pre .0) in
-    let types = ap length (c .before .before .before .before .before .before .before .before .before .before .field-types .ensures) in
+    let few = few-types (after-types (fields-next c)) in
     (omega arith, omega arith)
 
 add-put-pairs : tie.Need-add-put-pairs
@@ -50,41 +71,46 @@ add-put-pairs c = search needs
 
 put-pairs-requires : tie.Need-put-pairs-requires
 put-pairs-requires c κs =
-    let a = c .before .before .before .before .before .before .before .before .before .before .before .before .before .before .before .before .before .before .args in
-    let few = fields-few (a .program .now) (a .layout) (c .before .before .before .before .before .before .before .before .before .before .before .before .before .before .before .before .before .before .pre .0) in
-    let types = ap length (c .before .before .before .before .before .before .before .before .before .before .before .before .before .before .field-types .ensures) in
-    omega (arith, c .before .before .before .before .before .before .before .before .before)
+    let t = fields-next (types-next c) in
+    omega (arith, few-types (after-types t), t .before)
 
 slice-aggregate-put-conjuncts : tie.Need-slice-aggregate-put-conjuncts
 slice-aggregate-put-conjuncts c = search needs
 
 put-conjuncts-requires : tie.Need-put-conjuncts-requires
 put-conjuncts-requires c κs =
-    let a = c .before .before .before .before .before .before .before .before .before .before .before .before .before .before .before .before .before .before .before .before .before .before .before .args in
-    let few = fields-few (a .program .now) (a .layout) (c .before .before .before .before .before .before .before .before .before .before .before .before .before .before .before .before .before .before .before .before .before .before .before .pre .0) in
-    let types = ap length (c .before .before .before .before .before .before .before .before .before .before .before .before .before .before .before .before .before .before .before .field-types .ensures) in
-    omega (arith, c .before .before .before .before .before .before .before .before .before .before .before .before .before .before)
+    let t = fields-next (types-next (pairs-next c)) in
+    omega (arith, few-types (after-types t), t .before)
 
 same-length : tie.Need-same-length
 same-length c = search needs
 
 returns : tie.Need-returns
 returns c =
-    let a = c .before .before .before .before .before .before .before .before .before .before .before .before .before .before .before .before .before .before .before .before .before .before .before .before .before .before .before .args in
+    let after-put-pairs = all-put c in
+    let after-put-bytes = after-put-pairs .before .before .before .before in
+    let after-put-fields = after-put-bytes .before .before .before .before in
+    let after-put-count = after-put-fields .before .before .before .before in
+    let after-size = after-put-count .before .before in
+    let start = entry (after-size .before) in
+    let a = start .args in
     let types = tablesOf (a .program .now) .fields in
     let S = setOf (a .s .now) (a .b) in
-    let formed = c .before .before .before .before .before .before .before .before .before .before .before .before .before .before .before .before .before .before .before .before .before .before .before .before .before .before .before .pre .3 in
-    let few = fields-few (a .program .now) (a .layout) (c .before .before .before .before .before .before .before .before .before .before .before .before .before .before .before .before .before .before .before .before .before .before .before .before .before .before .before .pre .0) in
-    let copied = c .before .before .before .before .before .before .before .before .before .before .before .before .before .before .before .before .before .before .before .before .before .before .before .field-types in
-    let count = c .before .before .before .before .before .before .before .before .before .before .before .before .before .before .before .before .before .before .before .before .before .before .size in
+    let formed = start .pre .formed in
+    let few = few-types (after-size .before) in
+    let copied = after-size .before .field-types in
+    let count = after-size .size in
     let put = c .before .before .before .put-conjuncts in
     let fields : length (copied .result .now) ≡ length types = ap length (copied .ensures) in
-    let last : put .result ≡ 8 + length types + 8 * length S + 8 * size S = omega (arith, put .ensures .0, count .ensures .0) in (
-      file-length types S formed (put .result) last,
-      omega (arith, put .ensures .1, count .ensures .1),
-      file-stored types S (copied .result .now) (count .result) (copied .ensures) (count .ensures .0) (a .out .now) _ _ _ _ (put .last .0)
-          (c .before .before .before .before .before .before .before .before .before .before .before .before .before .before .before .before .before .before .before .before .put-u32 .ensures) (c .before .before .before .before .before .before .before .before .before .before .before .before .before .before .before .before .put-u322 .ensures) (c .before .before .before .before .before .before .before .before .before .before .before .before .put-bytes .ensures ∙ ap (overlay _ 8) (take-all (length (copied .result .now)) (copied .result .now) (omega arith))) (c .before .before .before .before .before .before .before .before .put-pairs .ensures) (put .ensures .2 types (nodes-of-file types S formed)),
-    )
+    let last : put .result ≡ 8 + length types + 8 * length S + 8 * size S = omega (arith, put .ensures .end, count .ensures .0) in
+    let whole = take-all (length (copied .result .now)) (copied .result .now) (omega arith) in
+    record {
+      end = file-length types S formed (put .result) last;
+      most = omega (arith, put .ensures .most, count .ensures .1);
+      bytes = file-stored types S (copied .result .now) (count .result) (copied .ensures) (count .ensures .0) (a .out .now) _ _ _ _ (put .last .0)
+          (after-put-count .put-u32 .ensures) (after-put-fields .put-u322 .ensures) (after-put-bytes .put-bytes .ensures ∙ ap (overlay _ 8) whole)
+          (after-put-pairs .put-pairs .ensures) (put .ensures .bytes types (nodes-of-file types S formed));
+    }
 
 pub write-spec : {M : Type 1} → statement M
 write-spec =

@@ -1,0 +1,58 @@
+-- `cases::reading::recipe_lines` is safe: a layout or counts that were read are those of the file.
+use Rattle.program.proofs.Known.{is-read}
+use borrow.Author.Needs.{needs}
+use Rattle.cases.proofs.reading.recipe_lines.Statement.{statement}
+use Rattle.cases.proofs.reading.recipe_lines.Tie as tie
+
+slice-aggregate-begin : tie.Need-slice-aggregate-begin
+slice-aggregate-begin c = search needs
+
+begin-requires : tie.Need-begin-requires
+begin-requires c κs = search needs
+
+read-requires : tie.Need-read-requires
+read-requires c κs = search needs
+
+enum-known-r : tie.Need-enum-known-r
+enum-known-r c = search needs
+
+refused-requires : tie.Need-refused-requires
+refused-requires c κs = search needs
+
+enum-known-r-2 : tie.Need-enum-known-r-2
+enum-known-r-2 c = search needs
+
+field-types-requires : tie.Need-field-types-requires
+field-types-requires c κs = is-read _ _ _ (c .before .before .before .read .ensures) (c .before .r2 .given .1) .placed
+
+say-layout-requires : tie.Need-say-layout-requires
+say-layout-requires c κs = search needs
+
+slice-aggregate-sheet-line : tie.Need-slice-aggregate-sheet-line
+slice-aggregate-sheet-line c = search needs
+
+sheet-line-requires : tie.Need-sheet-line-requires
+sheet-line-requires c κs = search needs
+
+returns : tie.Need-returns
+returns c = search needs
+
+returns-2 : tie.Need-returns-2
+returns-2 c = search needs
+
+pub recipe-lines-spec : {M : Type 1} → statement M
+recipe-lines-spec =
+    tie.close
+    (tie.spec
+    slice-aggregate-begin
+    begin-requires
+    read-requires
+    enum-known-r
+    refused-requires
+    enum-known-r-2
+    field-types-requires
+    say-layout-requires
+    slice-aggregate-sheet-line
+    sheet-line-requires
+    returns
+    returns-2)

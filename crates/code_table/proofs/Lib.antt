@@ -1,0 +1,5 @@
+pub mod Meanings
+pub mod Forms
+pub mod Standing
+pub mod Packs
+pub mod Loading

@@ -1,0 +1,60 @@
+-- The two answers of a substitution, from the words that it has put together.
+use mathlib.Core.Bool.{true, false}
+use mathlib.Core.List.{List, [], _∷_, _++_, flatMap}
+use mathlib.Core.Path.{_≡_, sym, ap, _∙_}
+use Prim.Native.Nat.{ℕ, _+_, _<_, _≤_}
+use native.Mathlib.Numerals.{add-one}
+use native.Mathlib.Omega.{arith}
+use lib.ListN.{length, take, getD, set, length-append}
+use lib.Seq.{length-take-le, take-suc-set}
+use Rattle.model.specs.Conjunct.{renumber, AtAtom}
+use Rattle.model.specs.Lists.{All}
+use Rattle.model.specs.Walk.{replace}
+use Rattle.model.specs.Sizes.{mostNodes}
+use Rattle.model.specs.Touch.{isVar}
+use Rattle.model.specs.TidySets.{Numbered}
+use Rattle.conjunct.specs.Word.{nodeOf, nodesOf}
+use Rattle.conjunct.specs.Value.{conjOf}
+use Rattle.conjunct.proofs.numbering.Fresh.{flat-snoc, flat-part, fresh-length, fresh-renumber}
+use Rattle.conjunct.specs.Behind.{rightWords, rightOf, pieceOf}
+use Rattle.conjunct.specs.declared.numbering.Right.{Right}
+
+-- ---- one word more
+
+pub piece-there : (x : ℕ) (r : List ℕ) (w : ℕ) → isVar x (nodeOf w) ≡ true → pieceOf x r w ≡ r
+unfolding pieceOf
+piece-there x r w h = rw h
+
+pub piece-other : (x : ℕ) (r : List ℕ) (w : ℕ) → isVar x (nodeOf w) ≡ false → pieceOf x r w ≡ (w ∷ [])
+unfolding pieceOf
+piece-other x r w h = rw h
+
+module _ (x : ℕ) (r l : List ℕ) (i : ℕ) (inside : i < length l) where
+  pub more-there : isVar x (nodeOf (getD l i 0)) ≡ true → flatMap (pieceOf x r) (take (i + 1) l) ≡ flatMap (pieceOf x r) (take i l) ++ r
+  more-there v = flat-snoc (pieceOf x r) l i 0 inside ∙ ap (flatMap (pieceOf x r) (take i l) ++_) (piece-there x r (getD l i 0) v)
+
+  pub more-other : (out : List ℕ) (m : ℕ) → m < length out → take m out ≡ flatMap (pieceOf x r) (take i l) → isVar x (nodeOf (getD l i 0)) ≡ false
+      → take (m + 1) (set out m (getD l i 0)) ≡ flatMap (pieceOf x r) (take (i + 1) l)
+  more-other out m h t v =
+      rw (add-one m, take-suc-set out m (getD l i 0) h, t)
+      (sym (flat-snoc (pieceOf x r) l i 0 inside ∙ ap (flatMap (pieceOf x r) (take i l) ++_) (piece-other x r (getD l i 0) v)))
+
+-- ---- the answers
+
+module _ (l : List ℕ) (n x : ℕ) (r : Right) (inside : n ≤ length l) (numbered : Numbered (conjOf l n))
+    (fresh : All (AtAtom (λ a. a .n ≡ 0)) (rightOf r)) where
+  -- over 120 nodes already after some words
+  pub replaced-over : (i m k : ℕ) (out : List ℕ) → i < n → m ≤ length out → take m out ≡ flatMap (pieceOf x (rightWords r)) (take i l)
+      → length (pieceOf x (rightWords r) (getD l i 0)) ≡ k → mostNodes < m + k → mostNodes < length (flatMap (replace x (rightOf r)) (conjOf l n))
+  replaced-over i m k out h f t p o =
+      let F = pieceOf x (rightWords r) in
+      let a : length (flatMap F (take i l)) ≡ m = ap length (sym t) ∙ length-take-le m out f in
+      let b = ap length (flat-snoc F l i 0 (omega arith)) ∙ length-append (flatMap F (take i l)) (F (getD l i 0)) in
+      let d = flat-part F l (i + 1) n (omega arith) in
+      omega (arith, fresh-length x (rightWords r) fresh (take n l) numbered)
+
+  -- all words put together, and renumbered
+  pub replaced-done : (m : ℕ) (out after : List ℕ) → take m out ≡ flatMap (pieceOf x (rightWords r)) (take n l)
+      → conjOf after m ≡ renumber (conjOf out m)
+      → conjOf after m ≡ renumber (flatMap (replace x (rightOf r)) (conjOf l n))
+  replaced-done m out after t c = c ∙ ap (λ ws. renumber (nodesOf ws)) t ∙ fresh-renumber x (rightWords r) fresh (take n l) numbered

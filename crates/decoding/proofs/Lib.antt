@@ -1,3 +1,0 @@
-pub mod Forms
-pub mod Indexes
-pub mod Standing

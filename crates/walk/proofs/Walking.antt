@@ -1,0 +1,112 @@
+-- The walk of a piece so far: from the last label back to r, with the set of the region at b and its footprint. Each turn of the loop
+-- is one law; what the table says is carried from the words before to those after, since nothing before the region changes.
+use mathlib.Core.List.{List}
+use mathlib.Core.Path.{_≡_, refl, sym, subst, _∙_}
+use Prim.Native.Nat.{ℕ, _-_, _≤_, _<_}
+use native.Mathlib.Omega.{arith}
+use lib.ListN.{length}
+use Rattle.model.specs.Sizes.{mostNested}
+use Rattle.code_table.specs.Table.{tableWords, tableOf, stmtIn, mateIn, stmts, mates, Knows}
+use Rattle.footprint.specs.Footprints.{CoversSet, SparedAll, BackTo}
+use Rattle.footprint.specs.declared.Footprint.{Footprint}
+use Rattle.rules.specs.Answers.{Below}
+use Rattle.rules.specs.declared.Answer.{Answer}
+use Rattle.rules.specs.declared.Answer.the-variants.{Done, Refused}
+use Rattle.sets.specs.Region.{setOf}
+use Rattle.walk.specs.Piece.{Piece, Ready, Walked}
+use Rattle.walk.specs.Turn.{firstOf, Single}
+use Rattle.walk.proofs.Regions.{below-self, below-trans, below-table, lies-on, knows-on, knows-less, walked-done, walked-refused}
+use Rattle.walk.proofs.Turns.{Stands, stands-first, stands-done, stands-due, stands-bounds, stands-turned, stands-refused, stands-passed, stands-over}
+
+module _ (s₀ : List ℕ) (depth b p q : ℕ) where
+  pub record Walking (s : List ℕ) (m : Footprint) (r : ℕ) : Type 0 where
+    pub most : r ≤ q
+    pub same-length : length s ≡ length s₀
+    pub below : Below b s₀ s
+    pub table : tableOf 0 s ≡ tableOf 0 s₀
+    pub covers : CoversSet m (setOf s b)
+    pub stands : Stands (stmts s₀) (mates s₀) depth p q r (setOf s₀ b) (setOf s b)
+
+  pub walking-first : Ready mostNested 2 s₀ depth b q → Piece s₀ depth p q → (m : Footprint) → CoversSet m (setOf s₀ b) → Walking s₀ m q
+  walking-first g c m k = record {
+    most = omega arith;
+    same-length = refl;
+    below = below-self b s₀;
+    table = refl;
+    covers = k;
+    stands = stands-first (stmts s₀) (mates s₀) depth p q (setOf s₀ b) (c .code) (c .lies) (c .nested) (g .tidy);
+  }
+
+  module _ (s : List ℕ) (m : Footprint) (r : ℕ) (w : Walking s m r) where
+    pub knows-here : (l : ℕ) → l ≤ r → Knows q s₀ → Knows l s
+    knows-here l h k = knows-on s₀ s (w .table) l (knows-less l q s₀ (omega (arith, w .most)) k)
+
+    -- statements that change nothing that the set speaks of are passed over
+    pub passes-over : (l : ℕ) → BackTo m (stmts s) p r l → Walking s m l
+    passes-over l k = record {
+      most = omega (arith, k .most, w .most);
+      same-length = w .same-length;
+      below = w .below;
+      table = w .table;
+      covers = w .covers;
+      stands =
+          stands-over (stmts s₀) (mates s₀) depth p q l r (setOf s₀ b) (setOf s b) (w .stands) m (w .covers) (k .least) (k .most)
+          (subst (λ t. BackTo m (stmtIn t) p r l) (w .table) k .passed);
+    }
+
+    -- nothing is left
+    pub finished : r ≤ p → Walked (stmts s₀) (mates s₀) Done p q b s₀ s
+    finished h = (stands-done (stmts s₀) (mates s₀) depth p q r (setOf s₀ b) (setOf s b) (w .stands) h, w .below)
+
+    -- the last statement or block, from the label l on, is due
+    module _ (l : ℕ) (more : p < r) (first : l ≡ firstOf (stmts s (r - 1)) (mates s) (r - 1)) where
+      first-here : l ≡ firstOf (stmts s₀ (r - 1)) (mates s₀) (r - 1)
+      first-here = subst (λ t. l ≡ firstOf (stmtIn t (r - 1)) (mateIn t) (r - 1)) (w .table) first
+
+      pub bounds : (p ≤ l) × (l < r)
+      bounds = stands-bounds (stmts s₀) (mates s₀) depth p q l r (setOf s₀ b) (setOf s b) (w .stands) more first-here
+
+      pub due : Single s depth l r
+      due =
+          let d = stands-due (stmts s₀) (mates s₀) depth p q l r (setOf s₀ b) (setOf s b) (w .stands) more first-here in
+          record { code = d .0; lies = lies-on s₀ s (w .table) (d .0) l r (d .1); nested = d .2; sole = d .3 }
+
+      -- it is passed over as a whole
+      pub passes-block : SparedAll m (stmts s) l r → Walking s m l
+      passes-block k = record {
+        most = omega (arith, bounds .1, w .most);
+        same-length = w .same-length;
+        below = w .below;
+        table = w .table;
+        covers = w .covers;
+        stands =
+            stands-passed (stmts s₀) (mates s₀) depth p q l r (setOf s₀ b) (setOf s b) (w .stands) more first-here m (w .covers)
+            (subst (λ t. SparedAll m (stmtIn t) l r) (w .table) k);
+      }
+
+      -- its walk answered a and took s to t
+      module _ (t : List ℕ) (a : Answer) (turned : Walked (stmts s) (mates s) a l r b s t) where
+        here : Walked (stmts s₀) (mates s₀) a l r b s t
+        here = subst (λ k. Walked (stmtIn k) (mateIn k) a l r b s t) (w .table) turned
+
+        to-t : Below b s₀ t
+        to-t = below-trans b s₀ s t (w .below) (turned .1)
+
+        pub turn-refused : (n : ℕ) → a ≡ Refused n → Walked (stmts s₀) (mates s₀) (Refused n) p q b s₀ t
+        turn-refused n e = (
+          stands-refused (stmts s₀) (mates s₀) depth p q l r (setOf s₀ b) (setOf s b) (w .stands) more first-here n
+              (walked-refused (stmts s₀) (mates s₀) a l r b s t here n e),
+          to-t,
+        )
+
+        pub turn-done : a ≡ Done → tableWords ≤ b → b ≤ length s₀ → length t ≡ length s → (m′ : Footprint) → CoversSet m′ (setOf t b) → Walking t m′ l
+        turn-done e h k same-t m′ c = record {
+          most = omega (arith, bounds .1, w .most);
+          same-length = same-t ∙ w .same-length;
+          below = to-t;
+          table = below-table b s₀ t h k (same-t ∙ w .same-length) to-t;
+          covers = c;
+          stands =
+              stands-turned (stmts s₀) (mates s₀) depth p q l r (setOf s₀ b) (setOf s b) (w .stands) more first-here (setOf t b)
+              (walked-done (stmts s₀) (mates s₀) a l r b s t here e);
+        }
