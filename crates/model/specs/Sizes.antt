@@ -1,4 +1,4 @@
--- The sizes and limits of document 01, each number by one name. Every file, and every operation, cites it by that name.
+-- The sizes and limits of document 01, each number by one name.
 use Prim.Native.Nat.{ℕ, _+_, _*_}
 
 -- ---- the program file
