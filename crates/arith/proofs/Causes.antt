@@ -7,7 +7,7 @@ use lib.Dec.{leb, leb·zero}
 use lib.IntN.{ℤ, pos, negsuc, negℤ}
 use lib.Signed.{leZ}
 use borrow.Author.Tests.{not-true}
-use Rattle.arith.specs.declared.Whole.{Whole}
+use Rattle.arith.specs.declared.whole.Whole.{Whole}
 use Rattle.arith.specs.declared.Op.{Op}
 use Rattle.arith.specs.declared.Cause.the-variants.{Above, Below, NoDivisor}
 use Rattle.arith.specs.Types.{depth, height, lowest, highest}

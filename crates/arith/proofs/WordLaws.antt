@@ -8,7 +8,7 @@ use native.Mathlib.Omega.{arith}
 use lib.Dec.{leb}
 use lib.IntN.{ℤ, pos, negsuc, negℤ}
 use borrow.Author.Tests.{leb-true, leb-false}
-use Rattle.arith.specs.declared.Whole.{Whole}
+use Rattle.arith.specs.declared.whole.Whole.{Whole}
 use Rattle.arith.specs.Types.{bits, signed, depth, height}
 use Rattle.arith.specs.Whole.{ofSign, Holds}
 use Rattle.arith.specs.Step.{residue, wrap}

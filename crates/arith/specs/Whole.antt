@@ -5,7 +5,7 @@ use Prim.Native.Nat.{ℕ, _%_, _^_}
 use lib.Dec.{leb}
 use lib.IntN.{ℤ, pos, negℤ}
 use Rattle.arith.specs.declared.Num.{Num}
-use Rattle.arith.specs.declared.Whole.{Whole}
+use Rattle.arith.specs.declared.whole.Whole.{Whole}
 
 -- the whole number with this sign (true: negative) and this magnitude
 abbrev pub ofSign : Bool → ℕ → ℤ

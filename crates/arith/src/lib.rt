@@ -1,9 +1,8 @@
 // One step of arithmetic on the eight integer types, in whole numbers: its value, or why it
 // overflows; and wrapped to the type, with whether it overflowed.
 ghost use mathlib.Core.Path.{_≡_};
-ghost use mathlib.Core.Bool.{Bool, true, not, cond, _||_};
-ghost use Prim.Native.Nat.{ℕ, _+_, _*_, _%_, _^_, _<_};
-ghost use lib.Dec.{leb};
+ghost use mathlib.Core.Bool.{true, not, cond, _||_};
+ghost use Prim.Native.Nat.{ℕ, _%_, _^_, _<_};
 ghost use lib.IntN.{ℤ, pos};
 ghost use lib.Signed.{leZ};
 ghost use Rattle.arith.specs.declared.Cause.the-variants.{Above, Below, NoDivisor};
@@ -11,19 +10,14 @@ ghost use Rattle.arith.specs.Types.{Row, IsRow, bits, lowest, limitOf};
 ghost use Rattle.arith.specs.Whole.{valueOf, Holds};
 ghost use Rattle.arith.specs.Words.{wordOf, valueAt, immediate};
 ghost use Rattle.arith.specs.Step.{opOf, exactOf, lacksDivisor, fits, stepOf, outcomeOf, wrap, overflows};
+use whole::Whole;
+
+mod whole;
 
 // A whole number by its sign and its magnitude. Zero may have either sign.
 pub struct Num {
     pub neg: bool,
     pub mag: u64,
-}
-
-// A whole number whose magnitude may pass 64 bits: its sign, whether the magnitude is 2^64 or
-// more, and the magnitude modulo 2^64.
-pub struct Whole {
-    pub neg: bool,
-    pub over: bool,
-    pub low: u64,
 }
 
 // A type's width in bits, how far its lowest value lies below 0, and its highest value.
@@ -138,162 +132,16 @@ fn limit(range: Range, neg: bool) -> u64
     if neg { range.lowest } else { range.highest }
 }
 
-// The exact sum, from the magnitudes.
-fn sum(a: Num, b: Num) -> Whole
-    ensures { λ w. ⌜ Holds w (exactOf Op.Add (valueOf a) (valueOf b)) ⌝ }
-{
-    let x = a.mag;
-    let y = b.mag;
-    let s = a.neg;
-    if s == b.neg {
-        let low = std::num::wrapping_add_u64(x, y);
-        return Whole {
-            neg: s,
-            over: low < x,
-            low,
-        };
-    }
-    if x < y {
-        return Whole {
-            neg: b.neg,
-            over: false,
-            low: y - x,
-        };
-    }
-    Whole {
-        neg: s,
-        over: false,
-        low: x - y,
-    }
-}
-
-fn difference(a: Num, b: Num) -> Whole
-    ensures { λ w. ⌜ Holds w (exactOf Op.Sub (valueOf a) (valueOf b)) ⌝ }
-{
-    sum(
-        a,
-        Num {
-            neg: !b.neg,
-            mag: b.mag,
-        },
-    )
-}
-
-// x * y modulo 2^64, by halves of 32 bits. The product of the upper halves does not count.
-fn low_product(x: u64, y: u64) -> u64
-    ensures { λ r. ⌜ r ≡ x * y % 2 ^ 64 ⌝ }
-{
-    let x0 = x % 0x1_0000_0000;
-    let x1 = x / 0x1_0000_0000;
-    let y0 = y % 0x1_0000_0000;
-    let y1 = y / 0x1_0000_0000;
-    let p = x1 * y0 % 0x1_0000_0000;
-    let q = x0 * y1 % 0x1_0000_0000;
-    let mid = (p + q) % 0x1_0000_0000;
-    std::num::wrapping_add_u64(mid * 0x1_0000_0000, x0 * y0)
-}
-
-// Whether x * y is 2^64 or more.
-fn too_large(x: u64, y: u64) -> bool
-    ensures { λ r. ⌜ r ≡ leb (2 ^ 64) (x * y) ⌝ }
-{
-    if y == 0 {
-        return false;
-    }
-    u64::MAX / y < x
-}
-
-fn product(a: Num, b: Num) -> Whole
-    ensures { λ w. ⌜ Holds w (exactOf Op.Mul (valueOf a) (valueOf b)) ⌝ }
-{
-    let over = too_large(a.mag, b.mag);
-    let low = low_product(a.mag, b.mag);
-    let s = a.neg;
-    let t = b.neg;
-    Whole {
-        neg: s != t,
-        over,
-        low,
-    }
-}
-
-// Toward zero; 0 where there is no divisor.
-fn quotient(a: Num, b: Num) -> Whole
-    ensures { λ w. ⌜ Holds w (exactOf Op.Div (valueOf a) (valueOf b)) ⌝ }
-{
-    let s = a.neg;
-    let t = b.neg;
-    let x = a.mag;
-    let y = b.mag;
-    if y == 0 {
-        return Whole {
-            neg: false,
-            over: false,
-            low: 0,
-        };
-    }
-    Whole {
-        neg: s != t,
-        over: false,
-        low: x / y,
-    }
-}
-
-fn kept(a: Num) -> Whole
-    ensures { λ w. ⌜ Holds w (valueOf a) ⌝ }
-{
-    Whole {
-        neg: a.neg,
-        over: false,
-        low: a.mag,
-    }
-}
-
-fn exact(op: Op, a: Num, b: Num) -> Whole
-    ensures { λ w. ⌜ Holds w (exactOf op (valueOf a) (valueOf b)) ⌝ }
-{
-    match op {
-        Op::Add => sum(a, b),
-        Op::Sub => difference(a, b),
-        Op::Mul => product(a, b),
-        Op::Div => quotient(a, b),
-        Op::Convert => kept(a),
-    }
-}
-
-// A division by zero.
-fn lacks(op: Op, b: Num) -> bool
-    ensures { λ r. ⌜ r ≡ lacksDivisor op (valueOf b) ⌝ }
-{
-    match op {
-        Op::Add => false,
-        Op::Sub => false,
-        Op::Mul => false,
-        Op::Div => b.mag == 0,
-        Op::Convert => false,
-    }
-}
-
-// Whether the magnitude of w is at most l.
-fn within(w: Whole, l: u64) -> bool
-    ensures { λ r. ⌜ ((z : ℤ) (h : Holds w z) → r ≡ leb (h .mag) l) ⌝ }
-{
-    if w.over {
-        return false;
-    }
-    w.low <= l
-}
-
 // Whether a step with the exact result w overflows.
 fn overflowed(op: Op, range: Range, b: Num, w: Whole) -> bool
     ensures { λ r. ⌜ ((ty : ℕ) (z : ℤ) → Row ty range → Holds w z → r ≡ (lacksDivisor op (valueOf b) || not (fits ty z))) ⌝ }
 {
-    if lacks(op, b) {
+    if whole::lacks(op, b) {
         return true;
     }
     let neg = w.neg;
     let l = limit(range, neg);
-    !within(w, l)
+    !whole::within(w, l)
 }
 
 // Why a step with the exact result w overflows: without a divisor, or on the side of 0 where w is.
@@ -301,7 +149,7 @@ fn cause_of(op: Op, b: Num, w: Whole) -> Cause
     ensures { λ c. ⌜ ((ty : ℕ) (z : ℤ) → Holds w z → (lacksDivisor op (valueOf b) || not (fits ty z)) ≡ true
         → c ≡ cond (lacksDivisor op (valueOf b)) NoDivisor (cond (leZ (lowest ty) z) Above Below)) ⌝ }
 {
-    if lacks(op, b) {
+    if whole::lacks(op, b) {
         return Cause::NoDivisor;
     }
     if w.neg {
@@ -315,7 +163,7 @@ fn cause_of(op: Op, b: Num, w: Whole) -> Cause
 pub fn checked_step(op: Op, range: Range, a: Num, b: Num) -> Step
     ensures { λ s. ⌜ ((ty : ℕ) → Row ty range → outcomeOf s ≡ stepOf op ty (valueOf a) (valueOf b)) ⌝ }
 {
-    let w = exact(op, a, b);
+    let w = whole::exact(op, a, b);
     if overflowed(op, range, b, w) {
         return Step::Overflow(cause_of(op, b, w));
     }
@@ -370,7 +218,7 @@ pub fn of_bits(range: Range, w: u64) -> Num
     requires { ⌜ IsRow range ⌝ }
     ensures { λ n. ⌜ ((ty : ℕ) → Row ty range → valueOf n ≡ wrap ty (pos w)) ⌝ }
 {
-    fold(range, kept(Num { neg: false, mag: w }))
+    fold(range, whole::kept(Num { neg: false, mag: w }))
 }
 
 // The number that four bytes stand for as an immediate of a type: an i32 for a signed type, a u32
@@ -445,7 +293,7 @@ pub fn wrapped_words(op: Op, from: u8, range: Range, a: u64, b: u64) -> WrappedW
 {
     let x = from_word(from, a);
     let y = from_word(from, b);
-    let w = exact(op, x, y);
+    let w = whole::exact(op, x, y);
     let over = overflowed(op, range, y, w);
     WrappedWord {
         word: word_in(range, w),

@@ -1,7 +1,6 @@
 -- `arith::word_in` meets its contract.
 use mathlib.Core.Path.{ap, _∙_}
 use Prim.Native.Nat.{ℕ, _+_, _%_, _^_}
-use native.Mathlib.Omega.{arith}
 use Rattle.arith.specs.Types.{bits}
 use Rattle.arith.specs.Words.{wordOf}
 use Rattle.arith.proofs.WordLaws.{word-held, word-wrap}

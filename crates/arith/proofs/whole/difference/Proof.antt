@@ -1,8 +1,8 @@
--- `arith::difference` meets its contract: the sum with the other number of the opposite sign.
+-- `arith::whole::difference` meets its contract: the sum with the other number of the opposite sign.
 use Rattle.arith.proofs.Signs.{neg-sign}
 use borrow.Author.Needs.{needs}
-use Rattle.arith.proofs.difference.Statement.{statement}
-use Rattle.arith.proofs.difference.Tie as tie
+use Rattle.arith.proofs.whole.difference.Statement.{statement}
+use Rattle.arith.proofs.whole.difference.Tie as tie
 
 sum-requires : tie.Need-sum-requires
 sum-requires c κs = search needs

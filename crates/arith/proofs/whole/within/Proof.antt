@@ -1,8 +1,8 @@
--- `arith::within` meets its contract.
+-- `arith::whole::within` meets its contract.
 use borrow.Author.Needs.{needs}
-use Rattle.arith.proofs.Held.{far, near}
-use Rattle.arith.proofs.within.Statement.{statement}
-use Rattle.arith.proofs.within.Tie as tie
+use Rattle.arith.proofs.whole.Results.{far, near}
+use Rattle.arith.proofs.whole.within.Statement.{statement}
+use Rattle.arith.proofs.whole.within.Tie as tie
 
 returns : tie.Need-returns
 returns c = λ z h. far (c .before .args .w) h (c .before .args .l) (search needs) (c .if1 .taken)

@@ -1,11 +1,11 @@
--- `arith::sum` meets its contract: by the three cases of the signs and the magnitudes.
+-- `arith::whole::sum` meets its contract: by the three cases of the signs and the magnitudes.
 use Prim.Native.Nat.{_+_, _-_}
 use native.Mathlib.Omega.{arith}
 use borrow.Author.Needs.{needs}
 use Rattle.arith.proofs.Signs.{like, opposite, add-same, add-lt, add-ge}
-use Rattle.arith.proofs.Held.{small, carry}
-use Rattle.arith.proofs.sum.Statement.{statement}
-use Rattle.arith.proofs.sum.Tie as tie
+use Rattle.arith.proofs.whole.Results.{small, carry}
+use Rattle.arith.proofs.whole.sum.Statement.{statement}
+use Rattle.arith.proofs.whole.sum.Tie as tie
 
 wrapping-add-u64-requires : tie.Need-wrapping-add-u64-requires
 wrapping-add-u64-requires c κs = search needs

@@ -1,4 +1,4 @@
--- `arith::quotient` meets its contract.
+-- `arith::whole::quotient` meets its contract.
 use mathlib.Core.Path.{_∙_}
 use mathlib.Core.Bool.{false}
 use Prim.Native.Nat.{_/_}
@@ -6,11 +6,11 @@ use native.Mathlib.Nat.{lt-of-le-of-lt, div-le-self}
 use native.Mathlib.Omega.{arith}
 use Rattle.arith.proofs.Signs.{unlike, abs-sign, quot-sign}
 use Rattle.arith.specs.Whole.{valueOf}
-use Rattle.arith.proofs.Held.{small}
+use Rattle.arith.proofs.whole.Results.{small}
 use Rattle.arith.proofs.StepLaws.{div-zero-exact}
 use borrow.Author.Needs.{needs}
-use Rattle.arith.proofs.quotient.Statement.{statement}
-use Rattle.arith.proofs.quotient.Tie as tie
+use Rattle.arith.proofs.whole.quotient.Statement.{statement}
+use Rattle.arith.proofs.whole.quotient.Tie as tie
 
 returns : tie.Need-returns
 returns c =

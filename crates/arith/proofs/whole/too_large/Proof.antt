@@ -1,10 +1,10 @@
--- `arith::too_large` meets its contract.
+-- `arith::whole::too_large` meets its contract.
 use native.Mathlib.Nat.{mul-zero}
 use native.Mathlib.Omega.{arith}
-use Rattle.arith.proofs.Held.{too-large}
+use Rattle.arith.proofs.whole.Results.{too-large}
 use borrow.Author.Needs.{needs}
-use Rattle.arith.proofs.too_large.Statement.{statement}
-use Rattle.arith.proofs.too_large.Tie as tie
+use Rattle.arith.proofs.whole.too_large.Statement.{statement}
+use Rattle.arith.proofs.whole.too_large.Tie as tie
 
 returns : tie.Need-returns
 returns c = simp (c .if1 .taken, mul-zero)

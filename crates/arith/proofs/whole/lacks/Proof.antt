@@ -1,9 +1,9 @@
--- `arith::lacks` meets its contract.
+-- `arith::whole::lacks` meets its contract.
 use mathlib.Core.Path.{refl}
 use Rattle.arith.proofs.Signs.{abs-sign}
 use borrow.Author.Needs.{needs}
-use Rattle.arith.proofs.lacks.Statement.{statement}
-use Rattle.arith.proofs.lacks.Tie as tie
+use Rattle.arith.proofs.whole.lacks.Statement.{statement}
+use Rattle.arith.proofs.whole.lacks.Tie as tie
 
 enum-told : tie.Need-enum-told
 enum-told c = search needs
