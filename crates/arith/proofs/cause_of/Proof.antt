@@ -6,9 +6,6 @@ use borrow.Author.Needs.{needs}
 use Rattle.arith.proofs.cause_of.Statement.{statement}
 use Rattle.arith.proofs.cause_of.Tie as tie
 
-lacks-requires : tie.Need-lacks-requires
-lacks-requires c κs = search needs
-
 returns : tie.Need-returns
 returns c = λ ty z h o. rw (← c .before .lacks .ensures, c .if1 .taken)
 
@@ -23,4 +20,9 @@ returns-3 c = λ ty z h o.
     rw (l, is-above ty _ z h (c .if2 .left))
 
 pub cause-of-spec : {M : Type 1} → statement M
-cause-of-spec = tie.close (tie.spec lacks-requires returns returns-2 returns-3)
+cause-of-spec =
+    tie.close
+    (tie.spec (λ c κs. search needs)
+    returns
+    returns-2
+    returns-3)

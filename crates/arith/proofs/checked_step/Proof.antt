@@ -8,15 +8,6 @@ use borrow.Author.Needs.{needs}
 use Rattle.arith.proofs.checked_step.Statement.{statement}
 use Rattle.arith.proofs.checked_step.Tie as tie
 
-exact-requires : tie.Need-exact-requires
-exact-requires c κs = search needs
-
-overflowed-requires : tie.Need-overflowed-requires
-overflowed-requires c κs = search needs
-
-cause-of-requires : tie.Need-cause-of-requires
-cause-of-requires c κs = search needs
-
 returns : tie.Need-returns
 returns c = λ ty row.
     let h = c .before .before .before .exact .ensures in
@@ -31,4 +22,8 @@ returns-2 c = λ ty row.
     rw (e, fits-low ty _ h (step-fits (a .op) ty (valueOf (a .a)) (valueOf (a .b)) e))
 
 pub checked-step-spec : {M : Type 1} → statement M
-checked-step-spec = tie.close (tie.spec exact-requires overflowed-requires cause-of-requires returns returns-2)
+checked-step-spec =
+    tie.close
+    (tie.spec (λ c κs. search needs) (λ c κs. search needs) (λ c κs. search needs)
+    returns
+    returns-2)

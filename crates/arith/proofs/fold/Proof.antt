@@ -9,9 +9,6 @@ use borrow.Author.Needs.{needs}
 use Rattle.arith.proofs.fold.Statement.{statement}
 use Rattle.arith.proofs.fold.Tie as tie
 
-limit-requires : tie.Need-limit-requires
-limit-requires c κs = search needs
-
 low-bits-requires : tie.Need-low-bits-requires
 low-bits-requires c κs = c .before .pre
 
@@ -39,4 +36,11 @@ returns-2 c = λ ty z row h.
 
 pub fold-spec : {M : Type 1} → statement M
 fold-spec =
-    tie.close (tie.spec limit-requires low-bits-requires returns add-t8 sub-t9 add-t10 returns-2)
+    tie.close
+    (tie.spec (λ c κs. search needs)
+    low-bits-requires
+    returns
+    add-t8
+    sub-t9
+    add-t10
+    returns-2)

@@ -6,18 +6,12 @@ use Rattle.arith.specs.Words.{immediate}
 use Rattle.arith.proofs.immediate.Statement.{statement}
 use Rattle.arith.proofs.immediate.Tie as tie
 
-range-of-requires : tie.Need-range-of-requires
-range-of-requires c κs = search needs
-
 of-bits-requires : tie.Need-of-bits-requires
 of-bits-requires c κs = (2, c .range-of .ensures)
 
 returns : tie.Need-returns
 unfolding immediate signed
 returns c = rw (lt-leb 4 (c .before .before .before .args .ty) (c .before .before .if1 .taken)) (c .of-bits .ensures 2 (c .before .range-of .ensures))
-
-range-of-requires-2 : tie.Need-range-of-requires-2
-range-of-requires-2 c κs = search needs
 
 of-bits-requires-2 : tie.Need-of-bits-requires-2
 of-bits-requires-2 c κs = (6, c .range-of2 .ensures)
@@ -30,10 +24,9 @@ returns-2 c = rw (le-leb 4 (c .before .before .before .args .ty) (c .before .bef
 pub immediate-spec : {M : Type 1} → statement M
 immediate-spec =
     tie.close
-    (tie.spec
-    range-of-requires
+    (tie.spec (λ c κs. search needs)
     of-bits-requires
     returns
-    range-of-requires-2
+    (λ c κs. search needs)
     of-bits-requires-2
     returns-2)

@@ -4,11 +4,11 @@ use borrow.Author.Needs.{needs}
 use Rattle.arith.proofs.is_of_type.Statement.{statement}
 use Rattle.arith.proofs.is_of_type.Tie as tie
 
-limit-requires : tie.Need-limit-requires
-limit-requires c κs = search needs
-
 returns : tie.Need-returns
 returns c = λ ty row. rw (fits-sign, c .limit .ensures ty row)
 
 pub is-of-type-spec : {M : Type 1} → statement M
-is-of-type-spec = tie.close (tie.spec limit-requires returns)
+is-of-type-spec =
+    tie.close
+    (tie.spec (λ c κs. search needs)
+    returns)

@@ -14,30 +14,6 @@ up n x h k = omega arith
 row-at : (t k : ℕ) (r : Range) → t ≡ k → r .bits ≡ bits k → r .lowest ≡ depth k → r .highest ≡ height k → Row t r
 row-at t k r e w l h = record { width = rw e w; low = rw e l; high = rw e h }
 
-array-copy-out-result : tie.Need-array-copy-out-result
-array-copy-out-result c = search needs
-
-array-copy-out-result-2 : tie.Need-array-copy-out-result-2
-array-copy-out-result-2 c = search needs
-
-array-copy-out-result-3 : tie.Need-array-copy-out-result-3
-array-copy-out-result-3 c = search needs
-
-array-copy-out-result-4 : tie.Need-array-copy-out-result-4
-array-copy-out-result-4 c = search needs
-
-array-copy-out-result-5 : tie.Need-array-copy-out-result-5
-array-copy-out-result-5 c = search needs
-
-array-copy-out-result-6 : tie.Need-array-copy-out-result-6
-array-copy-out-result-6 c = search needs
-
-array-copy-out-result-7 : tie.Need-array-copy-out-result-7
-array-copy-out-result-7 c = search needs
-
-array-copy-out-result-8 : tie.Need-array-copy-out-result-8
-array-copy-out-result-8 c = search needs
-
 returns : tie.Need-returns
 unfolding bits signed depth height
 returns c = row-at _ 0 _ (c .before .match .keys1) refl refl refl
@@ -78,15 +54,8 @@ returns-8 c =
 pub step-range-spec : {M : Type 1} → statement M
 step-range-spec =
     tie.close
-    (tie.spec
-    array-copy-out-result
-    array-copy-out-result-2
-    array-copy-out-result-3
-    array-copy-out-result-4
-    array-copy-out-result-5
-    array-copy-out-result-6
-    array-copy-out-result-7
-    array-copy-out-result-8
+    (tie.spec (λ c. search needs) (λ c. search needs) (λ c. search needs) (λ c. search needs)
+    (λ c. search needs) (λ c. search needs) (λ c. search needs) (λ c. search needs)
     returns
     returns-2
     returns-3

@@ -10,12 +10,6 @@ returns : tie.Need-returns
 unfolding wordOf
 returns c = rw (c .before .if1 .taken, residue-neg) (omega arith)
 
-sub-result : tie.Need-sub-result
-sub-result c = search needs
-
-add-result : tie.Need-add-result
-add-result c = search needs
-
 returns-2 : tie.Need-returns-2
 unfolding wordOf
 returns-2 c = rw (c .before .if1 .taken, residue-neg) (omega arith)
@@ -25,4 +19,10 @@ unfolding wordOf
 returns-3 c = rw (c .if1 .left) (omega arith)
 
 pub to-word-spec : {M : Type 1} → statement M
-to-word-spec = tie.close (tie.spec returns sub-result add-result returns-2 returns-3)
+to-word-spec =
+    tie.close
+    (tie.spec
+    returns
+    (λ c. search needs) (λ c. search needs)
+    returns-2
+    returns-3)

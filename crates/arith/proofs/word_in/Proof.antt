@@ -8,17 +8,8 @@ use borrow.Author.Needs.{needs}
 use Rattle.arith.proofs.word_in.Statement.{statement}
 use Rattle.arith.proofs.word_in.Tie as tie
 
-to-word-requires : tie.Need-to-word-requires
-to-word-requires c κs = search needs
-
-wrapping-add-u64-requires : tie.Need-wrapping-add-u64-requires
-wrapping-add-u64-requires c κs = search needs
-
 low-bits-requires : tie.Need-low-bits-requires
 low-bits-requires c κs = c .before .before .pre
-
-wrapping-sub-u64-requires : tie.Need-wrapping-sub-u64-requires
-wrapping-sub-u64-requires c κs = search needs
 
 returns : tie.Need-returns
 unfolding wordOf
@@ -31,4 +22,9 @@ returns c = λ ty z row h.
     (search needs) (rw (← d) (c .wrapping-sub-u64 .ensures))
 
 pub word-in-spec : {M : Type 1} → statement M
-word-in-spec = tie.close (tie.spec to-word-requires wrapping-add-u64-requires low-bits-requires wrapping-sub-u64-requires returns)
+word-in-spec =
+    tie.close
+    (tie.spec (λ c κs. search needs) (λ c κs. search needs)
+    low-bits-requires
+    (λ c κs. search needs)
+    returns)

@@ -4,11 +4,11 @@ use borrow.Author.Needs.{needs}
 use Rattle.arith.proofs.whole.difference.Statement.{statement}
 use Rattle.arith.proofs.whole.difference.Tie as tie
 
-sum-requires : tie.Need-sum-requires
-sum-requires c κs = search needs
-
 returns : tie.Need-returns
 returns c = rw neg-sign at (c .sum .ensures)
 
 pub difference-spec : {M : Type 1} → statement M
-difference-spec = tie.close (tie.spec sum-requires returns)
+difference-spec =
+    tie.close
+    (tie.spec (λ c κs. search needs)
+    returns)

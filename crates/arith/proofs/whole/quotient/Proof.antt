@@ -18,9 +18,6 @@ returns c =
     let b = c .before .args .b in
     small false 0 (omega arith) (div-zero-exact (valueOf a) (valueOf b) (abs-sign (b .neg) (b .mag) ∙ c .if1 .taken))
 
-div-t8 : tie.Need-div-t8
-div-t8 c = search needs
-
 returns-2 : tie.Need-returns-2
 returns-2 c =
     let a = c .before .args .a in
@@ -29,4 +26,9 @@ returns-2 c =
     (quot-sign (a .neg) (b .neg) (a .mag) (b .mag) (omega arith))
 
 pub quotient-spec : {M : Type 1} → statement M
-quotient-spec = tie.close (tie.spec returns div-t8 returns-2)
+quotient-spec =
+    tie.close
+    (tie.spec
+    returns
+    (λ c. search needs)
+    returns-2)

@@ -7,9 +7,6 @@ use Rattle.arith.proofs.whole.Results.{small, carry}
 use Rattle.arith.proofs.whole.sum.Statement.{statement}
 use Rattle.arith.proofs.whole.sum.Tie as tie
 
-wrapping-add-u64-requires : tie.Need-wrapping-add-u64-requires
-wrapping-add-u64-requires c κs = search needs
-
 returns : tie.Need-returns
 returns c =
     let a = c .before .before .before .args .a in
@@ -20,9 +17,6 @@ returns c =
       low = c .wrapping-add-u64 .ensures;
       over = carry (a .mag) (b .mag) (c .wrapping-add-u64 .result) (search needs) (search needs) (c .wrapping-add-u64 .ensures);
     }
-
-sub-t9 : tie.Need-sub-t9
-sub-t9 c = search needs
 
 returns-2 : tie.Need-returns-2
 returns-2 c =
@@ -39,4 +33,10 @@ returns-3 c =
     (rw (opposite (a .neg) (b .neg) (c .before .if1 .left)) (add-ge (a .neg) (a .mag) (b .mag) (c .if2 .left)))
 
 pub sum-spec : {M : Type 1} → statement M
-sum-spec = tie.close (tie.spec wrapping-add-u64-requires returns sub-t9 returns-2 returns-3)
+sum-spec =
+    tie.close
+    (tie.spec (λ c κs. search needs)
+    returns
+    (λ c. search needs)
+    returns-2
+    returns-3)

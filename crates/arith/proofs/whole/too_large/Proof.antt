@@ -9,11 +9,13 @@ use Rattle.arith.proofs.whole.too_large.Tie as tie
 returns : tie.Need-returns
 returns c = simp (c .if1 .taken, mul-zero)
 
-div-result : tie.Need-div-result
-div-result c = search needs
-
 returns-2 : tie.Need-returns-2
 returns-2 c = too-large (c .before .args .x) (c .before .args .y) (omega arith)
 
 pub too-large-spec : {M : Type 1} → statement M
-too-large-spec = tie.close (tie.spec returns div-result returns-2)
+too-large-spec =
+    tie.close
+    (tie.spec
+    returns
+    (λ c. search needs)
+    returns-2)
