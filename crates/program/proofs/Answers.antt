@@ -8,6 +8,7 @@ use Rattle.model.specs.Code.{Code, treeOf}
 use Rattle.model.specs.Lists.{every}
 use Rattle.model.specs.Program.{Layout as Sections, Program, layoutOf, sectionsRight, countsRight, typesRight, formRight, typesAgree, immediateRight, readProgram}
 use Rattle.model.specs.Refusals.{Out, ok, refused, _>>=_, mapped, check}
+use Rattle.model.specs.Refusals.{wrongSections, tooManyEntries, wrongTypes, wrongStatement, typesDisagree, wrongImmediate}
 use Rattle.model.proofs.Results.{check-mapped, refused-ok}
 use Rattle.program.specs.declared.Layout.{Layout}
 use Rattle.program.specs.Reading.{layoutFrom, Placed, tablesOf, stmtsOf, statementChecks, blockCheck, tableChecks}
@@ -20,44 +21,44 @@ mapped-bind : {A B C : Type 0} (g : B → C) (h : A → C) (f : A → B) (o : Ou
 mapped-bind g h f (ok a) e = ap ok (e a)
 mapped-bind g h f (refused n) e = refl
 
-pub by-checks : (s : List ℕ) → mapped (λ P. layoutOf s) (readProgram s) ≡ check (sectionsRight s) 2 (tableChecks s)
+pub by-checks : (s : List ℕ) → mapped (λ P. layoutOf s) (readProgram s) ≡ check (sectionsRight s) wrongSections (tableChecks s)
 unfolding readProgram
 by-checks s =
     let T = tablesOf s in
     let g : Program → Sections = λ P. layoutOf s in
     let tree : Out Program = treeOf (stmtsOf T) >>= λ c. ok (record { tables = T; code = c }) in
-    let in₇ = check (every (immediateRight T) (T .statements)) 7 tree in
-    let in₆ = check (every (typesAgree T) (T .statements)) 6 in₇ in
-    let in₅ = check (every (formRight T) (T .statements)) 5 in₆ in
-    let in₄ = check (typesRight T) 4 in₅ in
-    check-mapped g (sectionsRight s) 2 (check (countsRight T) 3 in₄)
-    ∙ ap (check (sectionsRight s) 2) (check-mapped g (countsRight T) 3 in₄
-    ∙ ap (check (countsRight T) 3) (check-mapped g (typesRight T) 4 in₅
-    ∙ ap (check (typesRight T) 4) (check-mapped g (every (formRight T) (T .statements)) 5 in₆
-    ∙ ap (check (every (formRight T) (T .statements)) 5) (check-mapped g (every (typesAgree T) (T .statements)) 6 in₇
-    ∙ ap (check (every (typesAgree T) (T .statements)) 6) (check-mapped g (every (immediateRight T) (T .statements)) 7 tree
-    ∙ ap (check (every (immediateRight T) (T .statements)) 7) (mapped-bind g (λ c. layoutOf s) (λ c. record { tables = T; code = c }) (treeOf (stmtsOf T)) (λ c. refl)))))))
+    let in₇ = check (every (immediateRight T) (T .statements)) wrongImmediate tree in
+    let in₆ = check (every (typesAgree T) (T .statements)) typesDisagree in₇ in
+    let in₅ = check (every (formRight T) (T .statements)) wrongStatement in₆ in
+    let in₄ = check (typesRight T) wrongTypes in₅ in
+    check-mapped g (sectionsRight s) wrongSections (check (countsRight T) tooManyEntries in₄)
+    ∙ ap (check (sectionsRight s) wrongSections) (check-mapped g (countsRight T) tooManyEntries in₄
+    ∙ ap (check (countsRight T) tooManyEntries) (check-mapped g (typesRight T) wrongTypes in₅
+    ∙ ap (check (typesRight T) wrongTypes) (check-mapped g (every (formRight T) (T .statements)) wrongStatement in₆
+    ∙ ap (check (every (formRight T) (T .statements)) wrongStatement) (check-mapped g (every (typesAgree T) (T .statements)) typesDisagree in₇
+    ∙ ap (check (every (typesAgree T) (T .statements)) typesDisagree) (check-mapped g (every (immediateRight T) (T .statements)) wrongImmediate tree
+    ∙ ap (check (every (immediateRight T) (T .statements)) wrongImmediate) (mapped-bind g (λ c. layoutOf s) (λ c. record { tables = T; code = c }) (treeOf (stmtsOf T)) (λ c. refl)))))))
 
 -- ---- checks 5 to 7
 
 module _ {A : Type 0} (b₅ b₆ b₇ : Bool) (y : A) where
   -- the three tests in their order, and then o
   abbrev three : Out A → Out A
-  three o = check b₅ 5 (check b₆ 6 (check b₇ 7 o))
+  three o = check b₅ wrongStatement (check b₆ typesDisagree (check b₇ wrongImmediate o))
 
   three-pass : (x : A) → ok x ≡ three (ok y) → (b₅ ≡ true) × (b₆ ≡ true) × (b₇ ≡ true) × (x ≡ y)
   three-pass = go b₅ b₆ b₇
     where
-      go : (p q r : Bool) (x : A) → ok x ≡ check p 5 (check q 6 (check r 7 (ok y))) → (p ≡ true) × (q ≡ true) × (r ≡ true) × (x ≡ y)
+      go : (p q r : Bool) (x : A) → ok x ≡ check p wrongStatement (check q typesDisagree (check r wrongImmediate (ok y))) → (p ≡ true) × (q ≡ true) × (r ≡ true) × (x ≡ y)
       go true true true x e = (refl, refl, refl, cc)
-      go true true false x e = absurd (refused-ok 7 x (sym e))
-      go true false r x e = absurd (refused-ok 6 x (sym e))
-      go false q r x e = absurd (refused-ok 5 x (sym e))
+      go true true false x e = absurd (refused-ok wrongImmediate x (sym e))
+      go true false r x e = absurd (refused-ok typesDisagree x (sym e))
+      go false q r x e = absurd (refused-ok wrongStatement x (sym e))
 
   three-refused : (m : ℕ) (o x : Out A) → x ≡ refused m → x ≡ three (ok y) → x ≡ three o
   three-refused m o x = go b₅ b₆ b₇
     where
-      go : (p q r : Bool) → x ≡ refused m → x ≡ check p 5 (check q 6 (check r 7 (ok y))) → x ≡ check p 5 (check q 6 (check r 7 o))
+      go : (p q r : Bool) → x ≡ refused m → x ≡ check p wrongStatement (check q typesDisagree (check r wrongImmediate (ok y))) → x ≡ check p wrongStatement (check q typesDisagree (check r wrongImmediate o))
       go true true true e h = cc
       go true true false e h = h
       go true false r e h = h

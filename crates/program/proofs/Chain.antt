@@ -7,7 +7,8 @@ use native.Mathlib.Omega.{arith}
 use borrow.Author.Tests.{leb-true, eqb-true, le-leb, eq-eqb, eqb-false}
 use lib.Dec.{leb, eqb}
 use lib.ListN.{length}
-use Rattle.model.specs.Refusals.{Out, ok, refused, check}
+use Rattle.model.specs.Sizes.{sectionTable, mostProgram, arraySize, statementSize}
+use Rattle.model.specs.Refusals.{Out, ok, refused, check, wrongSections}
 use Rattle.model.specs.Bytes.{u32At, Pair, pairAt, entries, chained}
 use Rattle.model.specs.Program.{Layout as Layout′, layoutOf, sectionsRight}
 use Rattle.model.proofs.Tests.{case, and-left, and-right}
@@ -44,18 +45,18 @@ handed-on false n m y o x e h = h
 abbrev pub Taken : List ℕ → (place start at len : ℕ) → Type 0
 Taken s place start at len = (u32At s place ≡ start) × (at ≡ u32At s place) × (len ≡ u32At s (place + 4))
 
-module _ (s : List ℕ) (place start : ℕ) (r : SectionRead) (h : sectionOf r ≡ check (eqb (u32At s place) start) 2 (ok (pairAt s place))) where
+module _ (s : List ℕ) (place start : ℕ) (r : SectionRead) (h : sectionOf r ≡ check (eqb (u32At s place) start) wrongSections (ok (pairAt s place))) where
   pub section-taken : (at len : ℕ) → r ≡ Section at len → Taken s place start at len
   section-taken at len e =
       let p : Pair = record { offset = at; len = len } in
-      let k = check-ok (eqb (u32At s place) start) 2 p (pairAt s place) (sym (ap sectionOf e) ∙ h) in
+      let k = check-ok (eqb (u32At s place) start) wrongSections p (pairAt s place) (sym (ap sectionOf e) ∙ h) in
       (eqb-true (u32At s place) start (k .0), ap (λ (q : Pair). q .offset) (k .1), ap (λ (q : Pair). q .len) (k .1))
 
-  -- a section that is refused does not start where it has to, and the number is 2
-  pub section-refused : (n : ℕ) → r ≡ Refused n → ((u32At s place ≡ start → ⊥) × (n ≡ 2))
+  -- a section that is refused does not start where it has to, and the number is its refusal's
+  pub section-refused : (n : ℕ) → r ≡ Refused n → ((u32At s place ≡ start → ⊥) × (n ≡ wrongSections))
   section-refused n e =
-      let k : refused n ≡ check (eqb (u32At s place) start) 2 (ok (pairAt s place)) = sym (ap sectionOf e) ∙ h in
-      (eqb-false (u32At s place) start (check-refused (eqb (u32At s place) start) 2 n (pairAt s place) k), check-number (eqb (u32At s place) start) 2 n (pairAt s place) k)
+      let k : refused n ≡ check (eqb (u32At s place) start) wrongSections (ok (pairAt s place)) = sym (ap sectionOf e) ∙ h in
+      (eqb-false (u32At s place) start (check-refused (eqb (u32At s place) start) wrongSections n (pairAt s place) k), check-number (eqb (u32At s place) start) wrongSections n (pairAt s place) k)
 
 pub section-short : (r : SectionRead) (at len : ℕ) → InFourBytes r → r ≡ Section at len → (at < 2 ^ 32) × (len < 2 ^ 32)
 section-short r at len h e = subst InFourBytes e h
@@ -64,77 +65,77 @@ section-short r at len h e = subst InFourBytes e h
 
 module _ (o₁ l₁ o₂ l₂ o₃ l₃ o₄ l₄ n : ℕ) where
   pub record Chain : Type 0 where
-    pub long : 32 ≤ n
-    pub short : n ≤ 8384
-    pub first : o₁ ≡ 32
+    pub long : sectionTable ≤ n
+    pub short : n ≤ mostProgram
+    pub first : o₁ ≡ sectionTable
     pub second : o₂ ≡ o₁ + l₁
     pub third : o₃ ≡ o₂ + l₂
     pub fourth : o₄ ≡ o₃ + l₃
     pub last : o₄ + l₄ ≡ n
-    pub arrays : l₃ % 4 ≡ 0
-    pub statements : l₄ % 8 ≡ 0
+    pub arrays : l₃ % arraySize ≡ 0
+    pub statements : l₄ % statementSize ≡ 0
 
   -- the test, by its parts
   abbrev tail₄ : Bool
-  tail₄ = eqb o₄ (32 + l₁ + l₂ + l₃) && eqb (32 + l₁ + l₂ + l₃ + l₄) n
+  tail₄ = eqb o₄ (sectionTable + l₁ + l₂ + l₃) && eqb (sectionTable + l₁ + l₂ + l₃ + l₄) n
 
   abbrev tail₃ : Bool
-  tail₃ = eqb o₃ (32 + l₁ + l₂) && tail₄
+  tail₃ = eqb o₃ (sectionTable + l₁ + l₂) && tail₄
 
   abbrev tail₂ : Bool
-  tail₂ = eqb o₂ (32 + l₁) && tail₃
+  tail₂ = eqb o₂ (sectionTable + l₁) && tail₃
 
   abbrev tail₁ : Bool
-  tail₁ = eqb o₁ 32 && tail₂
+  tail₁ = eqb o₁ sectionTable && tail₂
 
   abbrev test : Bool
-  test = leb 32 n && leb n 8384 && tail₁ && eqb (l₃ % 4) 0 && eqb (l₄ % 8) 0
+  test = leb sectionTable n && leb n mostProgram && tail₁ && eqb (l₃ % arraySize) 0 && eqb (l₄ % statementSize) 0
 
   test-chain : test ≡ true → Chain
   test-chain w =
-      let p₄ = leb 32 n && leb n 8384 && tail₁ && eqb (l₃ % 4) 0 in
-      let p₃ = leb 32 n && leb n 8384 && tail₁ in
-      let p₂ = leb 32 n && leb n 8384 in
-      let w₄ = and-left p₄ (eqb (l₄ % 8) 0) w in
-      let w₃ = and-left p₃ (eqb (l₃ % 4) 0) w₄ in
+      let p₄ = leb sectionTable n && leb n mostProgram && tail₁ && eqb (l₃ % arraySize) 0 in
+      let p₃ = leb sectionTable n && leb n mostProgram && tail₁ in
+      let p₂ = leb sectionTable n && leb n mostProgram in
+      let w₄ = and-left p₄ (eqb (l₄ % statementSize) 0) w in
+      let w₃ = and-left p₃ (eqb (l₃ % arraySize) 0) w₄ in
       let w₂ = and-left p₂ tail₁ w₃ in
       let t₁ = and-right p₂ tail₁ w₃ in
-      let t₂ = and-right (eqb o₁ 32) tail₂ t₁ in
-      let t₃ = and-right (eqb o₂ (32 + l₁)) tail₃ t₂ in
-      let t₄ = and-right (eqb o₃ (32 + l₁ + l₂)) tail₄ t₃ in
-      let e₁ = eqb-true o₁ 32 (and-left (eqb o₁ 32) tail₂ t₁) in
-      let e₂ = eqb-true o₂ (32 + l₁) (and-left (eqb o₂ (32 + l₁)) tail₃ t₂) in
-      let e₃ = eqb-true o₃ (32 + l₁ + l₂) (and-left (eqb o₃ (32 + l₁ + l₂)) tail₄ t₃) in
-      let e₄ = eqb-true o₄ (32 + l₁ + l₂ + l₃) (and-left (eqb o₄ (32 + l₁ + l₂ + l₃)) (eqb (32 + l₁ + l₂ + l₃ + l₄) n) t₄) in
-      let e₅ = eqb-true (32 + l₁ + l₂ + l₃ + l₄) n (and-right (eqb o₄ (32 + l₁ + l₂ + l₃)) (eqb (32 + l₁ + l₂ + l₃ + l₄) n) t₄) in
+      let t₂ = and-right (eqb o₁ sectionTable) tail₂ t₁ in
+      let t₃ = and-right (eqb o₂ (sectionTable + l₁)) tail₃ t₂ in
+      let t₄ = and-right (eqb o₃ (sectionTable + l₁ + l₂)) tail₄ t₃ in
+      let e₁ = eqb-true o₁ sectionTable (and-left (eqb o₁ sectionTable) tail₂ t₁) in
+      let e₂ = eqb-true o₂ (sectionTable + l₁) (and-left (eqb o₂ (sectionTable + l₁)) tail₃ t₂) in
+      let e₃ = eqb-true o₃ (sectionTable + l₁ + l₂) (and-left (eqb o₃ (sectionTable + l₁ + l₂)) tail₄ t₃) in
+      let e₄ = eqb-true o₄ (sectionTable + l₁ + l₂ + l₃) (and-left (eqb o₄ (sectionTable + l₁ + l₂ + l₃)) (eqb (sectionTable + l₁ + l₂ + l₃ + l₄) n) t₄) in
+      let e₅ = eqb-true (sectionTable + l₁ + l₂ + l₃ + l₄) n (and-right (eqb o₄ (sectionTable + l₁ + l₂ + l₃)) (eqb (sectionTable + l₁ + l₂ + l₃ + l₄) n) t₄) in
       record {
-        long = leb-true 32 n (and-left (leb 32 n) (leb n 8384) w₂);
-        short = leb-true n 8384 (and-right (leb 32 n) (leb n 8384) w₂);
+        long = leb-true sectionTable n (and-left (leb sectionTable n) (leb n mostProgram) w₂);
+        short = leb-true n mostProgram (and-right (leb sectionTable n) (leb n mostProgram) w₂);
         first = e₁;
         second = omega arith;
         third = omega arith;
         fourth = omega arith;
         last = omega arith;
-        arrays = eqb-true (l₃ % 4) 0 (and-right p₃ (eqb (l₃ % 4) 0) w₄);
-        statements = eqb-true (l₄ % 8) 0 (and-right p₄ (eqb (l₄ % 8) 0) w);
+        arrays = eqb-true (l₃ % arraySize) 0 (and-right p₃ (eqb (l₃ % arraySize) 0) w₄);
+        statements = eqb-true (l₄ % statementSize) 0 (and-right p₄ (eqb (l₄ % statementSize) 0) w);
       }
 
   chain-test : Chain → test ≡ true
   chain-test h =
-      let e₂ : o₂ ≡ 32 + l₁ = omega arith in
-      let e₃ : o₃ ≡ 32 + l₁ + l₂ = omega arith in
-      let e₄ : o₄ ≡ 32 + l₁ + l₂ + l₃ = omega arith in
-      let e₅ : 32 + l₁ + l₂ + l₃ + l₄ ≡ n = omega arith in
+      let e₂ : o₂ ≡ sectionTable + l₁ = omega arith in
+      let e₃ : o₃ ≡ sectionTable + l₁ + l₂ = omega arith in
+      let e₄ : o₄ ≡ sectionTable + l₁ + l₂ + l₃ = omega arith in
+      let e₅ : sectionTable + l₁ + l₂ + l₃ + l₄ ≡ n = omega arith in
       rw (
-        le-leb 32 n (h .long),
-        le-leb n 8384 (h .short),
-        eq-eqb o₁ 32 (h .first),
-        eq-eqb o₂ (32 + l₁) e₂,
-        eq-eqb o₃ (32 + l₁ + l₂) e₃,
-        eq-eqb o₄ (32 + l₁ + l₂ + l₃) e₄,
-        eq-eqb (32 + l₁ + l₂ + l₃ + l₄) n e₅,
-        eq-eqb (l₃ % 4) 0 (h .arrays),
-        eq-eqb (l₄ % 8) 0 (h .statements),
+        le-leb sectionTable n (h .long),
+        le-leb n mostProgram (h .short),
+        eq-eqb o₁ sectionTable (h .first),
+        eq-eqb o₂ (sectionTable + l₁) e₂,
+        eq-eqb o₃ (sectionTable + l₁ + l₂) e₃,
+        eq-eqb o₄ (sectionTable + l₁ + l₂ + l₃) e₄,
+        eq-eqb (sectionTable + l₁ + l₂ + l₃ + l₄) n e₅,
+        eq-eqb (l₃ % arraySize) 0 (h .arrays),
+        eq-eqb (l₄ % statementSize) 0 (h .statements),
       )
 
 -- the four sections of a byte string
@@ -164,17 +165,17 @@ module _ (s : List ℕ) where
       let e₃ : L .«variables_at» ≡ u32At s 8 = ap (λ (M : Layout′). M .variablesAt) e in
       let e₄ : L .variables ≡ u32At s 12 = ap (λ (M : Layout′). M .variables) e in
       let e₅ : L .«arrays_at» ≡ u32At s 16 = ap (λ (M : Layout′). M .arraysAt) e in
-      let e₆ : L .arrays ≡ u32At s 20 / 4 = ap (λ (M : Layout′). M .arrays) e in
+      let e₆ : L .arrays ≡ u32At s 20 / arraySize = ap (λ (M : Layout′). M .arrays) e in
       let e₇ : L .«statements_at» ≡ u32At s 24 = ap (λ (M : Layout′). M .statementsAt) e in
-      let e₈ : L .statements ≡ u32At s 28 / 8 = ap (λ (M : Layout′). M .statements) e in
+      let e₈ : L .statements ≡ u32At s 28 / statementSize = ap (λ (M : Layout′). M .statements) e in
       record { layout = e; fields = omega arith; variables = omega arith; arrays = omega arith; statements = omega arith; small = k .short }
 
 -- ---- the answer to check 2
 
-pub table-read : (s : List ℕ) (r : ProgramRead) (L : Layout) → programAnswer r ≡ check (sectionsRight s) 2 (ok (layoutOf s)) → r ≡ Read L → (sectionsRight s ≡ true) × Placed s L
+pub table-read : (s : List ℕ) (r : ProgramRead) (L : Layout) → programAnswer r ≡ check (sectionsRight s) wrongSections (ok (layoutOf s)) → r ≡ Read L → (sectionsRight s ≡ true) × Placed s L
 table-read s r L h e =
-    let k = check-ok (sectionsRight s) 2 (layoutFrom L) (layoutOf s) (sym (ap programAnswer e) ∙ h) in
+    let k = check-ok (sectionsRight s) wrongSections (layoutFrom L) (layoutOf s) (sym (ap programAnswer e) ∙ h) in
     (k .0, placed s L (k .0) (k .1))
 
-pub table-refused : (s : List ℕ) (r : ProgramRead) (n : ℕ) → programAnswer r ≡ check (sectionsRight s) 2 (ok (layoutOf s)) → r ≡ NotRead n → sectionsRight s ≡ false
-table-refused s r n h e = check-refused (sectionsRight s) 2 n (layoutOf s) (sym (ap programAnswer e) ∙ h)
+pub table-refused : (s : List ℕ) (r : ProgramRead) (n : ℕ) → programAnswer r ≡ check (sectionsRight s) wrongSections (ok (layoutOf s)) → r ≡ NotRead n → sectionsRight s ≡ false
+table-refused s r n h e = check-refused (sectionsRight s) wrongSections n (layoutOf s) (sym (ap programAnswer e) ∙ h)

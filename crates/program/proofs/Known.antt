@@ -6,6 +6,7 @@ use Prim.Native.Nat.{ℕ, _≤_, _<_}
 use borrow.Author.Tests.{leb-true}
 use lib.Dec.{leb}
 use lib.ListN.{length}
+use Rattle.model.specs.Sizes.{mostFields, mostVariables, mostArrays, mostStatements}
 use Rattle.model.specs.Lists.{every}
 use Rattle.model.specs.Refusals.{Out, ok, refused, mapped}
 use Rattle.model.specs.Code.{treeOf}
@@ -48,21 +49,21 @@ module _ (s : List ℕ) where
     same : h .program .tables ≡ T
     same = tables-read (h .program) (h .read)
 
-    pub counts-known : (L .fields ≤ 32) × (L .variables ≤ 64) × (L .arrays ≤ 16) × (L .statements ≤ 1024)
+    pub counts-known : (L .fields ≤ mostFields) × (L .variables ≤ mostVariables) × (L .arrays ≤ mostArrays) × (L .statements ≤ mostStatements)
     unfolding countsRight
     counts-known =
         let z = sized s L (h .placed) in
         let right : countsRight T ≡ true = subst (λ (U : Tables). countsRight U ≡ true) same (checked .counts) in
-        let f = leb (length (T .fields)) 32 in
-        let v = leb (length (T .variables)) 64 in
-        let a = leb (length (T .arrays)) 16 in
-        let q = leb (length (T .statements)) 1024 in
+        let f = leb (length (T .fields)) mostFields in
+        let v = leb (length (T .variables)) mostVariables in
+        let a = leb (length (T .arrays)) mostArrays in
+        let q = leb (length (T .statements)) mostStatements in
         let w₃ = and-left (f && v && a) q right in
         let w₂ = and-left (f && v) a w₃ in (
-          rw (z .fields) at (leb-true (length (T .fields)) 32 (and-left f v w₂)),
-          rw (z .variables) at (leb-true (length (T .variables)) 64 (and-right f v w₂)),
-          rw (z .arrays) at (leb-true (length (T .arrays)) 16 (and-right (f && v) a w₃)),
-          rw (z .statements) at (leb-true (length (T .statements)) 1024 (and-right (f && v && a) q right)),
+          rw (z .fields) at (leb-true (length (T .fields)) mostFields (and-left f v w₂)),
+          rw (z .variables) at (leb-true (length (T .variables)) mostVariables (and-right f v w₂)),
+          rw (z .arrays) at (leb-true (length (T .arrays)) mostArrays (and-right (f && v) a w₃)),
+          rw (z .statements) at (leb-true (length (T .statements)) mostStatements (and-right (f && v && a) q right)),
         )
 
     pub types-known : typesRight T ≡ true

@@ -12,6 +12,7 @@ use Rattle.arith.specs.Types.{signed}
 use Rattle.model.specs.Lists.{every}
 use Rattle.model.specs.Code.{Instr, plain, if, else, end, while}
 use Rattle.model.proofs.Tests.{decide, case, and-left, and-right}
+use Rattle.program.specs.Numbers.{typeCodes, unsignedCodes, siteKind, ifKind, elseKind, whileKind, kindCodes}
 use Rattle.program.specs.Reading.{noStatement, statementOf, stmtsOf, Sized}
 use Rattle.program.specs.declared.Layout.{Layout}
 use Rattle.model.proofs.Every.{every-at}
@@ -25,13 +26,13 @@ below-one zero = refl
 below-one (suc x) = rw (eqb·suc-zero, leb·suc-suc, leb·suc-zero)
 
 module _ (T : Tables) (q : Statement) where
-  -- no kind above 14
-  pub form-none : 15 ≤ q .kind → formRight T q ≡ false
+  -- what is no kind has no form
+  pub form-none : kindCodes ≤ q .kind → formRight T q ≡ false
   unfolding formRight
   form-none h = rw (no-kind (q .kind) h)
 
-  -- from kind 10 on no types have to agree
-  pub agree-none : 10 ≤ q .kind → typesAgree T q ≡ true
+  -- of a site and of the blocks no types have to agree
+  pub agree-none : siteKind ≤ q .kind → typesAgree T q ≡ true
   unfolding typesAgree
   agree-none h = go (kindOf (q .kind)) (kind-number (q .kind))
     where
@@ -50,7 +51,7 @@ module _ (T : Tables) (q : Statement) where
       go aWhile n = refl
       go noKind n = refl
 
-  -- only kind 0 has an immediate
+  -- only a number has an immediate
   pub immediate-none : 1 ≤ q .kind → immediateRight T q ≡ true
   unfolding immediateRight
   immediate-none h = go (kindOf (q .kind)) (kind-number (q .kind))
@@ -70,13 +71,13 @@ module _ (T : Tables) (q : Statement) where
       go aWhile n = refl
       go noKind n = refl
 
--- a type below 4 is unsigned
-pub below-four : (t : ℕ) → ltb t 4 ≡ not (signed t)
+-- the unsigned types come first
+pub below-four : (t : ℕ) → ltb t unsignedCodes ≡ not (signed t)
 unfolding signed
-below-four t = case (leb 4 t) (λ z. ltb t 4 ≡ not z) (λ e. le-ltb t 4 (leb-true 4 t e)) (λ e. lt-ltb t 4 (leb-false 4 t e))
+below-four t = case (leb unsignedCodes t) (λ z. ltb t unsignedCodes ≡ not z) (λ e. le-ltb t unsignedCodes (leb-true unsignedCodes t e)) (λ e. lt-ltb t unsignedCodes (leb-false unsignedCodes t e))
 
 -- every variable's type is one of the eight; past the last one it counts as 0
-pub type-small : (T : Tables) → typesRight T ≡ true → (x : ℕ) → variableType T x < 8
+pub type-small : (T : Tables) → typesRight T ≡ true → (x : ℕ) → variableType T x < typeCodes
 unfolding typesRight
 type-small T h x = go (leb (length vs) x) refl
   where
@@ -86,14 +87,14 @@ type-small T h x = go (leb (length vs) x) refl
     known : every typeRight vs ≡ true
     known = and-right (every typeRight (T .fields)) (every typeRight vs) (and-left (every typeRight (T .fields) && every typeRight vs) (every arrayRight (T .arrays)) h)
 
-    go : (b : Bool) → leb (length vs) x ≡ b → getD vs x 0 < 8
+    go : (b : Bool) → leb (length vs) x ≡ b → getD vs x 0 < typeCodes
     go true e = rw (List·getD-eq-default vs 0 (leb-true (length vs) x e)) (omega arith)
-    go false e = ltb-true (getD vs x 0) 8 (every-at typeRight 0 vs known x (leb-false (length vs) x e))
+    go false e = ltb-true (getD vs x 0) typeCodes (every-at typeRight 0 vs known x (leb-false (length vs) x e))
 
 -- ---- which statement of the model it is
 
 module _ (T : Tables) (q : Statement) where
-  pub stmt-plain : q .kind < 11 → (x : Instr) × (stmtOf T q ≡ plain x)
+  pub stmt-plain : q .kind < ifKind → (x : Instr) × (stmtOf T q ≡ plain x)
   unfolding stmtOf
   stmt-plain h = go (kindOf (q .kind)) (kind-number (q .kind))
     where
@@ -112,20 +113,20 @@ module _ (T : Tables) (q : Statement) where
       go aWhile n = absurd (omega arith)
       go noKind n = absurd (omega arith)
 
-  pub stmt-if : q .kind ≡ 11 → stmtOf T q ≡ if (q .a)
+  pub stmt-if : q .kind ≡ ifKind → stmtOf T q ≡ if (q .a)
   unfolding stmtOf kindOf
   stmt-if e = rw e
 
-  pub stmt-else : q .kind ≡ 12 → stmtOf T q ≡ else
+  pub stmt-else : q .kind ≡ elseKind → stmtOf T q ≡ else
   unfolding stmtOf kindOf
   stmt-else e = rw e
 
-  pub stmt-while : q .kind ≡ 14 → stmtOf T q ≡ while (q .a)
+  pub stmt-while : q .kind ≡ whileKind → stmtOf T q ≡ while (q .a)
   unfolding stmtOf kindOf
   stmt-while e = rw e
 
-  -- kind 13, and what is no kind
-  pub stmt-end : 11 ≤ q .kind → (q .kind ≡ 11 → ⊥) → (q .kind ≡ 12 → ⊥) → (q .kind ≡ 14 → ⊥) → stmtOf T q ≡ end
+  -- an end, and what is no kind
+  pub stmt-end : ifKind ≤ q .kind → (q .kind ≡ ifKind → ⊥) → (q .kind ≡ elseKind → ⊥) → (q .kind ≡ whileKind → ⊥) → stmtOf T q ≡ end
   unfolding stmtOf
   stmt-end h no-if no-else no-while = go (kindOf (q .kind)) (kind-number (q .kind))
     where
@@ -149,7 +150,7 @@ pub stmt-at : (T : Tables) (i : ℕ) → getD (stmtsOf T) i end ≡ stmtOf T (st
 unfolding stmtOf kindOf
 stmt-at T i = List·getD-map (stmtOf T) (T .statements) i noStatement
 
-pub plain-at : (T : Tables) (i : ℕ) → statementOf T i .kind < 11 → (x : Instr) × (getD (stmtsOf T) i end ≡ plain x)
+pub plain-at : (T : Tables) (i : ℕ) → statementOf T i .kind < ifKind → (x : Instr) × (getD (stmtsOf T) i end ≡ plain x)
 plain-at T i h = let p = stmt-plain T (statementOf T i) h in (p .0, stmt-at T i ∙ p .1)
 
 pub stmts-length : (T : Tables) (L : Layout) → Sized T L → length (stmtsOf T) ≡ L .statements

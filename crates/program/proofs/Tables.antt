@@ -5,6 +5,7 @@ use Prim.Native.Nat.{ℕ, _+_, _*_, _≤_, _<_}
 use native.Mathlib.Omega.{arith}
 use lib.ListN.{length, getD, drop, length-drop, List·getD-eq-default}
 use lib.Seq.{getD-take, getD-drop, length-take-le}
+use Rattle.model.specs.Sizes.{arraySize, statementSize}
 use Rattle.model.specs.Bytes.{part, entries}
 use Rattle.model.specs.Program.{arrayAt, statementAt, tablesAt, arrayOf}
 use Rattle.program.specs.Reading.{tablesOf, statementOf, Sized, Placed}
@@ -31,11 +32,11 @@ module _ (s : List ℕ) (L : Layout) (h : Placed s L) where
   unfolding tablesAt
   variables-are = rw (← h .layout)
 
-  pub arrays-are : tablesOf s .arrays ≡ entries arrayAt 4 s (L .«arrays_at») (L .arrays)
+  pub arrays-are : tablesOf s .arrays ≡ entries arrayAt arraySize s (L .«arrays_at») (L .arrays)
   unfolding tablesAt
   arrays-are = rw (← h .layout)
 
-  pub statements-are : tablesOf s .statements ≡ entries statementAt 8 s (L .«statements_at») (L .statements)
+  pub statements-are : tablesOf s .statements ≡ entries statementAt statementSize s (L .«statements_at») (L .statements)
   unfolding tablesAt
   statements-are = rw (← h .layout)
 
@@ -43,15 +44,15 @@ module _ (s : List ℕ) (L : Layout) (h : Placed s L) where
   sized = record {
     fields = rw fields-are (length-part s (L .«fields_at») (L .fields) (h .fields));
     variables = rw variables-are (length-part s (L .«variables_at») (L .variables) (h .variables));
-    arrays = rw arrays-are (length-entries arrayAt 4 s (L .«arrays_at») (L .arrays));
-    statements = rw statements-are (length-entries statementAt 8 s (L .«statements_at») (L .statements));
+    arrays = rw arrays-are (length-entries arrayAt arraySize s (L .«arrays_at») (L .arrays));
+    statements = rw statements-are (length-entries statementAt statementSize s (L .«statements_at») (L .statements));
   }
 
-  pub array-in : (x : ℕ) → x < L .arrays → arrayOf (tablesOf s) x ≡ arrayAt s (L .«arrays_at» + 4 * x)
-  array-in x k = rw arrays-are (entry-at arrayAt 4 s (L .«arrays_at») (L .arrays) x _ k)
+  pub array-in : (x : ℕ) → x < L .arrays → arrayOf (tablesOf s) x ≡ arrayAt s (L .«arrays_at» + arraySize * x)
+  array-in x k = rw arrays-are (entry-at arrayAt arraySize s (L .«arrays_at») (L .arrays) x _ k)
 
   pub array-past : (x : ℕ) → L .arrays ≤ x → arrayOf (tablesOf s) x ≡ record { ty = 0; pad = 0; len = 0 }
-  array-past x k = rw arrays-are (entry-past arrayAt 4 s (L .«arrays_at») (L .arrays) x _ k)
+  array-past x k = rw arrays-are (entry-past arrayAt arraySize s (L .«arrays_at») (L .arrays) x _ k)
 
-  pub statement-in : (i : ℕ) → i < L .statements → statementOf (tablesOf s) i ≡ statementAt s (L .«statements_at» + 8 * i)
-  statement-in i k = rw statements-are (entry-at statementAt 8 s (L .«statements_at») (L .statements) i _ k)
+  pub statement-in : (i : ℕ) → i < L .statements → statementOf (tablesOf s) i ≡ statementAt s (L .«statements_at» + statementSize * i)
+  statement-in i k = rw statements-are (entry-at statementAt statementSize s (L .«statements_at») (L .statements) i _ k)

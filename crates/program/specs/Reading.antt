@@ -5,11 +5,13 @@ use Prim.Native.Nat.{ℕ, _+_, _*_, _≤_, _<_, _^_}
 use lib.ListN.{length, getD}
 use Rattle.model.specs.Lists.{every}
 use Rattle.model.specs.Refusals.{Out, ok, refused, mapped, check, tooManyEntries, wrongTypes, wrongStatement, typesDisagree, wrongImmediate}
+use Rattle.model.specs.Sizes.{mostProgram, arraySize, statementSize}
 use Rattle.model.specs.Bytes.{Pair}
 use Rattle.model.specs.Code.{Stmt, end, treeOf}
 use Rattle.model.specs.Program.{Statement, Tables, tablesAt, layoutOf, countsRight, typesRight, formRight, typesAgree, immediateRight, stmtOf, Program, readProgram}
 use Rattle.model.specs.Program.{Layout as Sections}
 use Rattle.model.specs.Placement.{Laid}
+use Rattle.program.specs.Numbers.{endKind}
 use Rattle.program.specs.declared.Layout.{Layout}
 use Rattle.program.specs.declared.Entry.{Entry}
 use Rattle.program.specs.declared.ProgramRead.{ProgramRead}
@@ -62,7 +64,7 @@ tablesOf s = tablesAt s (layoutOf s)
 
 -- past the last statement stands an end
 abbrev pub noStatement : Statement
-noStatement = record { kind = 13; a = 0; b = 0; c = 0; imm = 0 }
+noStatement = record { kind = endKind; a = 0; b = 0; c = 0; imm = 0 }
 
 -- the statement with a label
 abbrev pub statementOf : Tables → ℕ → Statement
@@ -114,9 +116,9 @@ pub record Placed (s : List ℕ) (L : Layout) : Type 0 where
   pub layout : layoutFrom L ≡ layoutOf s
   pub fields : L .«fields_at» + L .fields ≤ length s
   pub variables : L .«variables_at» + L .variables ≤ length s
-  pub arrays : L .«arrays_at» + 4 * L .arrays ≤ length s
-  pub statements : L .«statements_at» + 8 * L .statements ≤ length s
-  pub small : length s ≤ 8384
+  pub arrays : L .«arrays_at» + arraySize * L .arrays ≤ length s
+  pub statements : L .«statements_at» + statementSize * L .statements ≤ length s
+  pub small : length s ≤ mostProgram
 
 -- the program is read, and the layout is its own
 pub record ProgramIsRead (s : List ℕ) (L : Layout) : Type 0 where

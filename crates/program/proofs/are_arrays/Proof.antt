@@ -5,6 +5,7 @@ use native.Mathlib.Omega.{arith}
 use borrow.Author.Needs.{needs}
 use borrow.Author.Tests.{not-true, not-false}
 use lib.ListN.{drop}
+use Rattle.model.specs.Sizes.{arraySize}
 use Rattle.model.specs.Bytes.{entries}
 use Rattle.model.specs.Lists.{every}
 use Rattle.model.specs.Program.{Array, arrayRight, arrayAt}
@@ -14,7 +15,7 @@ use Rattle.program.proofs.are_arrays.Statement.{statement}
 use Rattle.program.proofs.are_arrays.Tie as tie
 
 abbrev Inv-loop : tie.InvT-loop
-Inv-loop program at n i₀ i = (i ≤ n) × (every arrayRight (entries arrayAt 4 program at n) ≡ every arrayRight (drop i (entries arrayAt 4 program at n)))
+Inv-loop program at n i₀ i = (i ≤ n) × (every arrayRight (entries arrayAt arraySize program at n) ≡ every arrayRight (drop i (entries arrayAt arraySize program at n)))
 
 abbrev μ-loop : tie.MeasureT-loop
 μ-loop program at n i₀ i = n - i
@@ -41,9 +42,9 @@ returns c =
     let lp = c .before .before .before .loop in
     let s = a .program .now in
     let none : Array = record { ty = 0; pad = 0; len = 0 } in
-    let l = length-entries arrayAt 4 s (a .at) (a .n) in
-    sym (pass-fails arrayRight none (entries arrayAt 4 s (a .at) (a .n)) (lp .i) (rw l (omega arith)) (lp .inv .1)
-    (rw (entry-at arrayAt 4 s (a .at) (a .n) (lp .i) none (omega arith)) (sym (c .before .array-right .ensures) ∙ not-true _ (c .if1 .taken))))
+    let l = length-entries arrayAt arraySize s (a .at) (a .n) in
+    sym (pass-fails arrayRight none (entries arrayAt arraySize s (a .at) (a .n)) (lp .i) (rw l (omega arith)) (lp .inv .1)
+    (rw (entry-at arrayAt arraySize s (a .at) (a .n) (lp .i) none (omega arith)) (sym (c .before .array-right .ensures) ∙ not-true _ (c .if1 .taken))))
 
 add-i : tie.Need-add-i Inv-loop μ-loop
 add-i c = search needs
@@ -57,10 +58,10 @@ loop-again c =
     let lp = c .before .before .before .loop in
     let s = a .program .now in
     let none : Array = record { ty = 0; pad = 0; len = 0 } in
-    let l = length-entries arrayAt 4 s (a .at) (a .n) in (
+    let l = length-entries arrayAt arraySize s (a .at) (a .n) in (
       omega arith,
-      pass-goes arrayRight none (entries arrayAt 4 s (a .at) (a .n)) (lp .i) (rw l (omega arith)) (lp .inv .1)
-          (rw (entry-at arrayAt 4 s (a .at) (a .n) (lp .i) none (omega arith)) (sym (c .before .array-right .ensures) ∙ not-false _ (c .if1 .left))),
+      pass-goes arrayRight none (entries arrayAt arraySize s (a .at) (a .n)) (lp .i) (rw l (omega arith)) (lp .inv .1)
+          (rw (entry-at arrayAt arraySize s (a .at) (a .n) (lp .i) none (omega arith)) (sym (c .before .array-right .ensures) ∙ not-false _ (c .if1 .left))),
     )
 
 returns-2 : tie.Need-returns-2 Inv-loop μ-loop
@@ -69,8 +70,8 @@ returns-2 c =
     let lp = c .before .loop in
     let s = a .program .now in
     let none : Array = record { ty = 0; pad = 0; len = 0 } in
-    let l = length-entries arrayAt 4 s (a .at) (a .n) in
-    sym (pass-ends arrayRight none (entries arrayAt 4 s (a .at) (a .n)) (lp .i) (rw l (omega arith)) (lp .inv .1))
+    let l = length-entries arrayAt arraySize s (a .at) (a .n) in
+    sym (pass-ends arrayRight none (entries arrayAt arraySize s (a .at) (a .n)) (lp .i) (rw l (omega arith)) (lp .inv .1))
 
 pub are-arrays-spec : {M : Type 1} → statement M
 are-arrays-spec =

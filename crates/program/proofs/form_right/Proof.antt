@@ -4,6 +4,7 @@ use native.Mathlib.Omega.{arith}
 use borrow.Author.Needs.{needs}
 use Rattle.model.specs.Kinds.{kindOf}
 use Rattle.model.specs.Program.{formRight}
+use Rattle.program.specs.Numbers.{kindCodes}
 use Rattle.program.specs.Reading.{entryOf}
 use Rattle.program.proofs.Statements.{below-one, form-none}
 use Rattle.program.proofs.form_right.Statement.{statement}
@@ -128,7 +129,7 @@ returns-16 c =
       r .0 .0 .0 .0 .0 .0 .0 .0 .0 .0 .1,
     ) in
     let e₁₀ : 10 ≤ k = omega (arith, r .0 .0 .0 .0 .0 .0 .0 .0 .0 .1, r .0 .0 .0 .0 .0 .0 .0 .0 .1, r .0 .0 .0 .0 .0 .0 .0 .1, r .0 .0 .0 .0 .0 .0 .1, r .0 .0 .0 .0 .0 .1) in
-    let e₁₅ : 15 ≤ k = omega (arith, r .0 .0 .0 .0 .1, r .0 .0 .0 .1, r .0 .0 .1, r .0 .1, r .1) in
+    let e₁₅ : kindCodes ≤ k = omega (arith, r .0 .0 .0 .0 .1, r .0 .0 .0 .1, r .0 .0 .1, r .0 .1, r .1) in
     rw (form-none T (entryOf (c .before .args .q)) e₁₅)
 
 pub form-right-spec : {M : Type 1} → statement M

@@ -2,6 +2,7 @@
 use mathlib.Core.Path.{_≡_, sym, ap, _∙_}
 use borrow.Author.Needs.{needs}
 use Rattle.model.specs.Program.{layoutOf, sectionsRight}
+use Rattle.model.specs.Refusals.{wrongSections}
 use Rattle.program.specs.Reading.{programAnswer, tableChecks}
 use Rattle.program.proofs.Answers.{by-checks}
 use Rattle.program.proofs.Chain.{handed-on, table-read}
@@ -22,7 +23,7 @@ returns c =
     let t = c .before .before in
     let s = t .before .before .args .program .now in
     let g = c .enum-told .given in
-    handed-on (sectionsRight s) 2 (g .0 .0) (layoutOf s) (tableChecks s) (programAnswer (t .sections .result)) (ap programAnswer (g .1)) (t .sections .ensures)
+    handed-on (sectionsRight s) wrongSections (g .0 .0) (layoutOf s) (tableChecks s) (programAnswer (t .sections .result)) (ap programAnswer (g .1)) (t .sections .ensures)
     ∙ sym (by-checks s)
 
 checked-requires : tie.Need-checked-requires

@@ -9,6 +9,7 @@ use borrow.Author.Tests.{not-true, not-false}
 use lib.ListN.{length, drop}
 use Rattle.model.specs.Lists.{every}
 use Rattle.model.specs.Program.{Tables, Statement, formRight, typesAgree, immediateRight}
+use Rattle.model.specs.Refusals.{wrongStatement}
 use Rattle.program.specs.Reading.{entryOf, statementOf, statementFrom, noStatement, tablesOf}
 use Rattle.program.proofs.Chain.{check-ok, check-refused, check-number}
 use Rattle.program.proofs.Passes.{pass-fails, pass-goes, pass-ends, pass-gathers, pass-gathered}
@@ -57,7 +58,7 @@ taken : (c : tie.After-known-told Inv-loop μ-loop) → (entryOf (c .before .rea
 taken c =
     let q = statementOf (tables (turn c)) (turn c .before .loop .i) in
     let e = sym (ap statementFrom (c .before .read .given .1)) ∙ c .before .before .before .read-statement .ensures in
-    check-ok (formRight (tables (turn c)) q) 5 _ q e .1
+    check-ok (formRight (tables (turn c)) q) wrongStatement _ q e .1
 
 loop-holds : tie.Need-loop-holds Inv-loop μ-loop
 loop-holds c = (search needs, refl, refl, refl)
@@ -81,8 +82,8 @@ returns c =
     let q = statementOf T (t .before .loop .i) in
     let g = c .before .enum-told .given in
     let e = sym (ap statementFrom (g .1)) ∙ c .before .before .before .read-statement .ensures in
-    let n = c .statement-refusal .ensures (g .0 .0) (ap statementFrom (g .1)) ∙ check-number (formRight T q) 5 (g .0 .0) q e in
-    rw (pass-fails (formRight T) noStatement (T .statements) (t .before .loop .i) (inside-list t) (t .before .loop .inv .1) (check-refused (formRight T q) 5 (g .0 .0) q e), n)
+    let n = c .statement-refusal .ensures (g .0 .0) (ap statementFrom (g .1)) ∙ check-number (formRight T q) wrongStatement (g .0 .0) q e in
+    rw (pass-fails (formRight T) noStatement (T .statements) (t .before .loop .i) (inside-list t) (t .before .loop .inv .1) (check-refused (formRight T q) wrongStatement (g .0 .0) q e), n)
 
 types-agree-requires : tie.Need-types-agree-requires Inv-loop μ-loop
 types-agree-requires c κs = search needs
@@ -112,7 +113,7 @@ loop-again c =
     let agree = c .before .before .both .ensures ∙ ap (t .before .loop .agree &&_) (c .before .before .before .types-agree .ensures ∙ ap (typesAgree T) (taken k)) in
     let fits = c .both2 .ensures ∙ ap (t .before .loop .inside &&_) (c .before .immediate-right .ensures ∙ ap (immediateRight T) (taken k)) in (
       omega arith,
-      pass-goes (formRight T) noStatement (T .statements) (t .before .loop .i) (inside-list t) (t .before .loop .inv .1) (check-ok (formRight T q) 5 _ q e .0),
+      pass-goes (formRight T) noStatement (T .statements) (t .before .loop .i) (inside-list t) (t .before .loop .inv .1) (check-ok (formRight T q) wrongStatement _ q e .0),
       rw agree (pass-gathers (typesAgree T) noStatement (T .statements) (t .before .loop .i) (t .before .loop .agree) (inside-list t) (t .before .loop .inv .2)),
       rw fits (pass-gathers (immediateRight T) noStatement (T .statements) (t .before .loop .i) (t .before .loop .inside) (inside-list t) (t .before .loop .inv .3)),
     )

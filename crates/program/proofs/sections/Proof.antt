@@ -8,6 +8,8 @@ use borrow.Author.Needs.{needs}
 use Rattle.model.specs.Program.{layoutOf, sectionsRight}
 use Rattle.model.specs.Refusals.{Out, ok, refused, check}
 use Rattle.model.specs.Program.{Layout as Sections}
+use Rattle.model.specs.Sizes.{sectionTable, mostProgram, arraySize, statementSize}
+use Rattle.program.specs.Numbers.{fieldsPair, variablesPair, arraysPair, statementsPair}
 use Rattle.program.specs.Reading.{sectionOf}
 use Rattle.program.proofs.Chain.{Taken, section-taken, section-refused, section-short, no-chain, chain-right}
 use Rattle.program.proofs.sections.Statement.{statement}
@@ -64,26 +66,26 @@ start-4 c = c .before .fourth .given .0 .0
 abbrev length-4 : tie.After-known-told4 → ℕ
 length-4 c = c .before .fourth .given .0 .1 .0
 
-taken-1 : (c : tie.After-known-told) → Taken (bytes (read-1 c)) 0 32 (start-1 c) (length-1 c)
-taken-1 c = let r = read-1 c .section-at in section-taken (bytes (read-1 c)) 0 32 (r .result) (r .ensures .0) (start-1 c) (length-1 c) (c .before .first .given .1)
+taken-1 : (c : tie.After-known-told) → Taken (bytes (read-1 c)) fieldsPair sectionTable (start-1 c) (length-1 c)
+taken-1 c = let r = read-1 c .section-at in section-taken (bytes (read-1 c)) fieldsPair sectionTable (r .result) (r .ensures .0) (start-1 c) (length-1 c) (c .before .first .given .1)
 
-taken-2 : (c : tie.After-known-told2) → Taken (bytes-2 (read-2 c)) 8 (start-1 (read-2 c .before) + length-1 (read-2 c .before)) (start-2 c) (length-2 c)
+taken-2 : (c : tie.After-known-told2) → Taken (bytes-2 (read-2 c)) variablesPair (start-1 (read-2 c .before) + length-1 (read-2 c .before)) (start-2 c) (length-2 c)
 taken-2 c = let r = read-2 c .section-at2 in
-    section-taken (bytes-2 (read-2 c)) 8 (start-1 (read-2 c .before) + length-1 (read-2 c .before)) (r .result) (r .ensures .0) (start-2 c) (length-2 c)
+    section-taken (bytes-2 (read-2 c)) variablesPair (start-1 (read-2 c .before) + length-1 (read-2 c .before)) (r .result) (r .ensures .0) (start-2 c) (length-2 c)
     (c .before .second .given .1)
 
-taken-3 : (c : tie.After-known-told3) → Taken (bytes-3 (read-3 c)) 16 (start-2 (read-3 c .before) + length-2 (read-3 c .before)) (start-3 c) (length-3 c)
+taken-3 : (c : tie.After-known-told3) → Taken (bytes-3 (read-3 c)) arraysPair (start-2 (read-3 c .before) + length-2 (read-3 c .before)) (start-3 c) (length-3 c)
 taken-3 c = let r = read-3 c .section-at3 in
-    section-taken (bytes-3 (read-3 c)) 16 (start-2 (read-3 c .before) + length-2 (read-3 c .before)) (r .result) (r .ensures .0) (start-3 c) (length-3 c)
+    section-taken (bytes-3 (read-3 c)) arraysPair (start-2 (read-3 c .before) + length-2 (read-3 c .before)) (r .result) (r .ensures .0) (start-3 c) (length-3 c)
     (c .before .third .given .1)
 
-taken-4 : (c : tie.After-known-told4) → Taken (bytes-4 (read-4 c)) 24 (start-3 (read-4 c .before) + length-3 (read-4 c .before)) (start-4 c) (length-4 c)
+taken-4 : (c : tie.After-known-told4) → Taken (bytes-4 (read-4 c)) statementsPair (start-3 (read-4 c .before) + length-3 (read-4 c .before)) (start-4 c) (length-4 c)
 taken-4 c = let r = read-4 c .section-at4 in
-    section-taken (bytes-4 (read-4 c)) 24 (start-3 (read-4 c .before) + length-3 (read-4 c .before)) (r .result) (r .ensures .0) (start-4 c) (length-4 c)
+    section-taken (bytes-4 (read-4 c)) statementsPair (start-3 (read-4 c .before) + length-3 (read-4 c .before)) (r .result) (r .ensures .0) (start-4 c) (length-4 c)
     (c .before .fourth .given .1)
 
 -- the file has a length of the form
-sized : (c : tie.After-section-at) → (32 ≤ length (bytes c)) × (length (bytes c) ≤ 8384)
+sized : (c : tie.After-section-at) → (sectionTable ≤ length (bytes c)) × (length (bytes c) ≤ mostProgram)
 sized c = (omega arith, omega arith)
 
 -- ---- the answers
@@ -110,7 +112,7 @@ returns-3 : tie.Need-returns-3
 returns-3 c =
     let g = c .before .enum-told .given in
     let r = c .before .before .before in
-    let w = section-refused (bytes r) 0 32 (r .section-at .result) (r .section-at .ensures .0) (g .0 .0) (g .1) in
+    let w = section-refused (bytes r) fieldsPair sectionTable (r .section-at .result) (r .section-at .ensures .0) (g .0 .0) (g .1) in
     rw (no-chain (bytes r) (λ k. w .0 (omega arith)), c .section-refusal .ensures (g .0 .0) (ap sectionOf (g .1)), w .1)
 
 add-section-at : tie.Need-add-section-at
@@ -132,7 +134,7 @@ returns-4 : tie.Need-returns-4
 returns-4 c =
     let g = c .before .enum-told2 .given in
     let r = c .before .before .before in
-    let w = section-refused (bytes-2 r) 8 (start-1 (r .before) + length-1 (r .before)) (r .section-at2 .result) (r .section-at2 .ensures .0) (g .0 .0) (g .1) in
+    let w = section-refused (bytes-2 r) variablesPair (start-1 (r .before) + length-1 (r .before)) (r .section-at2 .result) (r .section-at2 .ensures .0) (g .0 .0) (g .1) in
     rw (no-chain (bytes-2 r) (λ k. w .0 (omega (arith, taken-1 (r .before)))), c .section-refusal2 .ensures (g .0 .0) (ap sectionOf (g .1)), w .1)
 
 add-section-at-2 : tie.Need-add-section-at-2
@@ -154,7 +156,7 @@ returns-5 : tie.Need-returns-5
 returns-5 c =
     let g = c .before .enum-told3 .given in
     let r = c .before .before .before in
-    let w = section-refused (bytes-3 r) 16 (start-2 (r .before) + length-2 (r .before)) (r .section-at3 .result) (r .section-at3 .ensures .0) (g .0 .0) (g .1) in
+    let w = section-refused (bytes-3 r) arraysPair (start-2 (r .before) + length-2 (r .before)) (r .section-at3 .result) (r .section-at3 .ensures .0) (g .0 .0) (g .1) in
     rw (no-chain (bytes-3 r) (λ k. w .0 (omega (arith, taken-2 (r .before), taken-1 (read-2 (r .before) .before)))), c .section-refusal3 .ensures (g .0 .0) (ap sectionOf (g .1)), w .1)
 
 add-section-at-3 : tie.Need-add-section-at-3
@@ -176,7 +178,7 @@ returns-6 : tie.Need-returns-6
 returns-6 c =
     let g = c .before .enum-told4 .given in
     let r = c .before .before .before in
-    let w = section-refused (bytes-4 r) 24 (start-3 (r .before) + length-3 (r .before)) (r .section-at4 .result) (r .section-at4 .ensures .0) (g .0 .0) (g .1) in
+    let w = section-refused (bytes-4 r) statementsPair (start-3 (r .before) + length-3 (r .before)) (r .section-at4 .result) (r .section-at4 .ensures .0) (g .0 .0) (g .1) in
     rw (
       no-chain (bytes-4 r) (λ k. w .0
           (omega (arith, taken-3 (r .before), taken-2 (read-3 (r .before) .before), taken-1 (read-2 (read-3 (r .before) .before) .before)))),
@@ -252,9 +254,9 @@ returns-10 c =
       variablesAt = f2 .1 i;
       variables = f2 .2 i;
       arraysAt = f3 .1 i;
-      arrays = ap (_/ 4) (f3 .2) i;
+      arrays = ap (_/ arraySize) (f3 .2) i;
       statementsAt = f4 .1 i;
-      statements = ap (_/ 8) (f4 .2) i;
+      statements = ap (_/ statementSize) (f4 .2) i;
     }))
 
 pub sections-spec : {M : Type 1} → statement M

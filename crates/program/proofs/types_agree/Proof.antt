@@ -4,6 +4,7 @@ use native.Mathlib.Omega.{arith}
 use borrow.Author.Needs.{needs}
 use Rattle.model.specs.Kinds.{kindOf}
 use Rattle.model.specs.Program.{typesAgree}
+use Rattle.program.specs.Numbers.{siteKind}
 use Rattle.program.specs.Reading.{entryOf}
 use Rattle.program.proofs.Statements.{agree-none}
 use Rattle.program.proofs.types_agree.Statement.{statement}
@@ -97,7 +98,7 @@ returns-11 c =
     let r = c .match .rest in
     let q = start-from-at-match-rest c .args .q in
     let e₅ : 5 ≤ q .kind = omega (arith, r .0 .0 .0 .0 .0 .0 .0 .0 .0 .1, r .0 .0 .0 .0 .0 .0 .0 .0 .1, r .0 .0 .0 .0 .0 .0 .0 .1, r .0 .0 .0 .0 .0 .0 .1, r .0 .0 .0 .0 .0 .1) in
-    let e₁₀ : 10 ≤ q .kind = omega (arith, r .0 .0 .0 .0 .1, r .0 .0 .0 .1, r .0 .0 .1, r .0 .1, r .1) in
+    let e₁₀ : siteKind ≤ q .kind = omega (arith, r .0 .0 .0 .0 .1, r .0 .0 .0 .1, r .0 .0 .1, r .0 .1, r .1) in
     rw (agree-none _ (entryOf q) e₁₀)
 
 pub types-agree-spec : {M : Type 1} → statement M
