@@ -18,7 +18,7 @@ use Rattle.program.specs.Reading.{programAnswer, layoutFrom, tablesOf, n
 use Rattle.program.specs.declared.Layout.{Layout}
 use Rattle.program.specs.declared.ProgramRead.{ProgramRead}
 use Rattle.program.specs.declared.ProgramRead.the-variants.{Read}
-use Rattle.program.proofs.Chain.{placed}
+use Rattle.program.proofs.sections.Chain.{placed}
 use Rattle.program.proofs.Tables.{sized}
 
 -- the reader's answer, where it is a layout

@@ -1,10 +1,4 @@
-pub mod Entries
 pub mod Tables
-pub mod Statements
 pub mod Passes
-pub mod Chain
-pub mod Levels
-pub mod Shapes
 pub mod Answers
-pub mod Nested
 pub mod Known

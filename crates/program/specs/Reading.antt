@@ -16,10 +16,10 @@ use Rattle.program.specs.declared.Layout.{Layout}
 use Rattle.program.specs.declared.Entry.{Entry}
 use Rattle.program.specs.declared.ProgramRead.{ProgramRead}
 use Rattle.program.specs.declared.ProgramRead.the-variants.{Read, Refused}
-use Rattle.program.specs.declared.SectionRead.{SectionRead}
-use Rattle.program.specs.declared.SectionRead.the-variants.{Section, Refused as NoSection}
-use Rattle.program.specs.declared.StatementRead.{StatementRead}
-use Rattle.program.specs.declared.StatementRead.the-variants.{Entry as AnEntry, Refused as NoEntry}
+use Rattle.program.specs.declared.sections.SectionRead.{SectionRead}
+use Rattle.program.specs.declared.sections.SectionRead.the-variants.{Section, Refused as NoSection}
+use Rattle.program.specs.declared.statements.StatementRead.{StatementRead}
+use Rattle.program.specs.declared.statements.StatementRead.the-variants.{Entry as AnEntry, Refused as NoEntry}
 
 -- the model's layout that the code's is
 abbrev pub layoutFrom : Layout → Sections

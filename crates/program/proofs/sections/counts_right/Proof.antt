@@ -1,0 +1,36 @@
+-- `program::sections::counts_right` meets its contract.
+use borrow.Author.Tests.{le-leb, lt-leb}
+use Rattle.model.specs.Program.{countsRight}
+use Rattle.program.proofs.sections.counts_right.Statement.{statement}
+use Rattle.program.proofs.sections.counts_right.Tie as tie
+
+-- places on the way, by the place from which they are seen
+abbrev else1-from-struct-known4 : tie.After-struct-known4 → tie.Else1
+else1-from-struct-known4 c = c .before .before .before .before .before
+
+returns : tie.Need-returns
+unfolding countsRight
+returns c = λ T h. rw (h .fields, lt-leb _ _ (c .if1 .taken))
+
+returns-2 : tie.Need-returns-2
+unfolding countsRight
+returns-2 c = λ T h. rw (h .fields, le-leb _ _ (c .before .before .if1 .left), h .variables, lt-leb _ _ (c .if2 .taken))
+
+returns-3 : tie.Need-returns-3
+unfolding countsRight
+returns-3 c = λ T h. rw (h .fields, le-leb _ _ (c .before .before .before .before .if1 .left), h .variables, le-leb _ _ (c .before .before .if2 .left), h .arrays, lt-leb _ _ (c .if3 .taken))
+
+returns-4 : tie.Need-returns-4
+unfolding countsRight
+returns-4 c = λ T h. rw (
+  h .fields,
+  le-leb _ _ (else1-from-struct-known4 c .if1 .left),
+  h .variables,
+  le-leb _ _ (c .before .before .before .if2 .left),
+  h .arrays,
+  le-leb _ _ (c .before .if3 .left),
+  h .statements,
+)
+
+pub counts-right-spec : {M : Type 1} → statement M
+counts-right-spec = tie.close (tie.spec returns returns-2 returns-3 returns-4)
