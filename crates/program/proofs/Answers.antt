@@ -1,21 +1,39 @@
 -- The reader's answer as a chain of checks, 2 to 8; and what the answer to the middle ones says where they pass and where one refuses.
 use mathlib.Core.Path.{_≡_, refl, sym, ap, _∙_}
 use mathlib.Core.Bool.{Bool, true, false}
-use mathlib.Core.List.{List, map}
-use Prim.Native.Nat.{ℕ, _+_, _*_}
+use mathlib.Core.List.{List}
+use Prim.Native.Nat.{ℕ}
 use native.Mathlib.Omega.{arith}
-use Rattle.model.specs.Code.{Code, treeOf}
+use Rattle.model.specs.Code.{treeOf}
 use Rattle.model.specs.Lists.{every}
 use Rattle.model.specs.Program.{Layout as Sections, Program, layoutOf, sectionsRight, countsRight, typesRight, formRight, typesAgree, immediateRight, readProgram}
 use Rattle.model.specs.Refusals.{Out, ok, refused, _>>=_, mapped, check}
 use Rattle.model.specs.Refusals.{wrongSections, tooManyEntries, wrongTypes, wrongStatement, typesDisagree, wrongImmediate}
 use Rattle.model.proofs.Results.{check-mapped, refused-ok}
 use Rattle.program.specs.declared.Layout.{Layout}
-use Rattle.program.specs.Reading.{layoutFrom, Placed, tablesOf, stmtsOf, statementChecks, blockCheck, tableChecks}
+use Rattle.program.specs.Reading.{layoutFrom, Placed, tablesOf, stmtsOf, statementChecks, tableChecks}
+
+-- ---- a test, and the result that goes with it
+
+pub check-ok : {A : Type 0} (b : Bool) (n : ℕ) (x y : A) → ok x ≡ check b n (ok y) → (b ≡ true) × (x ≡ y)
+check-ok true n x y e = (refl, cc)
+check-ok false n x y e = absurd (refused-ok n x (sym e))
+
+pub check-refused : {A : Type 0} (b : Bool) (n m : ℕ) (y : A) → refused m ≡ check b n (ok y) → b ≡ false
+check-refused true n m y e = cc
+check-refused false n m y e = refl
+
+-- a refusal that a test gave has the test's number
+pub check-number : {A : Type 0} (b : Bool) (n m : ℕ) (y : A) → refused m ≡ check b n (ok y) → m ≡ n
+check-number true n m y e = cc
+check-number false n m y e = cc
+
+-- where a test has refused, it refuses whatever follows it
+pub handed-on : {A : Type 0} (b : Bool) (n m : ℕ) (y : A) (o x : Out A) → x ≡ refused m → x ≡ check b n (ok y) → x ≡ check b n o
+handed-on true n m y o x e h = cc
+handed-on false n m y o x e h = h
 
 -- ---- the whole
-
--- a part of a result behind a test
 
 mapped-bind : {A B C : Type 0} (g : B → C) (h : A → C) (f : A → B) (o : Out A) → ((a : A) → g (f a) ≡ h a) → mapped g (o >>= λ a. ok (f a)) ≡ mapped h o
 mapped-bind g h f (ok a) e = ap ok (e a)

@@ -29,7 +29,7 @@ mapped-ok f (refused n) b e = let z : true ≡ false = cc in absurd (true≢fals
 pub is-read : (s : List ℕ) (r : ProgramRead) (L : Layout) → programAnswer r ≡ mapped (λ P. layoutOf s) (readProgram s) → r ≡ Read L → ProgramIsRead s L
 is-read s r L h e =
     let k = mapped-ok (λ P. layoutOf s) (readProgram s) (layoutFrom L) (sym (ap programAnswer e) ∙ h) in
-    record { program = k .0; read = k .1; placed = placed s L (program-checked s (k .0) (k .1) .sections) (k .2) }
+    record { program = k .0; read = k .1; placed = placed s (program-checked s (k .0) (k .1) .sections) L (k .2) }
 
 module _ (s : List ℕ) where
   module _ (P : Program) (e : readProgram s ≡ ok P) where

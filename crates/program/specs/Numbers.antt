@@ -1,9 +1,12 @@
 -- Numbers of the program file beside the model's sizes: where the pairs of the section table stand, and how many codes of types and
 -- of kinds there are.
-use Prim.Native.Nat.{ℕ, _+_, _*_}
+use Prim.Native.Nat.{ℕ, _*_}
 use Rattle.model.specs.Sizes.{pairSize}
 
--- ---- the section table: where the pair of each section stands
+-- ---- the section table: how many sections there are, and where the pair of each stands
+
+abbrev pub sections : ℕ
+sections = 4
 
 abbrev pub fieldsPair : ℕ
 fieldsPair = 0

@@ -1,21 +1,24 @@
 -- What the reader's answers and entries stand for, and what its functions may assume of a layout.
 use mathlib.Core.Path.{_≡_}
+use mathlib.Core.Bool.{Bool, _&&_}
 use mathlib.Core.List.{List, map}
-use Prim.Native.Nat.{ℕ, _+_, _*_, _≤_, _<_, _^_}
+use Prim.Native.Nat.{ℕ, _+_, _*_, _%_, _≤_, _<_, _^_}
+use lib.Dec.{eqb}
 use lib.ListN.{length, getD}
 use Rattle.model.specs.Lists.{every}
 use Rattle.model.specs.Refusals.{Out, ok, refused, mapped, check, tooManyEntries, wrongTypes, wrongStatement, typesDisagree, wrongImmediate}
 use Rattle.model.specs.Sizes.{mostProgram, arraySize, statementSize}
-use Rattle.model.specs.Bytes.{Pair}
+use Rattle.model.specs.Bytes.{u32At, Pair as ModelPair}
 use Rattle.model.specs.Code.{Stmt, end, treeOf}
 use Rattle.model.specs.Program.{Statement, Tables, tablesAt, layoutOf, countsRight, typesRight, formRight, typesAgree, immediateRight, stmtOf, Program, readProgram}
 use Rattle.model.specs.Program.{Layout as Sections}
 use Rattle.model.specs.Placement.{Laid}
-use Rattle.program.specs.Numbers.{endKind}
+use Rattle.program.specs.Numbers.{arraysPair, statementsPair, endKind}
 use Rattle.program.specs.declared.Layout.{Layout}
 use Rattle.program.specs.declared.Entry.{Entry}
 use Rattle.program.specs.declared.ProgramRead.{ProgramRead}
 use Rattle.program.specs.declared.ProgramRead.the-variants.{Read, Refused}
+use Rattle.program.specs.declared.sections.Pair.{Pair}
 use Rattle.program.specs.declared.sections.SectionRead.{SectionRead}
 use Rattle.program.specs.declared.sections.SectionRead.the-variants.{Section, Refused as NoSection}
 use Rattle.program.specs.declared.statements.StatementRead.{StatementRead}
@@ -39,15 +42,26 @@ abbrev pub programAnswer : ProgramRead → Out Sections
 programAnswer (Read L) = ok (layoutFrom L)
 programAnswer (Refused n) = refused n
 
+-- the pair that stands at a place: two numbers of 4 bytes
+pub record PairIs (p : Pair) (s : List ℕ) (place : ℕ) : Type 0 where
+  pub offset : p .at ≡ u32At s place
+  pub length : p .len ≡ u32At s (place + 4)
+  pub offset-small : p .at < 2 ^ 32
+  pub length-small : p .len < 2 ^ 32
+
 -- a section's pair, or the number of the refusal
-abbrev pub sectionOf : SectionRead → Out Pair
-sectionOf (Section at len) = ok (record { offset = at; len = len })
+abbrev pub sectionOf : SectionRead → Out ModelPair
+sectionOf (Section p) = ok (record { offset = p .at; len = p .len })
 sectionOf (NoSection n) = refused n
 
 -- both numbers of 4 bytes
 abbrev pub InFourBytes : SectionRead → Type 0
-InFourBytes (Section at len) = (at < 2 ^ 32) × (len < 2 ^ 32)
+InFourBytes (Section p) = (p .at < 2 ^ 32) × (p .len < 2 ^ 32)
 InFourBytes (NoSection n) = Unit {0}
+
+-- the sections of arrays and of statements are whole entries
+abbrev pub wholeEntries : List ℕ → Bool
+wholeEntries s = eqb (u32At s (arraysPair + 4) % arraySize) 0 && eqb (u32At s (statementsPair + 4) % statementSize) 0
 
 -- the model's entry that the code's is
 abbrev pub entryOf : Entry → Statement

@@ -3,20 +3,25 @@ ghost use mathlib.Core.Path.{_≡_};
 ghost use Prim.Native.Nat.{ℕ, _+_, _*_, _≤_};
 ghost use lib.Dec.{eqb};
 ghost use lib.ListN.{length};
-ghost use Rattle.model.specs.Sizes.{pairSize, arraySize};
+ghost use Rattle.model.specs.Sizes.{sectionTable, pairSize, arraySize};
 ghost use Rattle.model.specs.Refusals.{ok, refused, check, wrongSections};
 ghost use Rattle.model.specs.Bytes.{u32At, pairAt, part, entries};
 ghost use Rattle.model.specs.Lists.{every};
 ghost use Rattle.model.specs.Program.{Tables, arrayAt, layoutOf, sectionsRight, countsRight, typeRight, arrayRight, typesRight};
-ghost use Rattle.program.specs.Reading.{programAnswer, sectionOf, InFourBytes, tablesOf, Placed, Sized};
+ghost use Rattle.program.specs.Reading.{programAnswer, PairIs, sectionOf, InFourBytes, wholeEntries, tablesOf, Placed, Sized};
 use super::ARRAY_SIZE;
 use super::Layout;
 use super::ProgramRead;
 use super::STATEMENT_SIZE;
 
-// the bytes of the section table, and where the pair of each section stands in it
+const SECTIONS: usize = 4;
+
+// the bytes of a pair of the section table, and of the whole table
+const PAIR_SIZE: usize = 8;
+
 const SECTION_TABLE: usize = 32;
 
+// where the pair of each section stands
 const FIELDS_PAIR: usize = 0;
 
 const VARIABLES_PAIR: usize = 8;
@@ -44,25 +49,43 @@ const TYPE_CODES: u8 = 8;
 
 const WRONG_SECTIONS: u8 = 2;
 
-// A section's offset and length.
+// A pair of the section table: where a section is, and how long.
+struct Pair {
+    at: usize,
+    len: usize,
+}
+
+// A section by its pair, or the number of the refusal.
 enum SectionRead {
-    Section { at: usize, len: usize },
+    Section(Pair),
     Refused(u8),
 }
 
 // ---- check 2
 
+// The pair at a place.
+fn pair_at(program: &[u8], place: usize) -> Pair
+    requires { ⌜ place + pairSize ≤ length (now program) ⌝ }
+    ensures { λ r. ⌜ PairIs r (now (program .entry)) place ⌝ }
+{
+    let at = bytes_le::u32_at(program, place) as usize;
+    let len = bytes_le::u32_at(program, place + 4) as usize;
+    Pair { at, len }
+}
+
 // The section whose pair stands at a place, if it starts where the one before ends.
 fn section_at(program: &[u8], place: usize, start: usize) -> SectionRead
     requires { ⌜ place + pairSize ≤ length (now program) ⌝ }
-    ensures { λ r. ⌜ (sectionOf r ≡ check (eqb (u32At (now (program .entry)) place) start) wrongSections (ok (pairAt (now (program .entry)) place))) × InFourBytes r ⌝ }
+    ensures { λ r. ⌜
+        (sectionOf r ≡ check (eqb (u32At (now (program .entry)) place) start) wrongSections (ok (pairAt (now (program .entry)) place)))
+        × InFourBytes r
+        ⌝ }
 {
-    let at = bytes_le::u32_at(program, place) as usize;
-    if at != start {
+    let pair = pair_at(program, place);
+    if pair.at != start {
         return SectionRead::Refused(WRONG_SECTIONS);
     }
-    let len = bytes_le::u32_at(program, place + 4) as usize;
-    SectionRead::Section { at, len }
+    SectionRead::Section(pair)
 }
 
 // The number that the answer of the section reader holds, where it is a refusal.
@@ -70,9 +93,36 @@ fn section_refusal(read: SectionRead) -> u8
     ensures { λ r. ⌜ ((n : ℕ) → sectionOf read ≡ refused n → r ≡ n) ⌝ }
 {
     match read {
-        SectionRead::Section { at: _, len: _ } => 0,
+        SectionRead::Section(_) => 0,
         SectionRead::Refused(n) => n,
     }
+}
+
+// The layout that the section table gives, if the arrays and the statements are whole entries.
+fn read_layout(program: &[u8]) -> ProgramRead
+    requires { ⌜ sectionTable ≤ length (now program) ⌝ }
+    ensures { λ r. ⌜ programAnswer r ≡ check (wholeEntries (now (program .entry))) wrongSections (ok (layoutOf (now (program .entry)))) ⌝ }
+{
+    let fields = pair_at(program, FIELDS_PAIR);
+    let variables = pair_at(program, VARIABLES_PAIR);
+    let arrays = pair_at(program, ARRAYS_PAIR);
+    let statements = pair_at(program, STATEMENTS_PAIR);
+    if arrays.len % ARRAY_SIZE != 0 {
+        return ProgramRead::Refused(WRONG_SECTIONS);
+    }
+    if statements.len % STATEMENT_SIZE != 0 {
+        return ProgramRead::Refused(WRONG_SECTIONS);
+    }
+    ProgramRead::Read(Layout {
+        fields_at: fields.at,
+        fields: fields.len,
+        variables_at: variables.at,
+        variables: variables.len,
+        arrays_at: arrays.at,
+        arrays: arrays.len / ARRAY_SIZE,
+        statements_at: statements.at,
+        statements: statements.len / STATEMENT_SIZE,
+    })
 }
 
 // The section table: each section starts where the one before ends, and the last ends the file.
@@ -85,57 +135,20 @@ pub fn read_sections(program: &[u8]) -> ProgramRead
     if MOST_PROGRAM < program.len() {
         return ProgramRead::Refused(WRONG_SECTIONS);
     }
-    let first = section_at(program, FIELDS_PAIR, SECTION_TABLE);
-    let SectionRead::Section {
-        at: fields_at,
-        len: fields,
-    } = first
-    else {
-        return ProgramRead::Refused(section_refusal(first));
-    };
-    let second = section_at(program, VARIABLES_PAIR, fields_at + fields);
-    let SectionRead::Section {
-        at: variables_at,
-        len: variables,
-    } = second
-    else {
-        return ProgramRead::Refused(section_refusal(second));
-    };
-    let third = section_at(program, ARRAYS_PAIR, variables_at + variables);
-    let SectionRead::Section {
-        at: arrays_at,
-        len: arrays,
-    } = third
-    else {
-        return ProgramRead::Refused(section_refusal(third));
-    };
-    let fourth = section_at(program, STATEMENTS_PAIR, arrays_at + arrays);
-    let SectionRead::Section {
-        at: statements_at,
-        len: statements,
-    } = fourth
-    else {
-        return ProgramRead::Refused(section_refusal(fourth));
-    };
-    if statements_at + statements != program.len() {
+    let mut end = SECTION_TABLE;
+    let mut i: usize = 0;
+    while i < SECTIONS {
+        let read = section_at(program, PAIR_SIZE * i, end);
+        let SectionRead::Section(pair) = read else {
+            return ProgramRead::Refused(section_refusal(read));
+        };
+        end = pair.at + pair.len;
+        i += 1;
+    }
+    if end != program.len() {
         return ProgramRead::Refused(WRONG_SECTIONS);
     }
-    if arrays % ARRAY_SIZE != 0 {
-        return ProgramRead::Refused(WRONG_SECTIONS);
-    }
-    if statements % STATEMENT_SIZE != 0 {
-        return ProgramRead::Refused(WRONG_SECTIONS);
-    }
-    ProgramRead::Read(Layout {
-        fields_at,
-        fields,
-        variables_at,
-        variables,
-        arrays_at,
-        arrays: arrays / ARRAY_SIZE,
-        statements_at,
-        statements: statements / STATEMENT_SIZE,
-    })
+    read_layout(program)
 }
 
 // ---- check 3

@@ -1,11 +1,11 @@
 -- `program::read` meets its contract: the reader is a chain of checks, and each hands its refusal on.
-use mathlib.Core.Path.{_≡_, sym, ap, _∙_}
+use mathlib.Core.Path.{sym, ap, _∙_}
 use borrow.Author.Needs.{needs}
 use Rattle.model.specs.Program.{layoutOf, sectionsRight}
 use Rattle.model.specs.Refusals.{wrongSections}
 use Rattle.program.specs.Reading.{programAnswer, tableChecks}
-use Rattle.program.proofs.Answers.{by-checks}
-use Rattle.program.proofs.sections.Chain.{handed-on, table-read}
+use Rattle.program.proofs.Answers.{handed-on, by-checks}
+use Rattle.program.proofs.sections.Chain.{table-read}
 use Rattle.program.proofs.read.Statement.{statement}
 use Rattle.program.proofs.read.Tie as tie
 

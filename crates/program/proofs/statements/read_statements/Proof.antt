@@ -1,6 +1,6 @@
 -- `program::statements::read_statements` meets its contract. The invariant: the forms of the statements before i are right, and the two flags
 -- have what the tests of types and of immediates say of them.
-use mathlib.Core.Path.{_≡_, refl, sym, ap, ap₂, _∙_}
+use mathlib.Core.Path.{_≡_, refl, sym, ap, _∙_}
 use mathlib.Core.Bool.{_&&_}
 use Prim.Native.Nat.{_≤_, _<_, _-_}
 use native.Mathlib.Omega.{arith}
@@ -8,10 +8,10 @@ use borrow.Author.Needs.{needs}
 use borrow.Author.Tests.{not-true, not-false}
 use lib.ListN.{length, drop}
 use Rattle.model.specs.Lists.{every}
-use Rattle.model.specs.Program.{Tables, Statement, formRight, typesAgree, immediateRight}
+use Rattle.model.specs.Program.{Tables, formRight, typesAgree, immediateRight}
 use Rattle.model.specs.Refusals.{wrongStatement}
 use Rattle.program.specs.Reading.{entryOf, statementOf, statementFrom, noStatement, tablesOf}
-use Rattle.program.proofs.sections.Chain.{check-ok, check-refused, check-number}
+use Rattle.program.proofs.Answers.{check-ok, check-refused, check-number}
 use Rattle.program.proofs.Passes.{pass-fails, pass-goes, pass-ends, pass-gathers, pass-gathered}
 use Rattle.program.proofs.Tables.{sized}
 use Rattle.program.proofs.statements.read_statements.Statement.{statement}

@@ -1,7 +1,6 @@
 -- `program::statements::statement_refusal` meets its contract.
-use mathlib.Core.Path.{_≡_, sym, ap, _∙_}
+use mathlib.Core.Path.{sym, ap, _∙_}
 use borrow.Author.Needs.{needs}
-use Rattle.model.specs.Refusals.{refused}
 use Rattle.program.specs.Reading.{statementFrom}
 use Rattle.program.proofs.statements.statement_refusal.Statement.{statement}
 use Rattle.program.proofs.statements.statement_refusal.Tie as tie
