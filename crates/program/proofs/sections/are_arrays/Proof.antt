@@ -1,10 +1,12 @@
 -- `program::sections::are_arrays` meets its contract.
 use mathlib.Core.Path.{_≡_, refl, sym, _∙_}
-use Prim.Native.Nat.{_≤_, _-_}
+use mathlib.Core.Bool.{true, false}
+use mathlib.Core.List.{List}
+use Prim.Native.Nat.{_+_, _*_, _-_, _≤_, _<_}
 use native.Mathlib.Omega.{arith}
 use borrow.Author.Needs.{needs}
 use borrow.Author.Tests.{not-true, not-false}
-use lib.ListN.{drop}
+use lib.ListN.{length, getD, drop}
 use Rattle.model.specs.Sizes.{arraySize}
 use Rattle.model.specs.Bytes.{entries}
 use Rattle.model.specs.Lists.{every}
@@ -15,14 +17,40 @@ use Rattle.program.proofs.sections.are_arrays.Statement.{statement}
 use Rattle.program.proofs.sections.are_arrays.Tie as tie
 
 abbrev Inv-loop : tie.InvT-loop
-Inv-loop program at n i₀ i = (i ≤ n) × (every arrayRight (entries arrayAt arraySize program at n) ≡ every arrayRight (drop i (entries arrayAt arraySize program at n)))
+Inv-loop program at n i₀ i =
+    (i ≤ n)
+    × (every arrayRight (entries arrayAt arraySize program at n) ≡ every arrayRight (drop i (entries arrayAt arraySize program at n)))
 
 abbrev μ-loop : tie.MeasureT-loop
 μ-loop program at n i₀ i = n - i
 
--- places on the way, by the place from which they are seen
-abbrev start-from-array-right : tie.After-array-right Inv-loop μ-loop → tie.Start Inv-loop μ-loop
-start-from-array-right c = c .before .before .before .before
+-- ---- the places
+
+abbrev start : tie.At-loop Inv-loop μ-loop → tie.Start Inv-loop μ-loop
+start c = c .before .before
+
+-- the entries that are asked about
+abbrev arrays : tie.At-loop Inv-loop μ-loop → List Array
+arrays c = let a = start c .args in entries arrayAt arraySize (a .program .now) (a .at) (a .n)
+
+abbrev none : Array
+none = record { ty = 0; pad = 0; len = 0 }
+
+all : (c : tie.At-loop Inv-loop μ-loop) → length (arrays c) ≡ start c .args .n
+all c = let a = start c .args in length-entries arrayAt arraySize (a .program .now) (a .n) (a .at)
+
+-- the entry of a turn
+inside : (c : tie.In-loop Inv-loop μ-loop) → c .before .loop .i < length (arrays (c .before))
+inside c = rw (all (c .before)) (omega arith)
+
+entry : (c : tie.In-loop Inv-loop μ-loop) → let k = c .before in
+    getD (arrays k) (k .loop .i) none ≡ arrayAt (start k .args .program .now) (start k .args .at + arraySize * k .loop .i)
+entry c =
+    let k = c .before in
+    let a = start k .args in
+    entries-getD arrayAt arraySize (a .program .now) (a .n) (a .at) (k .loop .i) none (omega arith)
+
+-- ---- the answers
 
 loop-holds : tie.Need-loop-holds Inv-loop μ-loop
 loop-holds c = (search needs, refl)
@@ -38,13 +66,10 @@ array-right-requires c κs = search needs
 
 returns : tie.Need-returns Inv-loop μ-loop
 returns c =
-    let a = start-from-array-right (c .before) .args in
-    let lp = c .before .before .before .loop in
-    let s = a .program .now in
-    let none : Array = record { ty = 0; pad = 0; len = 0 } in
-    let l = length-entries arrayAt arraySize s (a .n) (a .at) in
-    sym (pass-fails arrayRight none (entries arrayAt arraySize s (a .at) (a .n)) (lp .i) (rw l (omega arith)) (lp .inv .1)
-    (rw (entries-getD arrayAt arraySize s (a .n) (a .at) (lp .i) none (omega arith)) (sym (c .before .array-right .ensures) ∙ not-true _ (c .if1 .taken))))
+    let t = c .before .before in
+    let k = t .before in
+    let wrong : arrayRight (getD (arrays k) (k .loop .i) none) ≡ false = rw (entry t) (sym (c .before .array-right .ensures) ∙ not-true _ (c .if1 .taken)) in
+    sym (pass-fails arrayRight none (arrays k) (k .loop .i) (inside t) (k .loop .inv .1) wrong)
 
 add-i : tie.Need-add-i Inv-loop μ-loop
 add-i c = search needs
@@ -54,24 +79,15 @@ loop-less c = search needs
 
 loop-again : tie.Need-loop-again Inv-loop μ-loop
 loop-again c =
-    let a = start-from-array-right (c .before) .args in
-    let lp = c .before .before .before .loop in
-    let s = a .program .now in
-    let none : Array = record { ty = 0; pad = 0; len = 0 } in
-    let l = length-entries arrayAt arraySize s (a .n) (a .at) in (
-      omega arith,
-      pass-goes arrayRight none (entries arrayAt arraySize s (a .at) (a .n)) (lp .i) (rw l (omega arith)) (lp .inv .1)
-          (rw (entries-getD arrayAt arraySize s (a .n) (a .at) (lp .i) none (omega arith)) (sym (c .before .array-right .ensures) ∙ not-false _ (c .if1 .left))),
-    )
+    let t = c .before .before in
+    let k = t .before in
+    let right : arrayRight (getD (arrays k) (k .loop .i) none) ≡ true = rw (entry t) (sym (c .before .array-right .ensures) ∙ not-false _ (c .if1 .left)) in
+    (omega arith, pass-goes arrayRight none (arrays k) (k .loop .i) (inside t) (k .loop .inv .1) right)
 
 returns-2 : tie.Need-returns-2 Inv-loop μ-loop
 returns-2 c =
-    let a = c .before .before .before .args in
-    let lp = c .before .loop in
-    let s = a .program .now in
-    let none : Array = record { ty = 0; pad = 0; len = 0 } in
-    let l = length-entries arrayAt arraySize s (a .n) (a .at) in
-    sym (pass-ends arrayRight none (entries arrayAt arraySize s (a .at) (a .n)) (lp .i) (rw l (omega arith)) (lp .inv .1))
+    let k = c .before in
+    sym (pass-ends arrayRight none (arrays k) (k .loop .i) (rw (all k) (omega arith)) (k .loop .inv .1))
 
 pub are-arrays-spec : {M : Type 1} → statement M
 are-arrays-spec =

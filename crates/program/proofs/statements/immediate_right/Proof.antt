@@ -9,9 +9,13 @@ use Rattle.program.proofs.statements.ByKind.{immediate-none}
 use Rattle.program.proofs.statements.immediate_right.Statement.{statement}
 use Rattle.program.proofs.statements.immediate_right.Tie as tie
 
--- places on the way, by the place from which they are seen
-abbrev start-from-immediate : tie.After-immediate → tie.Start
-start-from-immediate c = c .before .before .before .before .before .before
+-- where the statement's kind is a number's, and its type was looked up
+abbrev number : tie.After-variable-type → tie.Else1
+number c = c .before
+
+-- what the function may assume, where the immediate was read
+abbrev assumed : tie.After-immediate → tie.Start
+assumed c = number (c .before) .before .before .before .before
 
 cast-a : tie.Need-cast-a
 cast-a c = search needs
@@ -26,7 +30,7 @@ immediate-requires : tie.Need-immediate-requires
 immediate-requires c κs = search needs
 
 range-of-requires : tie.Need-range-of-requires
-range-of-requires c κs = rw (c .before .variable-type .ensures) (type-small _ (start-from-immediate c .pre .1) _)
+range-of-requires c κs = rw (c .before .variable-type .ensures) (type-small _ (assumed c .pre .1) _)
 
 is-of-type-requires : tie.Need-is-of-type-requires
 is-of-type-requires c κs = search needs
@@ -35,7 +39,7 @@ returns-2 : tie.Need-returns-2
 unfolding immediateRight kindOf
 returns-2 c =
     let n = c .before .before in
-    rw (n .before .before .if1 .left, ← n .before .variable-type .ensures, ← n .immediate .ensures) (c .is-of-type .ensures _ (c .before .range-of .ensures))
+    rw (number (n .before) .if1 .left, ← n .before .variable-type .ensures, ← n .immediate .ensures) (c .is-of-type .ensures _ (c .before .range-of .ensures))
 
 pub immediate-right-spec : {M : Type 1} → statement M
 immediate-right-spec =

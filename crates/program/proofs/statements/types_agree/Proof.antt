@@ -6,13 +6,14 @@ use Rattle.model.specs.Kinds.{kindOf}
 use Rattle.model.specs.Program.{typesAgree}
 use Rattle.program.specs.Numbers.{siteKind}
 use Rattle.program.specs.Reading.{entryOf}
+use Rattle.program.specs.declared.Entry.{Entry}
 use Rattle.program.proofs.statements.ByKind.{agree-none}
 use Rattle.program.proofs.statements.types_agree.Statement.{statement}
 use Rattle.program.proofs.statements.types_agree.Tie as tie
 
--- places on the way, by the place from which they are seen
-abbrev start-from-at-match-rest : tie.At-match-rest → tie.Start
-start-from-at-match-rest c = c .before .before .before .before .before
+-- the entry, where its kind is none of those whose types have to agree
+abbrev other : tie.At-match-rest → Entry
+other c = c .before .before .before .before .before .args .q
 
 cast-a : tie.Need-cast-a
 cast-a c = search needs
@@ -96,7 +97,7 @@ returns-10 c = rw (c .before .match .keys10) (c .cell-agrees2 .ensures)
 returns-11 : tie.Need-returns-11
 returns-11 c =
     let r = c .match .rest in
-    let q = start-from-at-match-rest c .args .q in
+    let q = other c in
     let e₅ : 5 ≤ q .kind = omega (arith, r .0 .0 .0 .0 .0 .0 .0 .0 .0 .1, r .0 .0 .0 .0 .0 .0 .0 .0 .1, r .0 .0 .0 .0 .0 .0 .0 .1, r .0 .0 .0 .0 .0 .0 .1, r .0 .0 .0 .0 .0 .1) in
     let e₁₀ : siteKind ≤ q .kind = omega (arith, r .0 .0 .0 .0 .1, r .0 .0 .0 .1, r .0 .0 .1, r .0 .1, r .1) in
     rw (agree-none _ (entryOf q) e₁₀)
