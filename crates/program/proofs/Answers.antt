@@ -6,7 +6,8 @@ use Prim.Native.Nat.{ℕ}
 use native.Mathlib.Omega.{arith}
 use Rattle.model.specs.Code.{treeOf}
 use Rattle.model.specs.Lists.{every}
-use Rattle.model.specs.Program.{Layout as Sections, Program, layoutOf, sectionsRight, countsRight, typesRight, formRight, typesAgree, immediateRight, readProgram}
+use Rattle.model.specs.Program.{Layout as Sections, Program, layoutOf, readProgram}
+use Rattle.model.specs.Program.{sectionsRight, countsRight, typesRight, formRight, typesAgree, immediateRight}
 use Rattle.model.specs.Refusals.{Out, ok, refused, _>>=_, mapped, check}
 use Rattle.model.specs.Refusals.{wrongSections, tooManyEntries, wrongTypes, wrongStatement, typesDisagree, wrongImmediate}
 use Rattle.model.proofs.Results.{check-mapped, refused-ok}
@@ -44,43 +45,40 @@ unfolding readProgram
 by-checks s =
     let T = tablesOf s in
     let g : Program → Sections = λ P. layoutOf s in
+    let form = every (formRight T) (T .statements) in
+    let agree = every (typesAgree T) (T .statements) in
+    let inside = every (immediateRight T) (T .statements) in
     let tree : Out Program = treeOf (stmtsOf T) >>= λ c. ok (record { tables = T; code = c }) in
-    let in₇ = check (every (immediateRight T) (T .statements)) wrongImmediate tree in
-    let in₆ = check (every (typesAgree T) (T .statements)) typesDisagree in₇ in
-    let in₅ = check (every (formRight T) (T .statements)) wrongStatement in₆ in
+    let in₇ = check inside wrongImmediate tree in
+    let in₆ = check agree typesDisagree in₇ in
+    let in₅ = check form wrongStatement in₆ in
     let in₄ = check (typesRight T) wrongTypes in₅ in
     check-mapped g (sectionsRight s) wrongSections (check (countsRight T) tooManyEntries in₄)
     ∙ ap (check (sectionsRight s) wrongSections) (check-mapped g (countsRight T) tooManyEntries in₄
     ∙ ap (check (countsRight T) tooManyEntries) (check-mapped g (typesRight T) wrongTypes in₅
-    ∙ ap (check (typesRight T) wrongTypes) (check-mapped g (every (formRight T) (T .statements)) wrongStatement in₆
-    ∙ ap (check (every (formRight T) (T .statements)) wrongStatement) (check-mapped g (every (typesAgree T) (T .statements)) typesDisagree in₇
-    ∙ ap (check (every (typesAgree T) (T .statements)) typesDisagree) (check-mapped g (every (immediateRight T) (T .statements)) wrongImmediate tree
-    ∙ ap (check (every (immediateRight T) (T .statements)) wrongImmediate) (mapped-bind g (λ c. layoutOf s) (λ c. record { tables = T; code = c }) (treeOf (stmtsOf T)) (λ c. refl)))))))
+    ∙ ap (check (typesRight T) wrongTypes) (check-mapped g form wrongStatement in₆
+    ∙ ap (check form wrongStatement) (check-mapped g agree typesDisagree in₇
+    ∙ ap (check agree typesDisagree) (check-mapped g inside wrongImmediate tree
+    ∙ ap (check inside wrongImmediate)
+    (mapped-bind g (λ c. layoutOf s) (λ c. record { tables = T; code = c }) (treeOf (stmtsOf T)) (λ c. refl)))))))
 
 -- ---- checks 5 to 7
 
-module _ {A : Type 0} (b₅ b₆ b₇ : Bool) (y : A) where
-  -- the three tests in their order, and then o
-  abbrev three : Out A → Out A
-  three o = check b₅ wrongStatement (check b₆ typesDisagree (check b₇ wrongImmediate o))
+-- the three tests in their order, and then o
+abbrev three : {A : Type 0} → (form agree inside : Bool) → Out A → Out A
+three f a m o = check f wrongStatement (check a typesDisagree (check m wrongImmediate o))
 
-  three-pass : (x : A) → ok x ≡ three (ok y) → (b₅ ≡ true) × (b₆ ≡ true) × (b₇ ≡ true) × (x ≡ y)
-  three-pass = go b₅ b₆ b₇
-    where
-      go : (p q r : Bool) (x : A) → ok x ≡ check p wrongStatement (check q typesDisagree (check r wrongImmediate (ok y))) → (p ≡ true) × (q ≡ true) × (r ≡ true) × (x ≡ y)
-      go true true true x e = (refl, refl, refl, cc)
-      go true true false x e = absurd (refused-ok wrongImmediate x (sym e))
-      go true false r x e = absurd (refused-ok typesDisagree x (sym e))
-      go false q r x e = absurd (refused-ok wrongStatement x (sym e))
+three-pass : {A : Type 0} (f a m : Bool) (x y : A) → ok x ≡ three f a m (ok y) → (f ≡ true) × (a ≡ true) × (m ≡ true) × (x ≡ y)
+three-pass true true true x y e = (refl, refl, refl, cc)
+three-pass true true false x y e = absurd (refused-ok wrongImmediate x (sym e))
+three-pass true false m x y e = absurd (refused-ok typesDisagree x (sym e))
+three-pass false a m x y e = absurd (refused-ok wrongStatement x (sym e))
 
-  three-refused : (m : ℕ) (o x : Out A) → x ≡ refused m → x ≡ three (ok y) → x ≡ three o
-  three-refused m o x = go b₅ b₆ b₇
-    where
-      go : (p q r : Bool) → x ≡ refused m → x ≡ check p wrongStatement (check q typesDisagree (check r wrongImmediate (ok y))) → x ≡ check p wrongStatement (check q typesDisagree (check r wrongImmediate o))
-      go true true true e h = cc
-      go true true false e h = h
-      go true false r e h = h
-      go false q r e h = h
+three-refused : {A : Type 0} (f a m : Bool) (n : ℕ) (y : A) (o x : Out A) → x ≡ refused n → x ≡ three f a m (ok y) → x ≡ three f a m o
+three-refused true true true n y o x e h = cc
+three-refused true true false n y o x e h = h
+three-refused true false m n y o x e h = h
+three-refused false a m n y o x e h = h
 
 module _ (s : List ℕ) where
   -- the tests, by their numbers
@@ -96,12 +94,13 @@ module _ (s : List ℕ) where
   -- where they pass, what follows them counts
   pub statements-pass : (x y : Sections) → ok x ≡ statementChecks s (ok y) → ((o : Out Sections) → o ≡ statementChecks s o) × (x ≡ y)
   statements-pass x y e =
-      let k = three-pass form agree inside y x e in
+      let k = three-pass form agree inside x y e in
       (λ o. rw (k .0, k .1, k .2), k .3)
 
   -- where one refuses, it refuses whatever follows
-  pub statements-refused : (m : ℕ) (y : Sections) (o x : Out Sections) → x ≡ refused m → x ≡ statementChecks s (ok y) → x ≡ statementChecks s o
-  statements-refused m y o x e h = three-refused form agree inside y m o x e h
+  pub statements-refused : (m : ℕ) (y : Sections) (o x : Out Sections) → x ≡ refused m → x ≡ statementChecks s (ok y)
+      → x ≡ statementChecks s o
+  statements-refused m y o x e h = three-refused form agree inside m y o x e h
 
 -- ---- a layout that is the byte string's own, twice
 

@@ -75,7 +75,9 @@ type-small T h x = go (leb (length vs) x) refl
     vs = T .variables
 
     known : every typeRight vs ≡ true
-    known = and-right (every typeRight (T .fields)) (every typeRight vs) (and-left (every typeRight (T .fields) && every typeRight vs) (every arrayRight (T .arrays)) h)
+    known =
+        let fields = every typeRight (T .fields) in
+        and-right fields (every typeRight vs) (and-left (fields && every typeRight vs) (every arrayRight (T .arrays)) h)
 
     go : (b : Bool) → leb (length vs) x ≡ b → getD vs x 0 < typeCodes
     go true e = rw (List·getD-eq-default vs 0 (leb-true (length vs) x e)) (omega arith)

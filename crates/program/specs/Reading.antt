@@ -10,8 +10,8 @@ use Rattle.model.specs.Refusals.{Out, ok, refused, mapped, check, tooManyEntrie
 use Rattle.model.specs.Sizes.{mostProgram, arraySize, statementSize}
 use Rattle.model.specs.Bytes.{u32At, Pair as ModelPair}
 use Rattle.model.specs.Code.{Stmt, end, treeOf}
-use Rattle.model.specs.Program.{Statement, Tables, tablesAt, layoutOf, countsRight, typesRight, formRight, typesAgree, immediateRight, stmtOf, Program, readProgram}
-use Rattle.model.specs.Program.{Layout as Sections}
+use Rattle.model.specs.Program.{Statement, Tables, Layout as Sections, tablesAt, layoutOf, stmtOf, Program, readProgram}
+use Rattle.model.specs.Program.{countsRight, typesRight, formRight, typesAgree, immediateRight}
 use Rattle.model.specs.Placement.{Laid}
 use Rattle.program.specs.Numbers.{arraysPair, statementsPair, endKind}
 use Rattle.program.specs.declared.Layout.{Layout}

@@ -137,7 +137,7 @@ module _ (types : List ℕ) (S : Conjuncts) (h : All (Formed types) S) where
 
 -- a program that is read has at most 32 fields
 pub fields-few : (s : List ℕ) (L : Layout) → ProgramIsRead s L → length (tablesOf s .fields) ≤ 32
-fields-few s L h = rw (sized s L (h .placed) .fields) (counts-known s L h .0)
+fields-few s L h = rw (sized s L (h .placed) .fields) (counts-known s L h .fields)
 
 -- its five parts, stored one behind the other: c is the count of conjuncts, and the types are copied from ts
 module _ (types : List ℕ) (S : Conjuncts) (ts : List ℕ) (c : ℕ) (same : ts ≡ types) (count : c ≡ length S) where

@@ -20,7 +20,10 @@ u16-at-requires : tie.Need-u16-at-requires
 u16-at-requires c κs = search needs
 
 returns-2 : tie.Need-returns-2
-returns-2 c = let a = c .before .before .before .args in rw (array-in (a .program .now) (a .layout) (c .before .before .before .pre) (a .x) (c .before .if1 .left)) (c .u16-at .ensures .0)
+returns-2 c =
+    let start = c .before .before .before in
+    let a = start .args in
+    rw (array-in (a .program .now) (a .layout) (start .pre) (a .x) (c .before .if1 .left)) (c .u16-at .ensures .0)
 
 pub array-len-spec : {M : Type 1} → statement M
 array-len-spec =

@@ -69,10 +69,12 @@ returns-3 c =
     (ap programAnswer (c .enum-told .given .1)) (f .read-statements .ensures))
 
 -- checks 5 to 7 have passed, and gave the layout
-passed : (c : tie.After-known-told) → let s = bytes (forms c .before) in ((o : Out Sections) → o ≡ statementChecks s o) × (layoutFrom (c .before .formed .given .0 .0) ≡ layoutOf s)
+passed : (c : tie.After-known-told) → let s = bytes (forms c .before) in
+    ((o : Out Sections) → o ≡ statementChecks s o) × (layoutFrom (c .before .formed .given .0 .0) ≡ layoutOf s)
 passed c =
     let s = bytes (forms c .before) in
-    statements-pass s (layoutFrom (c .before .formed .given .0 .0)) (layoutOf s) (sym (ap programAnswer (c .before .formed .given .1)) ∙ forms c .read-statements .ensures)
+    let g = c .before .formed .given in
+    statements-pass s (layoutFrom (g .0 .0)) (layoutOf s) (sym (ap programAnswer (g .1)) ∙ forms c .read-statements .ensures)
 
 match-blocks-requires : tie.Need-match-blocks-requires
 match-blocks-requires c κs =

@@ -23,7 +23,8 @@ returns c =
     let t = c .before .before in
     let s = t .before .before .args .program .now in
     let g = c .enum-told .given in
-    handed-on (sectionsRight s) wrongSections (g .0 .0) (layoutOf s) (tableChecks s) (programAnswer (t .read-sections .result)) (ap programAnswer (g .1)) (t .read-sections .ensures)
+    let answer = programAnswer (t .read-sections .result) in
+    handed-on (sectionsRight s) wrongSections (g .0 .0) (layoutOf s) (tableChecks s) answer (ap programAnswer (g .1)) (t .read-sections .ensures)
     ∙ sym (by-checks s)
 
 checked-requires : tie.Need-checked-requires

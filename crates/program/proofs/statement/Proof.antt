@@ -14,7 +14,10 @@ entry-at-requires : tie.Need-entry-at-requires
 entry-at-requires c κs = search needs
 
 returns : tie.Need-returns
-returns c = let a = c .before .before .args in rw (statement-in (a .program .now) (a .layout) (c .before .before .pre .0) (a .i) (c .before .before .pre .1)) (c .entry-at .ensures)
+returns c =
+    let start = c .before .before in
+    let a = start .args in
+    rw (statement-in (a .program .now) (a .layout) (start .pre .0) (a .i) (start .pre .1)) (c .entry-at .ensures)
 
 pub statement-spec : {M : Type 1} → statement M
 statement-spec = tie.close (tie.spec mul-entry-at add-entry-at entry-at-requires returns)

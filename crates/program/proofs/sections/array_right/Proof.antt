@@ -25,11 +25,22 @@ add-u16-at c = search needs
 u16-at-requires : tie.Need-u16-at-requires
 u16-at-requires c κs = search needs
 
+-- where the type is a code, and the byte after it zero
+abbrev typed : tie.Else2 → tie.Else1
+typed c = c .before .before
+
+abbrev padded : tie.After-u16-at → tie.Else2
+padded c = c .before
+
 returns-3 : tie.Need-returns-3
-returns-3 c = rw (lt-ltb _ _ (c .before .before .before .before .if1 .left), eq-eqb _ _ (c .before .before .if2 .left), ← c .before .u16-at .ensures .0, lt-leb _ _ (c .if3 .taken))
+returns-3 c =
+    let p = padded (c .before) in
+    rw (lt-ltb _ _ (typed p .if1 .left), eq-eqb _ _ (p .if2 .left), ← c .before .u16-at .ensures .0, lt-leb _ _ (c .if3 .taken))
 
 returns-4 : tie.Need-returns-4
-returns-4 c = rw (lt-ltb _ _ (c .before .before .before .before .if1 .left), eq-eqb _ _ (c .before .before .if2 .left), ← c .before .u16-at .ensures .0, le-leb _ _ (c .if3 .left))
+returns-4 c =
+    let p = padded (c .before) in
+    rw (lt-ltb _ _ (typed p .if1 .left), eq-eqb _ _ (p .if2 .left), ← c .before .u16-at .ensures .0, le-leb _ _ (c .if3 .left))
 
 pub array-right-spec : {M : Type 1} → statement M
 array-right-spec =

@@ -1,7 +1,7 @@
 -- `program::statements::cell_agrees` meets its contract.
 use borrow.Author.Needs.{needs}
 use borrow.Author.Tests.{eq-eqb, ne-eqb}
-use Rattle.program.proofs.statements.ByKind.{below-four}
+use Rattle.program.proofs.statements.ByKind.{unsigned-first}
 use Rattle.program.proofs.statements.cell_agrees.Statement.{statement}
 use Rattle.program.proofs.statements.cell_agrees.Tie as tie
 
@@ -18,7 +18,10 @@ variable-type-requires-2 : tie.Need-variable-type-requires-2
 variable-type-requires-2 c κs = search needs
 
 returns-2 : tie.Need-returns-2
-returns-2 c = rw (← c .variable-type2 .ensures, ← c .before .before .variable-type .ensures, ← c .before .before .before .array-type .ensures, eq-eqb _ _ (c .before .if1 .left)) (below-four _)
+returns-2 c =
+    let typed = c .before .before in
+    rw (← c .variable-type2 .ensures, ← typed .variable-type .ensures, ← typed .before .array-type .ensures, eq-eqb _ _ (c .before .if1 .left))
+    (unsigned-first _)
 
 pub cell-agrees-spec : {M : Type 1} → statement M
 cell-agrees-spec =

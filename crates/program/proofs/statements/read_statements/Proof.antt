@@ -1,14 +1,14 @@
 -- `program::statements::read_statements` meets its contract. The invariant: the forms of the statements before i are right, and the two flags
 -- have what the tests of types and of immediates say of them.
 use mathlib.Core.Path.{_≡_, refl, sym, ap, _∙_}
-use mathlib.Core.Bool.{_&&_}
-use Prim.Native.Nat.{_≤_, _<_, _-_}
+use mathlib.Core.Bool.{true, _&&_}
+use Prim.Native.Nat.{ℕ, _≤_, _<_, _-_}
 use native.Mathlib.Omega.{arith}
 use borrow.Author.Needs.{needs}
 use borrow.Author.Tests.{not-true, not-false}
 use lib.ListN.{length, drop}
 use Rattle.model.specs.Lists.{every}
-use Rattle.model.specs.Program.{Tables, formRight, typesAgree, immediateRight}
+use Rattle.model.specs.Program.{Tables, Statement, formRight, typesAgree, immediateRight}
 use Rattle.model.specs.Refusals.{wrongStatement}
 use Rattle.program.specs.Reading.{entryOf, statementOf, statementFrom, noStatement, tablesOf}
 use Rattle.program.proofs.Answers.{check-ok, check-refused, check-number}
@@ -43,22 +43,49 @@ turn c = c .before .before .before .before
 abbrev ended : tie.After-loop Inv-loop μ-loop → Tables
 ended c = tablesOf (c .before .before .before .args .program .now)
 
--- the statement of the turn is one of the list
-inside-list : (c : tie.In-loop Inv-loop μ-loop) → c .before .loop .i < length (tables c .statements)
+-- ---- the statement of a turn
+
+abbrev number : tie.In-loop Inv-loop μ-loop → ℕ
+number c = c .before .loop .i
+
+abbrev entry : tie.In-loop Inv-loop μ-loop → Statement
+entry c = statementOf (tables c) (number c)
+
+-- it is one of the list
+inside-list : (c : tie.In-loop Inv-loop μ-loop) → number c < length (tables c .statements)
 inside-list c = rw (sized (start c .args .program .now) (start c .args .layout) (start c .pre .0) .statements) (omega arith)
 
--- after the loop the list is passed
+-- the entry that was taken is the statement's, and its form is right
+taken : (c : tie.After-known-told Inv-loop μ-loop) → let t = turn c in
+    (formRight (tables t) (entry t) ≡ true) × (entryOf (c .before .read .given .0 .0) ≡ entry t)
+taken c =
+    let q = entry (turn c) in
+    let e = sym (ap statementFrom (c .before .read .given .1)) ∙ c .before .before .before .read-statement .ensures in
+    check-ok (formRight (tables (turn c)) q) wrongStatement _ q e
+
+-- ---- after the loop
+
 past-list : (c : tie.After-loop Inv-loop μ-loop) → length (ended c .statements) ≤ c .before .loop .i
 past-list c =
     let b = c .before .before .before in
     rw (sized (b .args .program .now) (b .args .layout) (b .pre .0) .statements) (omega arith)
 
--- the entry that was taken is the statement's, and its form is right
-taken : (c : tie.After-known-told Inv-loop μ-loop) → (entryOf (c .before .read .given .0 .0) ≡ statementOf (tables (turn c)) (turn c .before .loop .i))
-taken c =
-    let q = statementOf (tables (turn c)) (turn c .before .loop .i) in
-    let e = sym (ap statementFrom (c .before .read .given .1)) ∙ c .before .before .before .read-statement .ensures in
-    check-ok (formRight (tables (turn c)) q) wrongStatement _ q e .1
+formed : (c : tie.After-loop Inv-loop μ-loop) → every (formRight (ended c)) (ended c .statements) ≡ true
+formed c =
+    let lp = c .before .loop in
+    pass-ends (formRight (ended c)) noStatement (ended c .statements) (lp .i) (past-list c) (lp .inv .1)
+
+agreed : (c : tie.After-loop Inv-loop μ-loop) → every (typesAgree (ended c)) (ended c .statements) ≡ c .before .loop .agree
+agreed c =
+    let lp = c .before .loop in
+    pass-gathered (typesAgree (ended c)) noStatement (ended c .statements) (lp .i) (lp .agree) (past-list c) (lp .inv .2)
+
+fitted : (c : tie.After-loop Inv-loop μ-loop) → every (immediateRight (ended c)) (ended c .statements) ≡ c .before .loop .inside
+fitted c =
+    let lp = c .before .loop in
+    pass-gathered (immediateRight (ended c)) noStatement (ended c .statements) (lp .i) (lp .inside) (past-list c) (lp .inv .3)
+
+-- ---- the answers
 
 loop-holds : tie.Need-loop-holds Inv-loop μ-loop
 loop-holds c = (search needs, refl, refl, refl)
@@ -77,13 +104,15 @@ statement-refusal-requires c κs = search needs
 
 returns : tie.Need-returns Inv-loop μ-loop
 returns c =
-    let t = c .before .before .before .before in
+    let r = c .before .before .before in
+    let t = r .before in
     let T = tables t in
-    let q = statementOf T (t .before .loop .i) in
     let g = c .before .enum-told .given in
-    let e = sym (ap statementFrom (g .1)) ∙ c .before .before .before .read-statement .ensures in
-    let n = c .statement-refusal .ensures (g .0 .0) (ap statementFrom (g .1)) ∙ check-number (formRight T q) wrongStatement (g .0 .0) q e in
-    rw (pass-fails (formRight T) noStatement (T .statements) (t .before .loop .i) (inside-list t) (t .before .loop .inv .1) (check-refused (formRight T q) wrongStatement (g .0 .0) q e), n)
+    let e = sym (ap statementFrom (g .1)) ∙ r .read-statement .ensures in
+    let right = formRight T (entry t) in
+    let wrong = check-refused right wrongStatement (g .0 .0) (entry t) e in
+    let n = c .statement-refusal .ensures (g .0 .0) (ap statementFrom (g .1)) ∙ check-number right wrongStatement (g .0 .0) (entry t) e in
+    rw (pass-fails (formRight T) noStatement (T .statements) (number t) (inside-list t) (t .before .loop .inv .1) wrong, n)
 
 types-agree-requires : tie.Need-types-agree-requires Inv-loop μ-loop
 types-agree-requires c κs = search needs
@@ -108,41 +137,37 @@ loop-again c =
     let k = c .before .before .before .before in
     let t = turn k in
     let T = tables t in
-    let q = statementOf T (t .before .loop .i) in
-    let e = sym (ap statementFrom (k .before .read .given .1)) ∙ k .before .before .before .read-statement .ensures in
-    let agree = c .before .before .both .ensures ∙ ap (t .before .loop .agree &&_) (c .before .before .before .types-agree .ensures ∙ ap (typesAgree T) (taken k)) in
-    let fits = c .both2 .ensures ∙ ap (t .before .loop .inside &&_) (c .before .immediate-right .ensures ∙ ap (immediateRight T) (taken k)) in (
+    let ss = T .statements in
+    let lp = t .before .loop in
+    let q = taken k in
+    let agree = c .before .before .both .ensures
+    ∙ ap (lp .agree &&_) (c .before .before .before .types-agree .ensures ∙ ap (typesAgree T) (q .1)) in
+    let fits = c .both2 .ensures ∙ ap (lp .inside &&_) (c .before .immediate-right .ensures ∙ ap (immediateRight T) (q .1)) in (
       omega arith,
-      pass-goes (formRight T) noStatement (T .statements) (t .before .loop .i) (inside-list t) (t .before .loop .inv .1) (check-ok (formRight T q) wrongStatement _ q e .0),
-      rw agree (pass-gathers (typesAgree T) noStatement (T .statements) (t .before .loop .i) (t .before .loop .agree) (inside-list t) (t .before .loop .inv .2)),
-      rw fits (pass-gathers (immediateRight T) noStatement (T .statements) (t .before .loop .i) (t .before .loop .inside) (inside-list t) (t .before .loop .inv .3)),
+      pass-goes (formRight T) noStatement ss (lp .i) (inside-list t) (lp .inv .1) (q .0),
+      rw agree (pass-gathers (typesAgree T) noStatement ss (lp .i) (lp .agree) (inside-list t) (lp .inv .2)),
+      rw fits (pass-gathers (immediateRight T) noStatement ss (lp .i) (lp .inside) (inside-list t) (lp .inv .3)),
     )
 
 returns-2 : tie.Need-returns-2 Inv-loop μ-loop
-returns-2 c =
-    let p = c .before in
-    let T = ended p in
-    let f = pass-ends (formRight T) noStatement (T .statements) (p .before .loop .i) (past-list p) (p .before .loop .inv .1) in
-    let a = pass-gathered (typesAgree T) noStatement (T .statements) (p .before .loop .i) (p .before .loop .agree) (past-list p) (p .before .loop .inv .2) in
-    rw (f, a ∙ not-true (p .before .loop .agree) (c .if1 .taken))
+returns-2 c = let p = c .before in rw (formed p, agreed p ∙ not-true (p .before .loop .agree) (c .if1 .taken))
 
 returns-3 : tie.Need-returns-3 Inv-loop μ-loop
 returns-3 c =
-    let p = c .before .before in
-    let T = ended p in
-    let f = pass-ends (formRight T) noStatement (T .statements) (p .before .loop .i) (past-list p) (p .before .loop .inv .1) in
-    let a = pass-gathered (typesAgree T) noStatement (T .statements) (p .before .loop .i) (p .before .loop .agree) (past-list p) (p .before .loop .inv .2) in
-    let m = pass-gathered (immediateRight T) noStatement (T .statements) (p .before .loop .i) (p .before .loop .inside) (past-list p) (p .before .loop .inv .3) in
-    rw (f, a ∙ not-false (p .before .loop .agree) (c .before .if1 .left), m ∙ not-true (p .before .loop .inside) (c .if2 .taken))
+    let p = c .before .before in rw (
+      formed p,
+      agreed p ∙ not-false (p .before .loop .agree) (c .before .if1 .left),
+      fitted p ∙ not-true (p .before .loop .inside) (c .if2 .taken),
+    )
 
 returns-4 : tie.Need-returns-4 Inv-loop μ-loop
 returns-4 c =
-    let p = c .before .before in
-    let T = ended p in
-    let f = pass-ends (formRight T) noStatement (T .statements) (p .before .loop .i) (past-list p) (p .before .loop .inv .1) in
-    let a = pass-gathered (typesAgree T) noStatement (T .statements) (p .before .loop .i) (p .before .loop .agree) (past-list p) (p .before .loop .inv .2) in
-    let m = pass-gathered (immediateRight T) noStatement (T .statements) (p .before .loop .i) (p .before .loop .inside) (past-list p) (p .before .loop .inv .3) in
-    rw (f, a ∙ not-false (p .before .loop .agree) (c .before .if1 .left), m ∙ not-false (p .before .loop .inside) (c .if2 .left), p .before .before .before .pre .0 .layout)
+    let p = c .before .before in rw (
+      formed p,
+      agreed p ∙ not-false (p .before .loop .agree) (c .before .if1 .left),
+      fitted p ∙ not-false (p .before .loop .inside) (c .if2 .left),
+      p .before .before .before .pre .0 .layout,
+    )
 
 pub read-statements-spec : {M : Type 1} → statement M
 read-statements-spec =

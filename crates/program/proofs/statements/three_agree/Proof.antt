@@ -17,7 +17,13 @@ variable-type-requires-3 : tie.Need-variable-type-requires-3
 variable-type-requires-3 c κs = search needs
 
 returns-2 : tie.Need-returns-2
-returns-2 c = rw (← c .variable-type3 .ensures, ← c .before .before .variable-type2 .ensures, ← c .before .before .before .variable-type .ensures, eq-eqb _ _ (c .before .if1 .left))
+returns-2 c =
+    let two = c .before .before in rw (
+      ← c .variable-type3 .ensures,
+      ← two .variable-type2 .ensures,
+      ← two .before .variable-type .ensures,
+      eq-eqb _ _ (c .before .if1 .left),
+    )
 
 pub three-agree-spec : {M : Type 1} → statement M
 three-agree-spec =

@@ -1,13 +1,11 @@
 -- `program::statements::types_agree` meets its contract.
-use Prim.Native.Nat.{_≤_}
-use native.Mathlib.Omega.{arith}
 use borrow.Author.Needs.{needs}
 use Rattle.model.specs.Kinds.{kindOf}
 use Rattle.model.specs.Program.{typesAgree}
 use Rattle.program.specs.Numbers.{siteKind}
 use Rattle.program.specs.Reading.{entryOf}
 use Rattle.program.specs.declared.Entry.{Entry}
-use Rattle.program.proofs.statements.ByKind.{agree-none}
+use Rattle.program.proofs.statements.ByKind.{none-of, agree-none}
 use Rattle.program.proofs.statements.types_agree.Statement.{statement}
 use Rattle.program.proofs.statements.types_agree.Tie as tie
 
@@ -95,12 +93,7 @@ unfolding typesAgree kindOf
 returns-10 c = rw (c .before .match .keys10) (c .cell-agrees2 .ensures)
 
 returns-11 : tie.Need-returns-11
-returns-11 c =
-    let r = c .match .rest in
-    let q = other c in
-    let e₅ : 5 ≤ q .kind = omega (arith, r .0 .0 .0 .0 .0 .0 .0 .0 .0 .1, r .0 .0 .0 .0 .0 .0 .0 .0 .1, r .0 .0 .0 .0 .0 .0 .0 .1, r .0 .0 .0 .0 .0 .0 .1, r .0 .0 .0 .0 .0 .1) in
-    let e₁₀ : siteKind ≤ q .kind = omega (arith, r .0 .0 .0 .0 .1, r .0 .0 .0 .1, r .0 .0 .1, r .0 .1, r .1) in
-    rw (agree-none _ (entryOf q) e₁₀)
+returns-11 c = let q = other c in rw (agree-none _ (entryOf q) (none-of siteKind (q .kind) (c .match .rest)))
 
 pub types-agree-spec : {M : Type 1} → statement M
 types-agree-spec =
