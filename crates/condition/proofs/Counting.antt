@@ -2,11 +2,12 @@
 use mathlib.Core.Path.{_≡_, refl, sym, _∙_, ap, subst}
 use mathlib.Core.Bool.{Bool, true, false, _&&_, cond}
 use mathlib.Core.List.{List, _∷_}
-use Prim.Native.Nat.{ℕ, zero, suc, _+_, _*_, _-_, _/_, _≤_, _<_}
+use Prim.Native.Nat.{ℕ, suc, _+_, _*_, _-_, _/_, _≤_, _<_}
 use native.Mathlib.Omega.{arith}
 use lib.Dec.{eqb, leb, ltb}
 use lib.ListN.{length, getD, set, replicate}
 use borrow.Author.Tests.{eq-eqb, ne-eqb, le-leb, lt-leb, lt-ltb}
+use Rattle.model.specs.Sizes.{nodeSize, mostFields}
 use Rattle.model.specs.Lists.{every}
 use Rattle.model.specs.Bytes.{entries}
 use Rattle.model.proofs.Tests.{eqb-self}
@@ -19,8 +20,8 @@ use Rattle.condition.proofs.Nodes.{node-is, right-is, right-at, rest, r
 use Rattle.condition.proofs.Numbering.{old, bump, counted, numbered-counted, seenOf, seen-none, seen-bump}
 
 -- nothing is counted yet
-pub counted-none : (types s : List ℕ) (n : ℕ) → n ≡ length s / 8 → numbered (partNodes s) ≡ counted (seenOf types (replicate 32 0)) (rest s n 0)
-counted-none types s n e = numbered-counted (partNodes s) ∙ rw (seen-none types 32, rest-all s n, e)
+pub counted-none : (types s : List ℕ) (n : ℕ) → n ≡ length s / nodeSize → numbered (partNodes s) ≡ counted (seenOf types (replicate mostFields 0)) (rest s n 0)
+counted-none types s n e = numbered-counted (partNodes s) ∙ rw (seen-none types mostFields, rest-all s n, e)
 
 -- a node that is no reading
 skip-kind : (seen : Source → ℕ) (e : Conj) (ty f i k : ℕ) → (k ≡ 1 → ⊥) → counted seen (nodeBy k ty f i ∷ e) ≡ counted seen e
@@ -34,20 +35,20 @@ skip-kind seen e ty f i =
 never : (i m : ℕ) (x y : Bool) → i ≡ 0 → cond (ltb 0 i && leb i m) x (eqb i (suc m) && y) ≡ false
 never i m x y e = rw (e, ne-eqb 0 (suc m) (λ f. absurd (omega arith)))
 
-module _ (s : List ℕ) (n k : ℕ) (v : Node) (is : NodeIs v s (8 * k)) (more : k < n) where
+module _ (s : List ℕ) (n k : ℕ) (v : Node) (is : NodeIs v s (nodeSize * k)) (more : k < n) where
   turn : rest s n k ≡ nodeFrom v ∷ rest s n (k + 1)
-  turn = rest-step s n k more ∙ ap (_∷ rest s n (k + 1)) (node-is v s (8 * k) is)
+  turn = rest-step s n k more ∙ ap (_∷ rest s n (k + 1)) (node-is v s (nodeSize * k) is)
 
   pub counted-skip : (seen : Source → ℕ) → (v .kind ≡ 1 → ⊥) → counted seen (rest s n k) ≡ counted seen (rest s n (k + 1))
   counted-skip seen h = ap (counted seen) turn ∙ skip-kind seen (rest s n (k + 1)) (v .ty) (v .field) (v .imm) (v .kind) h
 
   -- a reading of a field that is listed in its type; the counts so far are in the list l
-  module _ (types l : List ℕ) (right : every (λ b. b) (entries (nodeRight types) 8 s 0 n) ≡ true) (reads : v .kind ≡ 1) where
+  module _ (types l : List ℕ) (right : every (λ b. b) (entries (nodeRight types) nodeSize s 0 n) ≡ true) (reads : v .kind ≡ 1) where
     listed : (v .field < length types) × (v .ty ≡ getD types (v .field) 0)
     listed =
         reading-right types (v .ty) (v .field) (v .imm)
         (subst (λ (m : ℕ). rightBy types m (v .ty) (v .field) (v .imm) ≡ true) reads
-        (sym (right-is types v s (8 * k) is) ∙ right-at types s n k right more))
+        (sym (right-is types v s (nodeSize * k) is) ∙ right-at types s n k right more))
 
     pub field-listed : v .field < length types
     field-listed = listed .0

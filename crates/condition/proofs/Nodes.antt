@@ -9,17 +9,19 @@ use lib.Dec.{eqb, ltb}
 use lib.ListN.{length, getD}
 use lib.Seq.{drop-cons}
 use borrow.Author.Tests.{eqb-true, ltb-true}
+use Rattle.model.specs.Sizes.{nodeSize}
 use Rattle.model.specs.Lists.{every}
 use Rattle.model.specs.Bytes.{byteAt, u16At, u32At, bytes2, bytes4, part, entries}
-use Rattle.model.specs.Conjunct.{field, Conj, bytes, sourceBytes}
+use Rattle.model.specs.Conjunct.{Conj, bytes, sourceBytes}
 use Rattle.model.specs.Condition.{nodeAt, nodeRight, typeNode, operation, conversion}
-use Rattle.model.specs.Refusals.{ok, refused, check}
+use Rattle.model.specs.Refusals.{ok, refused, check, wrongCondition}
 use Rattle.model.specs.Program.{typeRight}
 use Rattle.arith.specs.Step.{fits}
 use Rattle.arith.specs.Words.{immediate}
 use Rattle.model.proofs.Tests.{and-left, and-right, true→T}
 use Rattle.model.proofs.Every.{every-at}
 use Rattle.model.proofs.Parts.{Narrow, u16-narrow, u32-narrow, getD-part, getD-behind, entries-step, entries-getD, length-entries}
+use Rattle.condition.specs.Numbers.{sumKind, conversionKind, fileKinds}
 use Rattle.condition.specs.Answers.{nodeBy, nodeFrom, constantRight, readingRight, operationRight, rightBy, NodeIs}
 use Rattle.condition.specs.declared.Node.{Node}
 use Rattle.condition.proofs.NodeKinds.{by-node-form, by-operation, by-step, by-conversion, by-none}
@@ -47,11 +49,11 @@ right-is types v s a h = right-by types s a ∙ rw (h .kind, h .type, h .source,
 
 -- the answer of a reader of nodes
 pub node-passes : (types : List ℕ) (v : Node) (s : List ℕ) (a : ℕ) → NodeIs v s a → rightBy types (v .kind) (v .ty) (v .field) (v .imm) ≡ true
-    → ok (nodeFrom v) ≡ check (nodeRight types s a) 12 (ok (nodeAt s a))
+    → ok (nodeFrom v) ≡ check (nodeRight types s a) wrongCondition (ok (nodeAt s a))
 node-passes types v s a h r = rw (right-is types v s a h ∙ r, node-is v s a h)
 
 pub node-fails : (types : List ℕ) (v : Node) (s : List ℕ) (a : ℕ) → NodeIs v s a → rightBy types (v .kind) (v .ty) (v .field) (v .imm) ≡ false
-    → refused 12 ≡ check (nodeRight types s a) 12 (ok (nodeAt s a))
+    → refused wrongCondition ≡ check (nodeRight types s a) wrongCondition (ok (nodeAt s a))
 node-fails types v s a h r = rw (right-is types v s a h ∙ r)
 
 -- ---- in a part
@@ -62,7 +64,7 @@ u16-behind s o n a k h = u16-narrow s o n (a + k) h ∙ ap (u16At s) (sym (add-a
 u32-behind : (s : List ℕ) (o n a k : ℕ) → a + k + 4 ≤ n → u32At (part s o n) (a + k) ≡ u32At s (o + a + k)
 u32-behind s o n a k h = u32-narrow s o n (a + k) h ∙ ap (u32At s) (sym (add-assoc o a k))
 
-pub node-narrow : Narrow nodeAt 8
+pub node-narrow : Narrow nodeAt nodeSize
 node-narrow s o n a h =
     node-by (part s o n) a
     ∙ rw (
@@ -72,7 +74,7 @@ node-narrow s o n a h =
       getD-part s o n a (omega arith),
     ) (sym (node-by s (o + a)))
 
-pub right-narrow : (types : List ℕ) → Narrow (nodeRight types) 8
+pub right-narrow : (types : List ℕ) → Narrow (nodeRight types) nodeSize
 right-narrow types s o n a h =
     right-by types (part s o n) a
     ∙ rw (
@@ -86,35 +88,35 @@ right-narrow types s o n a h =
 
 -- the nodes from the one with number k on
 abbrev pub rest : List ℕ → ℕ → ℕ → Conj
-rest s n k = entries nodeAt 8 s (8 * k) (n - k)
+rest s n k = entries nodeAt nodeSize s (nodeSize * k) (n - k)
 
-pub rest-step : (s : List ℕ) (n k : ℕ) → k < n → rest s n k ≡ nodeAt s (8 * k) ∷ rest s n (k + 1)
-rest-step s n k h = entries-step nodeAt 8 s (8 * k) (8 * (k + 1)) (n - k) (n - (k + 1)) (omega arith) (omega arith)
+pub rest-step : (s : List ℕ) (n k : ℕ) → k < n → rest s n k ≡ nodeAt s (nodeSize * k) ∷ rest s n (k + 1)
+rest-step s n k h = entries-step nodeAt nodeSize s (nodeSize * k) (nodeSize * (k + 1)) (n - k) (n - (k + 1)) (omega arith) (omega arith)
 
-pub rest-all : (s : List ℕ) (n : ℕ) → rest s n 0 ≡ entries nodeAt 8 s 0 n
+pub rest-all : (s : List ℕ) (n : ℕ) → rest s n 0 ≡ entries nodeAt nodeSize s 0 n
 rest-all s n = let e : n - 0 ≡ n = omega arith in rw e
 
 -- the node with a number has its form
-pub right-at : (types s : List ℕ) (n k : ℕ) → every (λ b. b) (entries (nodeRight types) 8 s 0 n) ≡ true → k < n → nodeRight types s (8 * k) ≡ true
+pub right-at : (types s : List ℕ) (n k : ℕ) → every (λ b. b) (entries (nodeRight types) nodeSize s 0 n) ≡ true → k < n → nodeRight types s (nodeSize * k) ≡ true
 right-at types s n k h l =
-    let e : 0 + 8 * k ≡ 8 * k = omega arith in
-    sym (entries-getD (nodeRight types) 8 s n 0 k false l ∙ ap (nodeRight types s) e)
-    ∙ every-at (λ b. b) false (entries (nodeRight types) 8 s 0 n) h k (omega (arith, length-entries (nodeRight types) 8 s n 0))
+    let e : 0 + nodeSize * k ≡ nodeSize * k = omega arith in
+    sym (entries-getD (nodeRight types) nodeSize s n 0 k false l ∙ ap (nodeRight types s) e)
+    ∙ every-at (λ b. b) false (entries (nodeRight types) nodeSize s 0 n) h k (omega (arith, length-entries (nodeRight types) nodeSize s n 0))
 
 -- ---- by kinds
 
 module _ (ty f i : ℕ) (st : List ℕ) where
-  pub push-kind : (k : ℕ) → k < 2 → typeNode (nodeBy k ty f i) st ≡ ok (ty ∷ st)
+  pub push-kind : (k : ℕ) → k < sumKind → typeNode (nodeBy k ty f i) st ≡ ok (ty ∷ st)
   unfolding nodeBy typeNode
   push-kind zero h = refl
   push-kind (suc zero) h = refl
   push-kind (suc (suc k)) h = absurd (omega arith)
 
-  pub operation-kind : (k : ℕ) → 2 ≤ k → k < 6 → typeNode (nodeBy k ty f i) st ≡ operation ty st
+  pub operation-kind : (k : ℕ) → sumKind ≤ k → k < conversionKind → typeNode (nodeBy k ty f i) st ≡ operation ty st
   unfolding nodeBy typeNode
   operation-kind = by-operation (λ k. typeNode (nodeBy k ty f i) st ≡ operation ty st) refl refl refl refl
 
-  pub conversion-kind : (k : ℕ) → 6 ≤ k → typeNode (nodeBy k ty f i) st ≡ conversion ty st
+  pub conversion-kind : (k : ℕ) → conversionKind ≤ k → typeNode (nodeBy k ty f i) st ≡ conversion ty st
   unfolding nodeBy typeNode
   conversion-kind = by-conversion (λ k. typeNode (nodeBy k ty f i) st ≡ conversion ty st) (λ k. refl)
 
@@ -128,11 +130,11 @@ module _ (types : List ℕ) (ty f i : ℕ) where
   unfolding rightBy
   reading-form k e = rw e
 
-  pub operation-form : (k : ℕ) → (k ≡ 0 → ⊥) → (k ≡ 1 → ⊥) → k < 7 → rightBy types k ty f i ≡ operationRight ty f i
+  pub operation-form : (k : ℕ) → (k ≡ 0 → ⊥) → (k ≡ 1 → ⊥) → k < fileKinds → rightBy types k ty f i ≡ operationRight ty f i
   unfolding rightBy
   operation-form k g h l = by-step (λ k. rightBy types k ty f i ≡ operationRight ty f i) refl refl refl refl refl k (omega (arith, g, h)) l
 
-  pub no-form : (k : ℕ) → 7 ≤ k → rightBy types k ty f i ≡ false
+  pub no-form : (k : ℕ) → fileKinds ≤ k → rightBy types k ty f i ≡ false
   unfolding rightBy
   no-form = by-none (λ k. rightBy types k ty f i ≡ false) (λ k. refl)
 
@@ -247,8 +249,8 @@ module _ (types : List ℕ) (ty c d e f g h : ℕ) (lc : c < 256) (le : e < 256)
       constant-bytes (λ right. rw (two, four)) (blank 2) (blank 3) (blank 4) (blank 5) (blank 6) (λ k right. absurd (true→T right))
 
 -- the bytes of a node in its form are those that stand at its place
-pub node-bytes : (types s : List ℕ) (a : ℕ) → ((i : ℕ) → getD s i 0 < 256) → nodeRight types s a ≡ true → a + 8 ≤ length s
-    → bytes (nodeAt s a) ≡ part s a 8
+pub node-bytes : (types s : List ℕ) (a : ℕ) → ((i : ℕ) → getD s i 0 < 256) → nodeRight types s a ≡ true → a + nodeSize ≤ length s
+    → bytes (nodeAt s a) ≡ part s a nodeSize
 unfolding number
 node-bytes types s a small right fits′ =
     let e1 : a + 2 + 1 ≡ a + 3 = omega arith in

@@ -10,14 +10,16 @@ use lib.Dec.{eqb}
 use lib.ListN.{length, getD, drop}
 use lib.Seq.{drop-cons, drop-length}
 use borrow.Author.Tests.{eq-eqb, ne-eqb, lt-ltb, le-ltb}
+use Rattle.model.specs.Sizes.{pairSize, nodeSize}
 use Rattle.model.specs.Lists.{every}
-use Rattle.model.specs.Refusals.{ok, refused, check}
+use Rattle.model.specs.Refusals.{ok, refused, check, wrongCondition}
 use Rattle.model.proofs.Results.{refused-ok}
 use Rattle.model.specs.Bytes.{Pair, pairAt, entries, pairsAt, chained}
 use Rattle.model.specs.Program.{typeRight}
 use Rattle.model.specs.Condition.{nodeAt, nodeRight}
 use Rattle.model.proofs.Results.{check-ok}
 use Rattle.model.proofs.Parts.{entries-step}
+use Rattle.condition.specs.Numbers.{typeCodes}
 use Rattle.condition.specs.Answers.{formed, nodeFrom, nodeOut, partRight}
 use Rattle.condition.specs.declared.Node.{Node}
 use Rattle.condition.specs.declared.NodeRead.{NodeRead}
@@ -26,13 +28,13 @@ use Rattle.condition.specs.declared.NodeRead.the-variants.{Node as Entry
 -- ---- types
 
 module _ (types : List ℕ) (i : ℕ) (more : i < length types) where
-  pub types-on : getD types i 0 < 8 → every typeRight (drop i types) ≡ every typeRight (drop (i + 1) types)
+  pub types-on : getD types i 0 < typeCodes → every typeRight (drop i types) ≡ every typeRight (drop (i + 1) types)
   unfolding every
-  types-on h = rw (drop-cons types i 0 more, lt-ltb (getD types i 0) 8 h, add-one i)
+  types-on h = rw (drop-cons types i 0 more, lt-ltb (getD types i 0) typeCodes h, add-one i)
 
-  pub types-off : 8 ≤ getD types i 0 → every typeRight (drop i types) ≡ false
+  pub types-off : typeCodes ≤ getD types i 0 → every typeRight (drop i types) ≡ false
   unfolding every
-  types-off h = rw (drop-cons types i 0 more, le-ltb (getD types i 0) 8 h)
+  types-off h = rw (drop-cons types i 0 more, le-ltb (getD types i 0) typeCodes h)
 
 pub types-end : (types : List ℕ) (i : ℕ) → length types ≤ i → i ≤ length types → every typeRight (drop i types) ≡ true
 unfolding every
@@ -42,17 +44,17 @@ types-end types i h k = let e : i ≡ length types = omega arith in rw (e, drop-
 
 -- those from the one with number i on
 abbrev pub pairsFrom : List ℕ → ℕ → ℕ → ℕ → List Pair
-pairsFrom s at n i = pairsAt s (at + 8 * i) (n - i)
+pairsFrom s at n i = pairsAt s (at + pairSize * i) (n - i)
 
 pub pairs-all : (s : List ℕ) (at n : ℕ) → pairsFrom s at n 0 ≡ pairsAt s at n
 pairs-all s at n =
     let e : n - 0 ≡ n = omega arith in
     rw (e, add-zero at)
 
-pub pairs-step : (s : List ℕ) (at n i : ℕ) → i < n → pairsFrom s at n i ≡ pairAt s (at + 8 * i) ∷ pairsFrom s at n (i + 1)
-pairs-step s at n i h = entries-step pairAt 8 s (at + 8 * i) (at + 8 * (i + 1)) (n - i) (n - (i + 1)) (omega arith) (omega arith)
+pub pairs-step : (s : List ℕ) (at n i : ℕ) → i < n → pairsFrom s at n i ≡ pairAt s (at + pairSize * i) ∷ pairsFrom s at n (i + 1)
+pairs-step s at n i h = entries-step pairAt pairSize s (at + pairSize * i) (at + pairSize * (i + 1)) (n - i) (n - (i + 1)) (omega arith) (omega arith)
 
-module _ (s : List ℕ) (at n i start o l : ℕ) (more : i < n) (eo : o ≡ pairAt s (at + 8 * i) .offset) (el : l ≡ pairAt s (at + 8 * i) .len)
+module _ (s : List ℕ) (at n i start o l : ℕ) (more : i < n) (eo : o ≡ pairAt s (at + pairSize * i) .offset) (el : l ≡ pairAt s (at + pairSize * i) .len)
     (end : ℕ) where
   pub chained-off : (o ≡ start → ⊥) → chained start (pairsFrom s at n i) end ≡ false
   unfolding chained
@@ -70,33 +72,33 @@ chained-end s at n i start end h = let e : n - i ≡ 0 = omega arith in rw e
 
 -- the forms of those from the one with number k on
 abbrev pub formsFrom : List ℕ → List ℕ → ℕ → ℕ → List Bool
-formsFrom types s n k = entries (nodeRight types) 8 s (8 * k) (n - k)
+formsFrom types s n k = entries (nodeRight types) nodeSize s (nodeSize * k) (n - k)
 
 check-wrong : {A : Type 0} (b : Bool) (m n : ℕ) (a : A) → refused n ≡ check b m (ok a) → b ≡ false
 check-wrong true m n a e = let z : _≡_ {A = ℕ} 0 1 = cc in absurd (omega arith)
 check-wrong false m n a e = refl
 
-pub forms-all : (types s : List ℕ) (n : ℕ) → n ≡ length s / 8 → partRight types s ≡ every (λ b. b) (formsFrom types s n 0)
+pub forms-all : (types s : List ℕ) (n : ℕ) → n ≡ length s / nodeSize → partRight types s ≡ every (λ b. b) (formsFrom types s n 0)
 forms-all types s n e = let f : n - 0 ≡ n = omega arith in rw (f, e)
 
 module _ (types s : List ℕ) (n k : ℕ) (more : k < n) (r : NodeRead)
-    (answer : nodeOut r ≡ check (nodeRight types s (8 * k)) 12 (ok (nodeAt s (8 * k)))) where
-  forms-step : formsFrom types s n k ≡ nodeRight types s (8 * k) ∷ formsFrom types s n (k + 1)
-  forms-step = entries-step (nodeRight types) 8 s (8 * k) (8 * (k + 1)) (n - k) (n - (k + 1)) (omega arith) (omega arith)
+    (answer : nodeOut r ≡ check (nodeRight types s (nodeSize * k)) wrongCondition (ok (nodeAt s (nodeSize * k)))) where
+  forms-step : formsFrom types s n k ≡ nodeRight types s (nodeSize * k) ∷ formsFrom types s n (k + 1)
+  forms-step = entries-step (nodeRight types) nodeSize s (nodeSize * k) (nodeSize * (k + 1)) (n - k) (n - (k + 1)) (omega arith) (omega arith)
 
   pub forms-on : (v : Node) → r ≡ Entry v → every (λ b. b) (formsFrom types s n k) ≡ every (λ b. b) (formsFrom types s n (k + 1))
   unfolding every
-  forms-on v e = rw (forms-step, check-ok (nodeRight types s (8 * k)) 12 (ok (nodeAt s (8 * k))) (nodeFrom v) (sym answer ∙ ap nodeOut e) .0)
+  forms-on v e = rw (forms-step, check-ok (nodeRight types s (nodeSize * k)) wrongCondition (ok (nodeAt s (nodeSize * k))) (nodeFrom v) (sym answer ∙ ap nodeOut e) .0)
 
   pub forms-off : (m : ℕ) → r ≡ Wrong m → every (λ b. b) (formsFrom types s n k) ≡ false
   unfolding every
-  forms-off m e = rw (forms-step, check-wrong (nodeRight types s (8 * k)) 12 m (nodeAt s (8 * k)) (sym (ap nodeOut e) ∙ answer))
+  forms-off m e = rw (forms-step, check-wrong (nodeRight types s (nodeSize * k)) wrongCondition m (nodeAt s (nodeSize * k)) (sym (ap nodeOut e) ∙ answer))
 
   -- the refusal has the number 12
-  pub forms-number : (m : ℕ) → r ≡ Wrong m → m ≡ 12
-  forms-number m e = go (nodeRight types s (8 * k)) (sym (ap nodeOut e) ∙ answer)
+  pub forms-number : (m : ℕ) → r ≡ Wrong m → m ≡ wrongCondition
+  forms-number m e = go (nodeRight types s (nodeSize * k)) (sym (ap nodeOut e) ∙ answer)
     where
-      go : (b : Bool) → refused m ≡ check b 12 (ok (nodeAt s (8 * k))) → m ≡ 12
+      go : (b : Bool) → refused m ≡ check b wrongCondition (ok (nodeAt s (nodeSize * k))) → m ≡ wrongCondition
       go true h = cc
       go false h = cc
 
@@ -110,6 +112,6 @@ pub formed-true : (b : Bool) → ok tt ≡ formed b → b ≡ true
 formed-true true e = refl
 formed-true false e = cc
 
-pub formed-false : (b : Bool) (n : ℕ) → refused n ≡ formed b → (b ≡ false) × (n ≡ 12)
+pub formed-false : (b : Bool) (n : ℕ) → refused n ≡ formed b → (b ≡ false) × (n ≡ wrongCondition)
 formed-false true n e = absurd (refused-ok n tt e)
 formed-false false n e = (refl, cc)

@@ -9,11 +9,13 @@ use lib.Dec.{eqb}
 use lib.ListN.{length, getD, set}
 use lib.Seq.{getD-set-same, getD-set-other}
 use borrow.Author.Tests.{eq-eqb, ne-eqb}
+use Rattle.model.specs.Sizes.{nodeSize}
 use Rattle.model.specs.Refusals.{Out, ok, refused, _>>=_, check, wrongCondition}
 use Rattle.model.specs.Bytes.{entries}
 use Rattle.model.specs.Conjunct.{Conj}
 use Rattle.model.specs.Condition.{operation, conversion, typeNode, typeNodes, single, whole}
 use Rattle.model.proofs.Tests.{case}
+use Rattle.condition.specs.Numbers.{sumKind, conversionKind}
 use Rattle.condition.specs.Answers.{nodeFrom, NodeIs, partNodes}
 use Rattle.condition.specs.declared.Node.{Node}
 use Rattle.condition.proofs.Nodes.{node-is, rest, rest-step, rest-all, push-kind, operation-kind, conversion-kind}
@@ -35,7 +37,7 @@ stack-push l h v k = rw (add-one h, getD-set-same l h v 0 k, stack-set l h v h (
 -- ---- an operation
 
 module _ (ty : ℕ) (l : List ℕ) where
-  pub operation-short : (h : ℕ) → h < 2 → operation ty (stackOf l h) ≡ refused 12
+  pub operation-short : (h : ℕ) → h < 2 → operation ty (stackOf l h) ≡ refused wrongCondition
   unfolding stackOf
   operation-short zero k = refl
   operation-short (suc zero) k = refl
@@ -51,12 +53,12 @@ module _ (ty : ℕ) (l : List ℕ) where
       let f : suc (suc h) - 2 ≡ h = omega arith in
       rw (e, f)
 
-  pub operation-upper : (h : ℕ) → 2 ≤ h → (getD l (h - 1) 0 ≡ ty → ⊥) → operation ty (stackOf l h) ≡ refused 12
+  pub operation-upper : (h : ℕ) → 2 ≤ h → (getD l (h - 1) 0 ≡ ty → ⊥) → operation ty (stackOf l h) ≡ refused wrongCondition
   operation-upper h k n =
       two-operands h k ∙ rw (ne-eqb (getD l (h - 1) 0) ty n)
-      (case (eqb (getD l (h - 2) 0) ty) (λ z. check (z && false) wrongCondition (ok (ty ∷ stackOf l (h - 2))) ≡ refused 12) (λ q. refl) (λ q. refl))
+      (case (eqb (getD l (h - 2) 0) ty) (λ z. check (z && false) wrongCondition (ok (ty ∷ stackOf l (h - 2))) ≡ refused wrongCondition) (λ q. refl) (λ q. refl))
 
-  pub operation-lower : (h : ℕ) → 2 ≤ h → (getD l (h - 2) 0 ≡ ty → ⊥) → operation ty (stackOf l h) ≡ refused 12
+  pub operation-lower : (h : ℕ) → 2 ≤ h → (getD l (h - 2) 0 ≡ ty → ⊥) → operation ty (stackOf l h) ≡ refused wrongCondition
   operation-lower h k n = two-operands h k ∙ rw (ne-eqb (getD l (h - 2) 0) ty n)
 
   pub operation-right : (h : ℕ) → 2 ≤ h → getD l (h - 1) 0 ≡ ty → getD l (h - 2) 0 ≡ ty → operation ty (stackOf l h) ≡ ok (stackOf l (h - 1))
@@ -68,7 +70,7 @@ module _ (ty : ℕ) (l : List ℕ) where
 
   -- ---- a conversion
 
-  pub conversion-short : (h : ℕ) → h ≡ 0 → conversion ty (stackOf l h) ≡ refused 12
+  pub conversion-short : (h : ℕ) → h ≡ 0 → conversion ty (stackOf l h) ≡ refused wrongCondition
   unfolding stackOf
   conversion-short h e = rw e
 
@@ -88,29 +90,29 @@ single-stack l (suc (suc h)) = sym (ne-eqb (suc (suc h)) 1 (λ e. absurd (omega 
 
 -- ---- one turn: the node with number k
 
-module _ (s : List ℕ) (n k : ℕ) (v : Node) (is : NodeIs v s (8 * k)) (more : k < n) (st : List ℕ) where
+module _ (s : List ℕ) (n k : ℕ) (v : Node) (is : NodeIs v s (nodeSize * k)) (more : k < n) (st : List ℕ) where
   typed-turn : typeNodes (rest s n k) st ≡ (typeNode (nodeFrom v) st >>= typeNodes (rest s n (k + 1)))
   unfolding typeNodes
-  typed-turn = rw (rest-step s n k more, node-is v s (8 * k) is)
+  typed-turn = rw (rest-step s n k more, node-is v s (nodeSize * k) is)
 
-  pub typed-push : v .kind < 2 → typeNodes (rest s n k) st ≡ typeNodes (rest s n (k + 1)) (v .ty ∷ st)
+  pub typed-push : v .kind < sumKind → typeNodes (rest s n k) st ≡ typeNodes (rest s n (k + 1)) (v .ty ∷ st)
   typed-push h = typed-turn ∙ rw (push-kind (v .ty) (v .field) (v .imm) st (v .kind) h)
 
-  pub typed-operation : 2 ≤ v .kind → v .kind < 6 → (o : Out (List ℕ)) → operation (v .ty) st ≡ o
+  pub typed-operation : sumKind ≤ v .kind → v .kind < conversionKind → (o : Out (List ℕ)) → operation (v .ty) st ≡ o
       → typeNodes (rest s n k) st ≡ (o >>= typeNodes (rest s n (k + 1)))
   typed-operation h l o e = typed-turn ∙ rw (operation-kind (v .ty) (v .field) (v .imm) st (v .kind) h l, e)
 
-  pub typed-conversion : 6 ≤ v .kind → (o : Out (List ℕ)) → conversion (v .ty) st ≡ o
+  pub typed-conversion : conversionKind ≤ v .kind → (o : Out (List ℕ)) → conversion (v .ty) st ≡ o
       → typeNodes (rest s n k) st ≡ (o >>= typeNodes (rest s n (k + 1)))
   typed-conversion h o e = typed-turn ∙ rw (conversion-kind (v .ty) (v .field) (v .imm) st (v .kind) h, e)
 
 -- ---- the whole expression
 
-pub whole-start : (s l : List ℕ) {n : ℕ} → n ≡ length s / 8 → typeNodes (partNodes s) [] ≡ typeNodes (rest s n 0) (stackOf l 0)
+pub whole-start : (s l : List ℕ) {n : ℕ} → n ≡ length s / nodeSize → typeNodes (partNodes s) [] ≡ typeNodes (rest s n 0) (stackOf l 0)
 unfolding stackOf
 whole-start s l {n} e = rw (rest-all s n, e)
 
-pub whole-refused : (e : Conj) → typeNodes e [] ≡ refused 12 → whole e ≡ false
+pub whole-refused : (e : Conj) → typeNodes e [] ≡ refused wrongCondition → whole e ≡ false
 unfolding whole
 whole-refused e h = rw h
 

@@ -8,6 +8,7 @@ use native.Mathlib.Omega.{arith}
 use lib.Dec.{eqb, leb, ltb}
 use lib.ListN.{length, getD, take, drop, length-map, List·getD-map}
 use borrow.Author.Tests.{eq-eqb, ne-eqb, le-leb, lt-leb, lt-ltb, le-ltb, leb-true, eqb-true}
+use Rattle.model.specs.Sizes.{countsSize, pairSize, nodeSize, mostNodes, mostConjuncts, mostFields}
 use Rattle.model.specs.Lists.{every}
 use Rattle.model.specs.Refusals.{ok, refused, mapped, check, wrongCondition}
 use Rattle.model.specs.Bytes.{u32At, part, Pair, pairAt, entries, pairsAt, chained}
@@ -35,14 +36,14 @@ module _ (s : List ℕ) (p : Pair) (inside : p .offset + p .len ≤ length s) wh
   pub part-nodes : partNodes (part s (p .offset) (p .len)) ≡ conjunctAt s p
   part-nodes =
       rw part-length
-      (entries-part nodeAt 8 node-narrow s (p .offset) (p .len) (p .len / 8) 0 (omega arith)
-      ∙ ap (λ (a : ℕ). entries nodeAt 8 s a (p .len / 8)) (add-zero (p .offset)))
+      (entries-part nodeAt nodeSize node-narrow s (p .offset) (p .len) (p .len / nodeSize) 0 (omega arith)
+      ∙ ap (λ (a : ℕ). entries nodeAt nodeSize s a (p .len / nodeSize)) (add-zero (p .offset)))
 
   pub part-right : (types : List ℕ) → partRight types (part s (p .offset) (p .len)) ≡ nodesRight types s p
   part-right types =
       rw part-length
-      (ap (every (λ b. b)) (entries-part (nodeRight types) 8 (right-narrow types) s (p .offset) (p .len) (p .len / 8) 0 (omega arith)
-      ∙ ap (λ (a : ℕ). entries (nodeRight types) 8 s a (p .len / 8)) (add-zero (p .offset))))
+      (ap (every (λ b. b)) (entries-part (nodeRight types) nodeSize (right-narrow types) s (p .offset) (p .len) (p .len / nodeSize) 0 (omega arith)
+      ∙ ap (λ (a : ℕ). entries (nodeRight types) nodeSize s a (p .len / nodeSize)) (add-zero (p .offset))))
 
 -- by what was read of the pair at a place
 module _ (s : List ℕ) (at a l : ℕ) (ea : a ≡ pairAt s at .offset) (el : l ≡ pairAt s at .len) where
@@ -61,54 +62,54 @@ module _ (types s : List ℕ) (p : Pair) (inside : p .offset + p .len ≤ length
   unfolding pairRight
   pair-empty h = rw (le-ltb 0 (p .len) (omega (arith, size)))
 
-  pub pair-long : (length t ≡ 0 → ⊥) → 960 < length t → pairRight types s p ≡ false
+  pub pair-long : (length t ≡ 0 → ⊥) → nodeSize * mostNodes < length t → pairRight types s p ≡ false
   unfolding pairRight
-  pair-long z h = rw (lt-ltb 0 (p .len) (omega (arith, size)), lt-leb (p .len) 960 (omega (arith, size)))
+  pair-long z h = rw (lt-ltb 0 (p .len) (omega (arith, size)), lt-leb (p .len) (nodeSize * mostNodes) (omega (arith, size)))
 
-  pub pair-broken : 0 < length t → length t ≤ 960 → (length t % 8 ≡ 0 → ⊥) → pairRight types s p ≡ false
+  pub pair-broken : 0 < length t → length t ≤ nodeSize * mostNodes → (length t % nodeSize ≡ 0 → ⊥) → pairRight types s p ≡ false
   unfolding pairRight
   pair-broken z h b = rw
-      (lt-ltb 0 (p .len) (omega (arith, size)), le-leb (p .len) 960 (omega (arith, size)), ne-eqb (p .len % 8) 0 (λ e. b (ap (_% 8) size ∙ e)))
+      (lt-ltb 0 (p .len) (omega (arith, size)), le-leb (p .len) (nodeSize * mostNodes) (omega (arith, size)), ne-eqb (p .len % nodeSize) 0 (λ e. b (ap (_% nodeSize) size ∙ e)))
 
-  pub pair-part : 0 < length t → length t ≤ 960 → length t % 8 ≡ 0
+  pub pair-part : 0 < length t → length t ≤ nodeSize * mostNodes → length t % nodeSize ≡ 0
       → (partRight types t && whole (partNodes t) && numbered (partNodes t)) ≡ pairRight types s p
   unfolding pairRight
   pair-part z h b =
       rw (
         lt-ltb 0 (p .len) (omega (arith, size)),
-        le-leb (p .len) 960 (omega (arith, size)),
-        eq-eqb (p .len % 8) 0 (sym (ap (_% 8) size) ∙ b),
+        le-leb (p .len) (nodeSize * mostNodes) (omega (arith, size)),
+        eq-eqb (p .len % nodeSize) 0 (sym (ap (_% nodeSize) size) ∙ b),
         is,
         part-right s p inside types,
         part-nodes s p inside,
       )
 
 -- the types of the fields, as they are taken from the file
-pub types-taken : (s : List ℕ) (f : ℕ) → take (8 + f - 8) (drop 8 s) ≡ part s 8 f
-types-taken s f = let e : 8 + f - 8 ≡ f = omega arith in rw e
+pub types-taken : (s : List ℕ) (f : ℕ) → take (countsSize + f - countsSize) (drop countsSize s) ≡ part s countsSize f
+types-taken s f = let e : countsSize + f - countsSize ≡ f = omega arith in rw e
 
-pub types-count : (s : List ℕ) (f : ℕ) → 8 + f ≤ length s → length (take (8 + f - 8) (drop 8 s)) ≡ f
-types-count s f h = ap length (types-taken s f) ∙ length-part s 8 f h
+pub types-count : (s : List ℕ) (f : ℕ) → countsSize + f ≤ length s → length (take (countsSize + f - countsSize) (drop countsSize s)) ≡ f
+types-count s f h = ap length (types-taken s f) ∙ length-part s countsSize f h
 
 -- ---- the table of pairs
 
-module _ (s : List ℕ) (f c : ℕ) (chain : chained (conjunctsAt f c) (pairsAt s (8 + f) c) (length s) ≡ true) where
-  pub table-inside : 8 + f + 8 * c ≤ length s
-  table-inside = chained-le (pairsAt s (8 + f) c) (conjunctsAt f c) (length s) chain
+module _ (s : List ℕ) (f c : ℕ) (chain : chained (conjunctsAt f c) (pairsAt s (countsSize + f) c) (length s) ≡ true) where
+  pub table-inside : countsSize + f + pairSize * c ≤ length s
+  table-inside = chained-le (pairsAt s (countsSize + f) c) (conjunctsAt f c) (length s) chain
 
-  pub pair-inside : (i : ℕ) → i < c → pairAt s (8 + f + 8 * i) .offset + pairAt s (8 + f + 8 * i) .len ≤ length s
+  pub pair-inside : (i : ℕ) → i < c → pairAt s (countsSize + f + pairSize * i) .offset + pairAt s (countsSize + f + pairSize * i) .len ≤ length s
   pair-inside i h =
-      subst (λ (q : Pair). q .offset + q .len ≤ length s) (entries-getD pairAt 8 s c (8 + f) i (pairAt s 0) h)
-      (chained-inside (pairsAt s (8 + f) c) (conjunctsAt f c) (length s) chain i (pairAt s 0) (omega (arith, length-entries pairAt 8 s c (8 + f))) .1)
+      subst (λ (q : Pair). q .offset + q .len ≤ length s) (entries-getD pairAt pairSize s c (countsSize + f) i (pairAt s 0) h)
+      (chained-inside (pairsAt s (countsSize + f) c) (conjunctsAt f c) (length s) chain i (pairAt s 0) (omega (arith, length-entries pairAt pairSize s c (countsSize + f))) .1)
 
 -- ---- the pass over the conjuncts
 
 module _ (test : Pair → Bool) (s : List ℕ) (at n i : ℕ) where
-  pub pairs-on : i < n → test (pairAt s (at + 8 * i)) ≡ true → every test (pairsFrom s at n i) ≡ every test (pairsFrom s at n (i + 1))
+  pub pairs-on : i < n → test (pairAt s (at + pairSize * i)) ≡ true → every test (pairsFrom s at n i) ≡ every test (pairsFrom s at n (i + 1))
   unfolding every
   pairs-on h e = rw (pairs-step s at n i h, e)
 
-  pub pairs-off : i < n → test (pairAt s (at + 8 * i)) ≡ false → every test (pairsFrom s at n i) ≡ false
+  pub pairs-off : i < n → test (pairAt s (at + pairSize * i)) ≡ false → every test (pairsFrom s at n i) ≡ false
   unfolding every
   pairs-off h e = rw (pairs-step s at n i h, e)
 
@@ -145,12 +146,12 @@ module _ (types s : List ℕ) (p : Pair) (right : pairRight types s p ≡ true) 
       (and-left (lengthRight p && nodesRight types s p) (whole (conjunctAt s p))
       (and-left (lengthRight p && nodesRight types s p && whole (conjunctAt s p)) (numbered (conjunctAt s p)) right))
 
-  pub pair-eighths : p .len % 8 ≡ 0
-  pair-eighths = eqb-true (p .len % 8) 0 (and-right (ltb 0 (p .len) && leb (p .len) 960) (eqb (p .len % 8) 0) pair-length)
+  pub pair-eighths : p .len % nodeSize ≡ 0
+  pair-eighths = eqb-true (p .len % nodeSize) 0 (and-right (ltb 0 (p .len) && leb (p .len) (nodeSize * mostNodes)) (eqb (p .len % nodeSize) 0) pair-length)
 
-  pub pair-short : p .len ≤ 960
-  pair-short = leb-true (p .len) 960
-      (and-right (ltb 0 (p .len)) (leb (p .len) 960) (and-left (ltb 0 (p .len) && leb (p .len) 960) (eqb (p .len % 8) 0) pair-length))
+  pub pair-short : p .len ≤ nodeSize * mostNodes
+  pair-short = leb-true (p .len) (nodeSize * mostNodes)
+      (and-right (ltb 0 (p .len)) (leb (p .len) (nodeSize * mostNodes)) (and-left (ltb 0 (p .len) && leb (p .len) (nodeSize * mostNodes)) (eqb (p .len % nodeSize) 0) pair-length))
 
 module _ (types s : List ℕ) (small : (i : ℕ) → getD s i 0 < 256) (p q : Pair)
     (in-p : p .offset + p .len ≤ length s) (in-q : q .offset + q .len ≤ length s) (right-p : pairRight types s p ≡ true)
@@ -165,26 +166,26 @@ module _ (types s : List ℕ) (small : (i : ℕ) → getD s i 0 < 256) (p q : Pa
       ∙ order-bytes types P Q (small-take (p .len) (drop (p .offset) s) (small-drop (p .offset) s small))
       (small-take (q .len) (drop (q .offset) s) (small-drop (q .offset) s small))
       (part-right s p in-p types ∙ pair-forms types s p right-p) (part-right s q in-q types ∙ pair-forms types s q right-q)
-      (ap (_% 8) (part-length s p in-p) ∙ pair-eighths types s p right-p) (ap (_% 8) (part-length s q in-q) ∙ pair-eighths types s q right-q))
+      (ap (_% nodeSize) (part-length s p in-p) ∙ pair-eighths types s p right-p) (ap (_% nodeSize) (part-length s q in-q) ∙ pair-eighths types s q right-q))
 
 -- a test that all pairs pass
 pub every-pair : (test : Pair → Bool) (s : List ℕ) (at n : ℕ) → every test (pairsAt s at n) ≡ true → (i : ℕ) → i < n
-    → test (pairAt s (at + 8 * i)) ≡ true
+    → test (pairAt s (at + pairSize * i)) ≡ true
 every-pair test s at n h i l =
-    subst (λ (q : Pair). test q ≡ true) (entries-getD pairAt 8 s n at i (pairAt s 0) l)
-    (every-at test (pairAt s 0) (pairsAt s at n) h i (omega (arith, length-entries pairAt 8 s n at)))
+    subst (λ (q : Pair). test q ≡ true) (entries-getD pairAt pairSize s n at i (pairAt s 0) l)
+    (every-at test (pairAt s 0) (pairsAt s at n) h i (omega (arith, length-entries pairAt pairSize s n at)))
 
 -- two neighbours, by their parts
-pub order-neighbours : (s : List ℕ) (f c : ℕ) → chained (conjunctsAt f c) (pairsAt s (8 + f) c) (length s) ≡ true
-    → every (pairRight (part s 8 f) s) (pairsAt s (8 + f) c) ≡ true
-    → ((i : ℕ) → getD s i 0 < 256) → (i : ℕ) → i + 1 < c → (t u : List ℕ) → t ≡ pairPart s (8 + f + 8 * i) → u ≡ pairPart s (8 + f + 8 * (i + 1))
-    → order (conjunctAt s (pairAt s (8 + f + 8 * i))) (conjunctAt s (pairAt s (8 + f + 8 * (i + 1))))
+pub order-neighbours : (s : List ℕ) (f c : ℕ) → chained (conjunctsAt f c) (pairsAt s (countsSize + f) c) (length s) ≡ true
+    → every (pairRight (part s countsSize f) s) (pairsAt s (countsSize + f) c) ≡ true
+    → ((i : ℕ) → getD s i 0 < 256) → (i : ℕ) → i + 1 < c → (t u : List ℕ) → t ≡ pairPart s (countsSize + f + pairSize * i) → u ≡ pairPart s (countsSize + f + pairSize * (i + 1))
+    → order (conjunctAt s (pairAt s (countsSize + f + pairSize * i))) (conjunctAt s (pairAt s (countsSize + f + pairSize * (i + 1))))
     ≡ (compare (length t) (length u) then orderNumbers t u)
 order-neighbours s f c chain right small i more =
-    let types = part s 8 f in
-    order-parts types s small (pairAt s (8 + f + 8 * i)) (pairAt s (8 + f + 8 * (i + 1))) (pair-inside s f c chain i (omega arith))
+    let types = part s countsSize f in
+    order-parts types s small (pairAt s (countsSize + f + pairSize * i)) (pairAt s (countsSize + f + pairSize * (i + 1))) (pair-inside s f c chain i (omega arith))
     (pair-inside s f c chain (i + 1) more)
-    (every-pair (pairRight types s) s (8 + f) c right i (omega arith)) (every-pair (pairRight types s) s (8 + f) c right (i + 1) more)
+    (every-pair (pairRight types s) s (countsSize + f) c right i (omega arith)) (every-pair (pairRight types s) s (countsSize + f) c right (i + 1) more)
 
 -- conjuncts from the one with number i on
 abbrev pub conjunctsFrom : List ℕ → ℕ → ℕ → ℕ → Conjuncts
@@ -192,15 +193,15 @@ conjunctsFrom s at n i = map (conjunctAt s) (pairsFrom s at n i)
 
 module _ (s : List ℕ) (at n i : ℕ) (more : i + 1 < n) where
   two-conjuncts : conjunctsFrom s at n i
-      ≡ conjunctAt s (pairAt s (at + 8 * i)) ∷ conjunctAt s (pairAt s (at + 8 * (i + 1))) ∷ conjunctsFrom s at n (i + 1 + 1)
+      ≡ conjunctAt s (pairAt s (at + pairSize * i)) ∷ conjunctAt s (pairAt s (at + pairSize * (i + 1))) ∷ conjunctsFrom s at n (i + 1 + 1)
   two-conjuncts = rw (pairs-step s at n i (omega arith), pairs-step s at n (i + 1) more)
 
-  pub rising-on : isBefore (order (conjunctAt s (pairAt s (at + 8 * i))) (conjunctAt s (pairAt s (at + 8 * (i + 1))))) ≡ true
+  pub rising-on : isBefore (order (conjunctAt s (pairAt s (at + pairSize * i))) (conjunctAt s (pairAt s (at + pairSize * (i + 1))))) ≡ true
       → rising (conjunctsFrom s at n i) ≡ rising (conjunctsFrom s at n (i + 1))
   unfolding rising
   rising-on h = rw (two-conjuncts, h) (sym (ap (λ (l : List Pair). rising (map (conjunctAt s) l)) (pairs-step s at n (i + 1) more)))
 
-  pub rising-off : isBefore (order (conjunctAt s (pairAt s (at + 8 * i))) (conjunctAt s (pairAt s (at + 8 * (i + 1))))) ≡ false
+  pub rising-off : isBefore (order (conjunctAt s (pairAt s (at + pairSize * i))) (conjunctAt s (pairAt s (at + pairSize * (i + 1))))) ≡ false
       → rising (conjunctsFrom s at n i) ≡ false
   unfolding rising
   rising-off h = rw (two-conjuncts, h)
@@ -209,7 +210,7 @@ pub rising-end : (s : List ℕ) (at n i : ℕ) → n ≤ i + 1 → rising (conju
 unfolding rising entries
 rising-end s at n i h = go (n - i) (omega arith)
   where
-    go : (m : ℕ) → m ≤ 1 → rising (map (conjunctAt s) (pairsAt s (at + 8 * i) m)) ≡ true
+    go : (m : ℕ) → m ≤ 1 → rising (map (conjunctAt s) (pairsAt s (at + pairSize * i) m)) ≡ true
     go zero k = refl
     go (suc zero) k = refl
     go (suc (suc m)) k = absurd (omega arith)
@@ -240,9 +241,9 @@ pairs-tests types s ps =
 -- the tests, with these counts
 unfoldable pub formBy : List ℕ → ℕ → ℕ → Bool
 formBy s c f =
-    let types = part s 8 f in
-    let pairs = pairsAt s (8 + f) c in
-    leb 8 (length s) && leb c 64 && leb f 32 && chained (conjunctsAt f c) pairs (length s) && every typeRight types && every
+    let types = part s countsSize f in
+    let pairs = pairsAt s (countsSize + f) c in
+    leb countsSize (length s) && leb c mostConjuncts && leb f mostFields && chained (conjunctsAt f c) pairs (length s) && every typeRight types && every
     (pairRight types s) pairs && rising (map (conjunctAt s) pairs)
 
 regroup : (x a b c d r : Bool) → (x && (a && b && c && d) && r) ≡ (x && a && b && c && d && r)
@@ -253,8 +254,8 @@ pub read-form : (s : List ℕ)
     → readCondition s ≡ check (formBy s (u32At s 0) (u32At s 4)) wrongCondition (ok (record { types = typesOf s; conjuncts = conjunctsOf s }))
 unfolding readCondition formBy
 read-form s =
-    let ps = pairsAt s (8 + u32At s 4) (u32At s 0) in
-    let first = leb 8 (length s) && leb (u32At s 0) 64 && leb (u32At s 4) 32 && chained (conjunctsAt (u32At s 4) (u32At s 0)) ps
+    let ps = pairsAt s (countsSize + u32At s 4) (u32At s 0) in
+    let first = leb countsSize (length s) && leb (u32At s 0) mostConjuncts && leb (u32At s 4) mostFields && chained (conjunctsAt (u32At s 4) (u32At s 0)) ps
     (length s) && every typeRight (typesOf s) in
     rw (pairs-tests (typesOf s) s ps)
     (ap (λ (b : Bool). check b wrongCondition (ok (record { types = typesOf s; conjuncts = conjunctsOf s })))
@@ -264,7 +265,7 @@ read-form s =
 module _ (s : List ℕ) where
   -- how many conjuncts and types a file holds
   pub conjuncts-count : length (conjunctsOf s) ≡ u32At s 0
-  conjuncts-count = length-map (pairsAt s (8 + u32At s 4) (u32At s 0)) (conjunctAt s) ∙ length-entries pairAt 8 s (u32At s 0) (8 + u32At s 4)
+  conjuncts-count = length-map (pairsAt s (countsSize + u32At s 4) (u32At s 0)) (conjunctAt s) ∙ length-entries pairAt pairSize s (u32At s 0) (countsSize + u32At s 4)
 
   sizes-form : mapped sizes (readCondition s) ≡ check (formBy s (u32At s 0) (u32At s 4)) wrongCondition (ok (u32At s 0, length (typesOf s)))
   sizes-form =
@@ -274,11 +275,11 @@ module _ (s : List ℕ) where
 
   -- by the counts that were read
   module _ (c f : ℕ) (ec : c ≡ u32At s 0) (ef : f ≡ u32At s 4) where
-    pub refuses : formBy s c f ≡ false → refused 12 ≡ mapped sizes (readCondition s)
+    pub refuses : formBy s c f ≡ false → refused wrongCondition ≡ mapped sizes (readCondition s)
     refuses h = sym (sizes-form ∙ rw (← ec, ← ef, h))
 
-    pub accepts : 8 + f ≤ length s → formBy s c f ≡ true → ok (c, f) ≡ mapped sizes (readCondition s)
-    accepts l h = sym (sizes-form ∙ rw (← ec, ← ef, h, length-part s 8 f l))
+    pub accepts : countsSize + f ≤ length s → formBy s c f ≡ true → ok (c, f) ≡ mapped sizes (readCondition s)
+    accepts l h = sym (sizes-form ∙ rw (← ec, ← ef, h, length-part s countsSize f l))
 
 -- the default does not count inside a list
 getD-any : {A : Type 0} (xs : List A) (i : ℕ) (d e : A) → i < length xs → getD xs i d ≡ getD xs i e
@@ -291,36 +292,36 @@ getD-any (x ∷ xs) (suc i) d e h = getD-any xs i d e (omega arith)
 -- its tests pass, with its counts
 module _ (s : List ℕ) (c f : ℕ) (form : formBy s c f ≡ true) where
   abbrev begun : Bool
-  begun = leb 8 (length s) && leb c 64 && leb f 32 && chained (conjunctsAt f c) (pairsAt s (8 + f) c) (length s)
+  begun = leb countsSize (length s) && leb c mostConjuncts && leb f mostFields && chained (conjunctsAt f c) (pairsAt s (countsSize + f) c) (length s)
 
   abbrev rights : Bool
-  rights = every (pairRight (part s 8 f) s) (pairsAt s (8 + f) c)
+  rights = every (pairRight (part s countsSize f) s) (pairsAt s (countsSize + f) c)
 
-  first-six : (begun && every typeRight (part s 8 f) && rights) ≡ true
+  first-six : (begun && every typeRight (part s countsSize f) && rights) ≡ true
   unfolding formBy
-  first-six = and-left (begun && every typeRight (part s 8 f) && rights) (rising (map (conjunctAt s) (pairsAt s (8 + f) c))) form
+  first-six = and-left (begun && every typeRight (part s countsSize f) && rights) (rising (map (conjunctAt s) (pairsAt s (countsSize + f) c))) form
 
   first-four : begun ≡ true
-  first-four = and-left begun (every typeRight (part s 8 f)) (and-left (begun && every typeRight (part s 8 f)) rights first-six)
+  first-four = and-left begun (every typeRight (part s countsSize f)) (and-left (begun && every typeRight (part s countsSize f)) rights first-six)
 
-  pub form-chained : chained (conjunctsAt f c) (pairsAt s (8 + f) c) (length s) ≡ true
-  form-chained = and-right (leb 8 (length s) && leb c 64 && leb f 32) (chained (conjunctsAt f c) (pairsAt s (8 + f) c) (length s)) first-four
+  pub form-chained : chained (conjunctsAt f c) (pairsAt s (countsSize + f) c) (length s) ≡ true
+  form-chained = and-right (leb countsSize (length s) && leb c mostConjuncts && leb f mostFields) (chained (conjunctsAt f c) (pairsAt s (countsSize + f) c) (length s)) first-four
 
-  pub form-types : every typeRight (part s 8 f) ≡ true
-  form-types = and-right begun (every typeRight (part s 8 f)) (and-left (begun && every typeRight (part s 8 f)) rights first-six)
+  pub form-types : every typeRight (part s countsSize f) ≡ true
+  form-types = and-right begun (every typeRight (part s countsSize f)) (and-left (begun && every typeRight (part s countsSize f)) rights first-six)
 
   pub form-pairs : rights ≡ true
-  form-pairs = and-right (begun && every typeRight (part s 8 f)) rights first-six
+  form-pairs = and-right (begun && every typeRight (part s countsSize f)) rights first-six
 
   -- the pair of a conjunct
-  pub form-pair : (i : ℕ) → i < c → pairRight (part s 8 f) s (pairAt s (8 + f + 8 * i)) ≡ true
-  form-pair i h = every-pair (pairRight (part s 8 f) s) s (8 + f) c form-pairs i h
+  pub form-pair : (i : ℕ) → i < c → pairRight (part s countsSize f) s (pairAt s (countsSize + f + pairSize * i)) ≡ true
+  form-pair i h = every-pair (pairRight (part s countsSize f) s) s (countsSize + f) c form-pairs i h
 
 pub record Counted (s : List ℕ) (c f : ℕ) : Type 0 where
   pub conjuncts : c ≡ u32At s 0
   pub fields : f ≡ u32At s 4
   pub form : formBy s c f ≡ true
-  pub table : 8 + f + 8 * c ≤ length s
+  pub table : countsSize + f + pairSize * c ≤ length s
 
 pub counted-read : (s : List ℕ) (k : Counts) → ConditionIsRead s k → Counted s (k .conjuncts) (k .fields)
 counted-read s k read =
@@ -328,33 +329,33 @@ counted-read s k read =
     let l = table-inside s (u32At s 4) (u32At s 0) (form-chained s (u32At s 0) (u32At s 4) (e .0)) in
     let m : (u32At s 0, length (typesOf s)) ≡ sizesOf k = ok-eq (u32At s 0, length (typesOf s)) (sizesOf k) (e .1) in
     let ec : k .conjuncts ≡ u32At s 0 = sym (ap (λ (x : ℕ × ℕ). x .0) m) in
-    let ef : k .fields ≡ u32At s 4 = sym (ap (λ (x : ℕ × ℕ). x .1) m) ∙ length-part s 8 (u32At s 4) (omega arith) in
+    let ef : k .fields ≡ u32At s 4 = sym (ap (λ (x : ℕ × ℕ). x .1) m) ∙ length-part s countsSize (u32At s 4) (omega arith) in
     record { conjuncts = ec; fields = ef; form = rw (ec, ef) (e .0); table = rw (ec, ef) l }
 
 -- a conjunct's part
 module _ (s : List ℕ) (k : Counts) (read : ConditionIsRead s k) (i : ℕ) (h : i < k .conjuncts) where
-  pub conjunct-inside : pairAt s (8 + k .fields + 8 * i) .offset + pairAt s (8 + k .fields + 8 * i) .len ≤ length s
+  pub conjunct-inside : pairAt s (countsSize + k .fields + pairSize * i) .offset + pairAt s (countsSize + k .fields + pairSize * i) .len ≤ length s
   conjunct-inside =
       let q = counted-read s k read in
       pair-inside s (k .fields) (k .conjuncts) (form-chained s (k .conjuncts) (k .fields) (q .form)) i h
 
-  pub conjunct-nodes : partNodes (pairPart s (8 + k .fields + 8 * i)) ≡ getD (conjunctsOf s) i []
+  pub conjunct-nodes : partNodes (pairPart s (countsSize + k .fields + pairSize * i)) ≡ getD (conjunctsOf s) i []
   conjunct-nodes =
       let q = counted-read s k read in
-      let p = pairAt s (8 + k .fields + 8 * i) in
-      let ps = pairsAt s (8 + u32At s 4) (u32At s 0) in
+      let p = pairAt s (countsSize + k .fields + pairSize * i) in
+      let ps = pairsAt s (countsSize + u32At s 4) (u32At s 0) in
       let m : length (map (conjunctAt s) ps) ≡ u32At s 0 = conjuncts-count s in
       part-nodes s p conjunct-inside
-      ∙ ap (λ (f : ℕ). conjunctAt s (pairAt s (8 + f + 8 * i))) (q .fields)
+      ∙ ap (λ (f : ℕ). conjunctAt s (pairAt s (countsSize + f + pairSize * i))) (q .fields)
       ∙ sym (getD-any (map (conjunctAt s) ps) i [] (conjunctAt s (pairAt s 0)) (rw m (subst (λ (c : ℕ). i < c) (q .conjuncts) h))
       ∙ List·getD-map (conjunctAt s) ps i (pairAt s 0)
-      ∙ ap (conjunctAt s) (entries-getD pairAt 8 s (u32At s 0) (8 + u32At s 4) i (pairAt s 0) (subst (λ (c : ℕ). i < c) (q .conjuncts) h)))
+      ∙ ap (conjunctAt s) (entries-getD pairAt pairSize s (u32At s 0) (countsSize + u32At s 4) i (pairAt s 0) (subst (λ (c : ℕ). i < c) (q .conjuncts) h)))
 
-  pub conjunct-short : length (pairPart s (8 + k .fields + 8 * i)) ≤ 960
+  pub conjunct-short : length (pairPart s (countsSize + k .fields + pairSize * i)) ≤ nodeSize * mostNodes
   conjunct-short =
       let q = counted-read s k read in
-      let p = pairAt s (8 + k .fields + 8 * i) in
-      rw (part-length s p conjunct-inside) (pair-short (part s 8 (k .fields)) s p (form-pair s (k .conjuncts) (k .fields) (q .form) i h))
+      let p = pairAt s (countsSize + k .fields + pairSize * i) in
+      rw (part-length s p conjunct-inside) (pair-short (part s countsSize (k .fields)) s p (form-pair s (k .conjuncts) (k .fields) (q .form) i h))
 
 -- what the model's reader gives
 pub condition-read : (s : List ℕ) (C : Condition) → readCondition s ≡ ok C → (C .types ≡ typesOf s) × (C .conjuncts ≡ conjunctsOf s)
@@ -366,44 +367,44 @@ condition-read s C e =
 -- ---- the tests, one after the other
 
 module _ (s : List ℕ) (c f : ℕ) where
-  pub form-short : length s < 8 → formBy s c f ≡ false
+  pub form-short : length s < countsSize → formBy s c f ≡ false
   unfolding formBy
-  form-short h = rw (lt-leb 8 (length s) h)
+  form-short h = rw (lt-leb countsSize (length s) h)
 
-  module _ (begins : 8 ≤ length s) where
-    pub form-many : 64 < c → formBy s c f ≡ false
+  module _ (begins : countsSize ≤ length s) where
+    pub form-many : mostConjuncts < c → formBy s c f ≡ false
     unfolding formBy
-    form-many h = rw (le-leb 8 (length s) begins, lt-leb c 64 h)
+    form-many h = rw (le-leb countsSize (length s) begins, lt-leb c mostConjuncts h)
 
-    pub form-wide : c ≤ 64 → 32 < f → formBy s c f ≡ false
+    pub form-wide : c ≤ mostConjuncts → mostFields < f → formBy s c f ≡ false
     unfolding formBy
-    form-wide h k = rw (le-leb 8 (length s) begins, le-leb c 64 h, lt-leb f 32 k)
+    form-wide h k = rw (le-leb countsSize (length s) begins, le-leb c mostConjuncts h, lt-leb f mostFields k)
 
-    module _ (few : c ≤ 64) (narrow : f ≤ 32) where
+    module _ (few : c ≤ mostConjuncts) (narrow : f ≤ mostFields) where
       form-rest : formBy s c f
-          ≡ (chained (conjunctsAt f c) (pairsAt s (8 + f) c) (length s) && every typeRight (part s 8 f) && every (pairRight (part s 8 f) s)
-          (pairsAt s (8 + f) c)
-          && rising (map (conjunctAt s) (pairsAt s (8 + f) c)))
+          ≡ (chained (conjunctsAt f c) (pairsAt s (countsSize + f) c) (length s) && every typeRight (part s countsSize f) && every (pairRight (part s countsSize f) s)
+          (pairsAt s (countsSize + f) c)
+          && rising (map (conjunctAt s) (pairsAt s (countsSize + f) c)))
       unfolding formBy
-      form-rest = rw (le-leb 8 (length s) begins, le-leb c 64 few, le-leb f 32 narrow)
+      form-rest = rw (le-leb countsSize (length s) begins, le-leb c mostConjuncts few, le-leb f mostFields narrow)
 
-      pub form-unchained : chained (conjunctsAt f c) (pairsAt s (8 + f) c) (length s) ≡ false → formBy s c f ≡ false
+      pub form-unchained : chained (conjunctsAt f c) (pairsAt s (countsSize + f) c) (length s) ≡ false → formBy s c f ≡ false
       form-unchained h = form-rest ∙ rw h
 
-      pub form-cut : length s < 8 + f + 8 * c → formBy s c f ≡ false
+      pub form-cut : length s < countsSize + f + pairSize * c → formBy s c f ≡ false
       form-cut h =
-          case (chained (conjunctsAt f c) (pairsAt s (8 + f) c) (length s))
-          (λ z. chained (conjunctsAt f c) (pairsAt s (8 + f) c) (length s) ≡ z → formBy s c f ≡ false)
+          case (chained (conjunctsAt f c) (pairsAt s (countsSize + f) c) (length s))
+          (λ z. chained (conjunctsAt f c) (pairsAt s (countsSize + f) c) (length s) ≡ z → formBy s c f ≡ false)
           (λ q r. absurd (omega (arith, table-inside s f c q))) (λ q r. form-unchained q) refl
 
-      module _ (chain : chained (conjunctsAt f c) (pairsAt s (8 + f) c) (length s) ≡ true) where
-        pub form-untyped : every typeRight (part s 8 f) ≡ false → formBy s c f ≡ false
+      module _ (chain : chained (conjunctsAt f c) (pairsAt s (countsSize + f) c) (length s) ≡ true) where
+        pub form-untyped : every typeRight (part s countsSize f) ≡ false → formBy s c f ≡ false
         form-untyped h = form-rest ∙ rw (chain, h)
 
-        module _ (typed : every typeRight (part s 8 f) ≡ true) where
-          pub form-wrong : every (pairRight (part s 8 f) s) (pairsAt s (8 + f) c) ≡ false → formBy s c f ≡ false
+        module _ (typed : every typeRight (part s countsSize f) ≡ true) where
+          pub form-wrong : every (pairRight (part s countsSize f) s) (pairsAt s (countsSize + f) c) ≡ false → formBy s c f ≡ false
           form-wrong h = form-rest ∙ rw (chain, typed, h)
 
-          pub form-is : every (pairRight (part s 8 f) s) (pairsAt s (8 + f) c) ≡ true
-              → formBy s c f ≡ rising (map (conjunctAt s) (pairsAt s (8 + f) c))
+          pub form-is : every (pairRight (part s countsSize f) s) (pairsAt s (countsSize + f) c) ≡ true
+              → formBy s c f ≡ rising (map (conjunctAt s) (pairsAt s (countsSize + f) c))
           form-is h = form-rest ∙ rw (chain, typed, h)

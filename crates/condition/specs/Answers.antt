@@ -2,9 +2,10 @@
 use mathlib.Core.Path.{_≡_}
 use mathlib.Core.Bool.{Bool, false, _&&_}
 use mathlib.Core.List.{List, [], _∷_, map}
-use Prim.Native.Nat.{ℕ, _+_, _/_}
+use Prim.Native.Nat.{ℕ, _+_, _*_, _/_, _≤_}
 use lib.Dec.{ltb, eqb}
 use lib.ListN.{length, getD}
+use Rattle.model.specs.Sizes.{mostFields, mostNodes, nodeSize, countsSize, pairSize}
 use Rattle.arith.specs.Step.{fits}
 use Rattle.arith.specs.Words.{immediate}
 use Rattle.model.specs.Lists.{every}
@@ -69,11 +70,11 @@ nodeOut (Wrong n) = refused n
 
 -- the nodes of a part
 abbrev pub partNodes : List ℕ → Conj
-partNodes s = entries nodeAt 8 s 0 (length s / 8)
+partNodes s = entries nodeAt nodeSize s 0 (length s / nodeSize)
 
 -- each of them has its form
 abbrev pub partRight : List ℕ → List ℕ → Bool
-partRight types s = every (λ b. b) (entries (nodeRight types) 8 s 0 (length s / 8))
+partRight types s = every (λ b. b) (entries (nodeRight types) nodeSize s 0 (length s / nodeSize))
 
 -- the bytes of the pair at a place
 abbrev pub pairPart : List ℕ → ℕ → List ℕ
@@ -111,7 +112,22 @@ ConditionIsRead s k = mapped sizes (readCondition s) ≡ ok (sizesOf k)
 
 -- the types and the conjuncts that a file holds
 abbrev pub typesOf : List ℕ → List ℕ
-typesOf s = part s 8 (u32At s 4)
+typesOf s = part s countsSize (u32At s 4)
 
 abbrev pub conjunctsOf : List ℕ → Conjuncts
-conjunctsOf s = map (conjunctAt s) (pairsAt s (8 + u32At s 4) (u32At s 0))
+conjunctsOf s = map (conjunctAt s) (pairsAt s (countsSize + u32At s 4) (u32At s 0))
+
+-- ---- a pair and its part
+
+-- a pair stands at a place of a file with so many fields, and its part lies in the file
+pub record PairInside (s : List ℕ) (fields at : ℕ) : Type 0 where
+  pub few : fields ≤ mostFields
+  pub types : countsSize + fields ≤ length s
+  pub pair : at + pairSize ≤ length s
+  pub inside : pairAt s at .offset + pairAt s at .len ≤ length s
+
+-- a list is the bytes of the conjunct with a number, and its nodes are the conjunct's
+pub record ConjunctIs (s : List ℕ) (k : Counts) (i : ℕ) (bytes : List ℕ) : Type 0 where
+  pub is-part : bytes ≡ pairPart s (countsSize + k .fields + pairSize * i)
+  pub nodes : partNodes bytes ≡ getD (conjunctsOf s) i []
+  pub short : length bytes ≤ nodeSize * mostNodes

@@ -2,19 +2,58 @@
 // by one over the conjuncts; and what a filter needs of a condition that is read.
 ghost use mathlib.Core.Path.{_≡_};
 ghost use mathlib.Core.Bool.{true, _&&_};
-ghost use mathlib.Core.List.{[], map};
+ghost use mathlib.Core.List.{map};
 ghost use Prim.Native.Nat.{ℕ, _+_, _*_, _/_, _%_, _≤_, _<_, compare};
-ghost use lib.ListN.{length, getD};
+ghost use lib.ListN.{length};
 ghost use Rattle.model.specs.Lists.{every};
 ghost use Rattle.model.specs.Refusals.{ok, refused, check, mapped, wrongCondition};
-ghost use Rattle.model.specs.Sizes.{mostFields, mostNodes, nodeSize};
+ghost use Rattle.model.specs.Sizes.{mostFields, mostNodes, nodeSize, countsSize, pairSize};
 ghost use Rattle.model.specs.Bytes.{part, pairAt, pairsAt, chained};
 ghost use Rattle.model.specs.Program.{typeRight};
 ghost use Rattle.model.specs.Conjunct.{_then_, orderNumbers};
 ghost use Rattle.model.specs.Condition.{conjunctsAt, nodeAt, nodeRight, conjunctAt, whole, numbered, isBefore, rising, readCondition};
 ghost use Rattle.condition.specs.Answers.{constantRight, readingRight, operationRight, rightBy, NodeIs, EntryIs, nodeOut};
 ghost use Rattle.condition.specs.Answers.{conjunctAnswer, formed, partNodes, partRight, pairPart, pairRight, sizes, conditionAnswer};
-ghost use Rattle.condition.specs.Answers.{ConditionIsRead, typesOf, conjunctsOf};
+ghost use Rattle.condition.specs.Answers.{ConditionIsRead, PairInside, ConjunctIs, typesOf};
+
+// ---- the sizes of the condition file
+
+// the bytes of the two counts at its start, of a pair of offset and length, of a node
+const COUNTS_SIZE: usize = 8;
+
+const PAIR_SIZE: usize = 8;
+
+const NODE_SIZE: usize = 8;
+
+const MOST_FIELDS: usize = 32;
+
+const MOST_CONJUNCTS: usize = 64;
+
+// the nodes of the longest conjunct, and its bytes
+const MOST_NODES: usize = 120;
+
+const LONGEST_PART: usize = NODE_SIZE * MOST_NODES;
+
+// the cells of the stack of types, not fewer than nodes
+const STACK: usize = 128;
+
+// ---- the codes of types, and the kinds of nodes: those before the sum are pushed, those from it up to the conversion are operations
+
+const TYPE_CODES: u8 = 8;
+
+const CONSTANT: u8 = 0;
+
+const READING: u8 = 1;
+
+const SUM: u8 = 2;
+
+const CONVERSION: u8 = 6;
+
+// how many kinds a file may hold
+const FILE_KINDS: u8 = 7;
+
+// the refusal
+const WRONG_CONDITION: u8 = 12;
 
 // A node by its numbers.
 pub struct Node {
@@ -50,10 +89,10 @@ pub enum ConditionRead {
 
 // The node with a number in a part.
 pub fn node_at(part: &[u8], k: usize) -> Node
-    requires { ⌜ 8 * k + 8 ≤ length (now part) ⌝ }
-    ensures { λ v. ⌜ NodeIs v (now (part .entry)) (8 * k) ⌝ }
+    requires { ⌜ nodeSize * k + nodeSize ≤ length (now part) ⌝ }
+    ensures { λ v. ⌜ NodeIs v (now (part .entry)) (nodeSize * k) ⌝ }
 {
-    let at = 8 * k;
+    let at = NODE_SIZE * k;
     let field = bytes_le::u16_at(part, at + 2) as usize;
     let imm = bytes_le::u32_at(part, at + 4);
     Node {
@@ -68,7 +107,7 @@ pub fn node_at(part: &[u8], k: usize) -> Node
 fn constant_right(ty: u8, field: usize, imm: u64) -> bool
     ensures { λ r. ⌜ r ≡ constantRight ty field imm ⌝ }
 {
-    if 8 <= ty {
+    if TYPE_CODES <= ty {
         return false;
     }
     if field != 0 {
@@ -91,7 +130,7 @@ fn reading_right(types: &[u8], ty: u8, field: usize) -> bool
 fn operation_right(ty: u8, field: usize, imm: u64) -> bool
     ensures { λ r. ⌜ r ≡ operationRight ty field imm ⌝ }
 {
-    if 8 <= ty {
+    if TYPE_CODES <= ty {
         return false;
     }
     if field != 0 {
@@ -105,13 +144,13 @@ fn node_right(types: &[u8], v: Node) -> bool
     ensures { λ r. ⌜ r ≡ rightBy (now (types .entry)) (v .kind) (v .ty) (v .field) (v .imm) ⌝ }
 {
     let kind = v.kind;
-    if kind == 0 {
+    if kind == CONSTANT {
         return constant_right(v.ty, v.field, v.imm);
     }
-    if kind == 1 {
+    if kind == READING {
         return reading_right(types, v.ty, v.field);
     }
-    if kind < 7 {
+    if kind < FILE_KINDS {
         return operation_right(v.ty, v.field, v.imm);
     }
     false
@@ -119,15 +158,15 @@ fn node_right(types: &[u8], v: Node) -> bool
 
 // The node with a number in a part, if it has its form.
 fn read_node(types: &[u8], part: &[u8], k: usize) -> NodeRead
-    requires { ⌜ 8 * k + 8 ≤ length (now part) ⌝ }
-    ensures { λ r. ⌜ (nodeOut r ≡ check (nodeRight (now (types .entry)) (now (part .entry)) (8 * k)) wrongCondition
-        (ok (nodeAt (now (part .entry)) (8 * k)))) × EntryIs r (now (part .entry)) (8 * k) ⌝ }
+    requires { ⌜ nodeSize * k + nodeSize ≤ length (now part) ⌝ }
+    ensures { λ r. ⌜ (nodeOut r ≡ check (nodeRight (now (types .entry)) (now (part .entry)) (nodeSize * k)) wrongCondition
+        (ok (nodeAt (now (part .entry)) (nodeSize * k)))) × EntryIs r (now (part .entry)) (nodeSize * k) ⌝ }
 {
     let v = node_at(part, k);
     if node_right(types, v) {
         return NodeRead::Node(v);
     }
-    NodeRead::Refused(12)
+    NodeRead::Refused(WRONG_CONDITION)
 }
 
 // The number that the answer of the node reader holds, where it is a refusal.
@@ -146,8 +185,8 @@ fn read_nodes(types: &[u8], part: &[u8]) -> ConjunctRead
     requires { ⌜ length (now part) ≤ nodeSize * mostNodes ⌝ }
     ensures { λ r. ⌜ conjunctAnswer r ≡ formed (partRight (now (types .entry)) (now (part .entry)) && whole (partNodes (now (part .entry)))) ⌝ }
 {
-    let n = part.len() / 8;
-    let mut stack: [u8; 128] = [0; 128];
+    let n = part.len() / NODE_SIZE;
+    let mut stack: [u8; STACK] = [0; STACK];
     let mut height: usize = 0;
     let mut k: usize = 0;
     while k < n {
@@ -157,31 +196,31 @@ fn read_nodes(types: &[u8], part: &[u8]) -> ConjunctRead
         };
         let ty = v.ty;
         k += 1;
-        if v.kind < 2 {
+        if v.kind < SUM {
             stack[height] = ty;
             height += 1;
             continue;
         }
-        if v.kind < 6 {
+        if v.kind < CONVERSION {
             if height < 2 {
-                return ConjunctRead::Refused(12);
+                return ConjunctRead::Refused(WRONG_CONDITION);
             }
             if stack[height - 1] != ty {
-                return ConjunctRead::Refused(12);
+                return ConjunctRead::Refused(WRONG_CONDITION);
             }
             if stack[height - 2] != ty {
-                return ConjunctRead::Refused(12);
+                return ConjunctRead::Refused(WRONG_CONDITION);
             }
             height -= 1;
             continue;
         }
         if height == 0 {
-            return ConjunctRead::Refused(12);
+            return ConjunctRead::Refused(WRONG_CONDITION);
         }
         stack[height - 1] = ty;
     }
     if height != 1 {
-        return ConjunctRead::Refused(12);
+        return ConjunctRead::Refused(WRONG_CONDITION);
     }
     ConjunctRead::Formed
 }
@@ -191,14 +230,14 @@ fn is_numbered(types: &[u8], part: &[u8]) -> bool
     requires { ⌜ (length (now types) ≤ mostFields) × (partRight (now types) (now part) ≡ true) ⌝ }
     ensures { λ r. ⌜ r ≡ numbered (partNodes (now (part .entry))) ⌝ }
 {
-    let n = part.len() / 8;
-    let mut seen: [u64; 32] = [0; 32];
+    let n = part.len() / NODE_SIZE;
+    let mut seen: [u64; MOST_FIELDS] = [0; MOST_FIELDS];
     let mut k: usize = 0;
     while k < n {
         let v = node_at(part, k);
         k += 1;
         let kind = v.kind;
-        if kind != 1 {
+        if kind != READING {
             continue;
         }
         let f = v.field;
@@ -244,14 +283,14 @@ fn comes_before(a: &[u8], b: &[u8]) -> bool
     false
 }
 
-// Each type code is below 8.
+// Each is a type code.
 fn types_right(types: &[u8]) -> bool
     ensures { λ r. ⌜ r ≡ every typeRight (now (types .entry)) ⌝ }
 {
     let mut i: usize = 0;
     while i < types.len() {
         let ty = types[i];
-        if 8 <= ty {
+        if TYPE_CODES <= ty {
             return false;
         }
         i += 1;
@@ -261,13 +300,13 @@ fn types_right(types: &[u8]) -> bool
 
 // The parts of the pairs from a place on stand one after the other, from start to the file's end.
 fn is_chained(condition: &[u8], at: usize, count: usize, start: usize) -> bool
-    requires { ⌜ at + 8 * count ≤ length (now condition) ⌝ }
+    requires { ⌜ at + pairSize * count ≤ length (now condition) ⌝ }
     ensures { λ r. ⌜ r ≡ chained start (pairsAt (now (condition .entry)) at count) (length (now (condition .entry))) ⌝ }
 {
     let mut next = start;
     let mut i: usize = 0;
     while i < count {
-        let here = at + 8 * i;
+        let here = at + PAIR_SIZE * i;
         let offset = bytes_le::u32_at(condition, here) as usize;
         let len = bytes_le::u32_at(condition, here + 4) as usize;
         if offset != next {
@@ -281,7 +320,7 @@ fn is_chained(condition: &[u8], at: usize, count: usize, start: usize) -> bool
 
 // The part of the pair at a place.
 fn part_at(condition: &[u8], at: usize) -> &[u8]
-    requires { ⌜ (at + 8 ≤ length (now condition)) × (pairAt (now condition) at .offset + pairAt (now condition) at .len ≤ length (now condition)) ⌝ }
+    requires { ⌜ (at + pairSize ≤ length (now condition)) × (pairAt (now condition) at .offset + pairAt (now condition) at .len ≤ length (now condition)) ⌝ }
     ensures { λ r. ⌜ now r ≡ pairPart (now (condition .entry)) at ⌝ }
 {
     let start = bytes_le::u32_at(condition, at) as usize;
@@ -301,44 +340,43 @@ fn read_conjunct(types: &[u8], part: &[u8]) -> ConjunctRead
         return read;
     };
     if !is_numbered(types, part) {
-        return ConjunctRead::Refused(12);
+        return ConjunctRead::Refused(WRONG_CONDITION);
     }
     ConjunctRead::Formed
 }
 
-// The conjunct of a pair: 1 to 120 nodes, in its form.
+// The conjunct of a pair: from one node to as many as it may have, in its form.
 fn read_pair(condition: &[u8], fields: usize, at: usize) -> ConjunctRead
-    requires { ⌜ (fields ≤ mostFields) × (8 + fields ≤ length (now condition)) × (at + 8 ≤ length (now condition))
-        × (pairAt (now condition) at .offset + pairAt (now condition) at .len ≤ length (now condition)) ⌝ }
+    requires { ⌜ PairInside (now condition) fields at ⌝ }
     ensures { λ r. ⌜ conjunctAnswer r ≡ formed
-        (pairRight (part (now (condition .entry)) 8 fields) (now (condition .entry)) (pairAt (now (condition .entry)) at)) ⌝ }
+        (pairRight (part (now (condition .entry)) countsSize fields) (now (condition .entry)) (pairAt (now (condition .entry)) at)) ⌝ }
 {
     let held = part_at(condition, at);
     let len = held.len();
     if len == 0 {
-        return ConjunctRead::Refused(12);
+        return ConjunctRead::Refused(WRONG_CONDITION);
     }
-    if 960 < len {
-        return ConjunctRead::Refused(12);
+    if LONGEST_PART < len {
+        return ConjunctRead::Refused(WRONG_CONDITION);
     }
-    if len % 8 != 0 {
-        return ConjunctRead::Refused(12);
+    if len % NODE_SIZE != 0 {
+        return ConjunctRead::Refused(WRONG_CONDITION);
     }
-    let end = 8 + fields;
-    read_conjunct(&condition[8..end], held)
+    let end = COUNTS_SIZE + fields;
+    read_conjunct(&condition[COUNTS_SIZE..end], held)
 }
 
 // Every conjunct is in its form.
 fn read_conjuncts(condition: &[u8], fields: usize, count: usize) -> ConjunctRead
     requires { ⌜ (fields ≤ mostFields)
-        × (chained (conjunctsAt fields count) (pairsAt (now condition) (8 + fields) count) (length (now condition)) ≡ true) ⌝ }
+        × (chained (conjunctsAt fields count) (pairsAt (now condition) (countsSize + fields) count) (length (now condition)) ≡ true) ⌝ }
     ensures { λ r. ⌜ conjunctAnswer r ≡ formed
-        (every (pairRight (part (now (condition .entry)) 8 fields) (now (condition .entry)))
-        (pairsAt (now (condition .entry)) (8 + fields) count)) ⌝ }
+        (every (pairRight (part (now (condition .entry)) countsSize fields) (now (condition .entry)))
+        (pairsAt (now (condition .entry)) (countsSize + fields) count)) ⌝ }
 {
     let mut i: usize = 0;
     while i < count {
-        let read = read_pair(condition, fields, 8 + fields + 8 * i);
+        let read = read_pair(condition, fields, COUNTS_SIZE + fields + PAIR_SIZE * i);
         let ConjunctRead::Formed = read else {
             return read;
         };
@@ -359,14 +397,14 @@ fn conjunct_refusal(read: ConjunctRead) -> u8
 
 // The conjuncts stand in rising order, none twice: each before the next.
 fn is_rising(condition: &[u8], fields: usize, count: usize) -> bool
-    requires { ⌜ (chained (conjunctsAt fields count) (pairsAt (now condition) (8 + fields) count) (length (now condition)) ≡ true)
-        × (every (pairRight (part (now condition) 8 fields) (now condition)) (pairsAt (now condition) (8 + fields) count) ≡ true) ⌝ }
-    ensures { λ r. ⌜ r ≡ rising (map (conjunctAt (now (condition .entry))) (pairsAt (now (condition .entry)) (8 + fields) count)) ⌝ }
+    requires { ⌜ (chained (conjunctsAt fields count) (pairsAt (now condition) (countsSize + fields) count) (length (now condition)) ≡ true)
+        × (every (pairRight (part (now condition) countsSize fields) (now condition)) (pairsAt (now condition) (countsSize + fields) count) ≡ true) ⌝ }
+    ensures { λ r. ⌜ r ≡ rising (map (conjunctAt (now (condition .entry))) (pairsAt (now (condition .entry)) (countsSize + fields) count)) ⌝ }
 {
     let mut i: usize = 0;
     while i + 1 < count {
-        let a = part_at(condition, 8 + fields + 8 * i);
-        let b = part_at(condition, 8 + fields + 8 * (i + 1));
+        let a = part_at(condition, COUNTS_SIZE + fields + PAIR_SIZE * i);
+        let b = part_at(condition, COUNTS_SIZE + fields + PAIR_SIZE * (i + 1));
         let before = comes_before(a, b);
         if !before {
             return false;
@@ -376,33 +414,33 @@ fn is_rising(condition: &[u8], fields: usize, count: usize) -> bool
     true
 }
 
-// The condition's form. Every refusal has the number 12, so the order of the tests does not show.
+// The condition's form. Every refusal has the same number, so the order of the tests does not show.
 pub fn read(condition: &[u8]) -> ConditionRead
     ensures { λ r. ⌜ conditionAnswer r ≡ mapped sizes (readCondition (now (condition .entry))) ⌝ }
 {
-    if condition.len() < 8 {
-        return ConditionRead::Refused(12);
+    if condition.len() < COUNTS_SIZE {
+        return ConditionRead::Refused(WRONG_CONDITION);
     }
     let conjuncts = bytes_le::u32_at(condition, 0) as usize;
     let fields = bytes_le::u32_at(condition, 4) as usize;
-    if 64 < conjuncts {
-        return ConditionRead::Refused(12);
+    if MOST_CONJUNCTS < conjuncts {
+        return ConditionRead::Refused(WRONG_CONDITION);
     }
-    if 32 < fields {
-        return ConditionRead::Refused(12);
+    if MOST_FIELDS < fields {
+        return ConditionRead::Refused(WRONG_CONDITION);
     }
-    let at = 8 + fields;
-    let start = at + 8 * conjuncts;
+    let at = COUNTS_SIZE + fields;
+    let start = at + PAIR_SIZE * conjuncts;
     if condition.len() < start {
-        return ConditionRead::Refused(12);
+        return ConditionRead::Refused(WRONG_CONDITION);
     }
     let linked = is_chained(condition, at, conjuncts, start);
     if !linked {
-        return ConditionRead::Refused(12);
+        return ConditionRead::Refused(WRONG_CONDITION);
     }
-    let typed = types_right(&condition[8..at]);
+    let typed = types_right(&condition[COUNTS_SIZE..at]);
     if !typed {
-        return ConditionRead::Refused(12);
+        return ConditionRead::Refused(WRONG_CONDITION);
     }
     let formed = read_conjuncts(condition, fields, conjuncts);
     let ConjunctRead::Formed = formed else {
@@ -410,7 +448,7 @@ pub fn read(condition: &[u8]) -> ConditionRead
     };
     let sorted = is_rising(condition, fields, conjuncts);
     if !sorted {
-        return ConditionRead::Refused(12);
+        return ConditionRead::Refused(WRONG_CONDITION);
     }
     ConditionRead::Counts(Counts { conjuncts, fields })
 }
@@ -418,11 +456,10 @@ pub fn read(condition: &[u8]) -> ConditionRead
 // A conjunct of a condition that is read, as the part that starts at its offset.
 pub fn conjunct(condition: &[u8], counts: Counts, i: usize) -> &[u8]
     requires { ⌜ ConditionIsRead (now condition) counts × (i < counts .conjuncts) ⌝ }
-    ensures { λ r. ⌜ (now r ≡ pairPart (now (condition .entry)) (8 + counts .fields + 8 * i))
-        × (partNodes (now r) ≡ getD (conjunctsOf (now (condition .entry))) i []) × (length (now r) ≤ nodeSize * mostNodes) ⌝ }
+    ensures { λ r. ⌜ ConjunctIs (now (condition .entry)) counts i (now r) ⌝ }
 {
     let fields = counts.fields;
-    part_at(condition, 8 + fields + 8 * i)
+    part_at(condition, COUNTS_SIZE + fields + PAIR_SIZE * i)
 }
 
 // The types of the fields of a condition that is read.
@@ -430,6 +467,6 @@ pub fn types(condition: &[u8], counts: Counts) -> &[u8]
     requires { ⌜ ConditionIsRead (now condition) counts ⌝ }
     ensures { λ r. ⌜ (now r ≡ typesOf (now (condition .entry))) × (length (now r) ≡ counts .fields) ⌝ }
 {
-    let end = 8 + counts.fields;
-    &condition[8..end]
+    let end = COUNTS_SIZE + counts.fields;
+    &condition[COUNTS_SIZE..end]
 }

@@ -25,11 +25,13 @@ part-at-requires c κs =
 
 returns : tie.Need-returns
 returns c =
-    let g = c .before .before in (
-      c .part-at .ensures,
-      ap partNodes (c .part-at .ensures) ∙ conjunct-nodes (g .args .condition .now) (g .args .counts) (g .pre .0) (g .args .i) (g .pre .1),
-      rw (c .part-at .ensures) (conjunct-short (g .args .condition .now) (g .args .counts) (g .pre .0) (g .args .i) (g .pre .1)),
-    )
+    let g = c .before .before in
+    let a = g .args in
+    record {
+      is-part = c .part-at .ensures;
+      nodes = ap partNodes (c .part-at .ensures) ∙ conjunct-nodes (a .condition .now) (a .counts) (g .pre .0) (a .i) (g .pre .1);
+      short = rw (c .part-at .ensures) (conjunct-short (a .condition .now) (a .counts) (g .pre .0) (a .i) (g .pre .1));
+    }
 
 pub conjunct-spec : {M : Type 1} → statement M
 conjunct-spec = tie.close (tie.spec add-part-at mul-part-at add-part-at-2 part-at-requires returns)

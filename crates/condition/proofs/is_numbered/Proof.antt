@@ -3,6 +3,7 @@ use mathlib.Core.Path.{_≡_, refl, sym, _∙_}
 use Prim.Native.Nat.{_-_, _/_, _≤_}
 use native.Mathlib.Omega.{arith}
 use lib.ListN.{length}
+use Rattle.model.specs.Sizes.{nodeSize, mostFields}
 use Rattle.model.specs.Condition.{numbered}
 use Rattle.condition.specs.Answers.{partNodes}
 use Rattle.condition.proofs.Nodes.{rest}
@@ -16,7 +17,7 @@ use Rattle.condition.proofs.is_numbered.Tie as tie
 
 abbrev Inv-loop : tie.InvT-loop
 Inv-loop types part n seen₀ k₀ seen k =
-    (k ≤ n) × (n ≡ length part / 8) × (length seen ≡ 32) × (numbered (partNodes part) ≡ counted (seenOf types seen) (rest part n k))
+    (k ≤ n) × (n ≡ length part / nodeSize) × (length seen ≡ mostFields) × (numbered (partNodes part) ≡ counted (seenOf types seen) (rest part n k))
 
 abbrev μ-loop : tie.MeasureT-loop
 μ-loop types part n seen₀ k₀ seen k = n - k
@@ -48,7 +49,7 @@ loop-again c =
       refl,
       a .loop .inv .2,
       a .loop .inv .3
-          ∙ counted-skip (g .args .part .now) (length (g .args .part .now) / 8) (a .loop .k) (v .result) (v .ensures)
+          ∙ counted-skip (g .args .part .now) (length (g .args .part .now) / nodeSize) (a .loop .k) (v .result) (v .ensures)
           (c .before .before .loop-test .taken) (seenOf (g .args .types .now) (a .loop .seen)) (c .if1 .taken),
     )
 
@@ -59,7 +60,7 @@ mul-last c =
     let v = c .before .node-at in
     omega (
       arith,
-      field-listed (g .args .part .now) (length (g .args .part .now) / 8) (a .loop .k) (v .result) (v .ensures)
+      field-listed (g .args .part .now) (length (g .args .part .now) / nodeSize) (a .loop .k) (v .result) (v .ensures)
           (c .before .before .loop-test .taken) (g .args .types .now) (a .loop .seen) (g .pre .1) (c .if1 .left),
     )
 
@@ -70,7 +71,7 @@ array-read-last c =
     let v = c .before .node-at in
     omega (
       arith,
-      field-listed (g .args .part .now) (length (g .args .part .now) / 8) (a .loop .k) (v .result) (v .ensures)
+      field-listed (g .args .part .now) (length (g .args .part .now) / nodeSize) (a .loop .k) (v .result) (v .ensures)
           (c .before .before .loop-test .taken) (g .args .types .now) (a .loop .seen) (g .pre .1) (c .if1 .left),
     )
 
@@ -79,7 +80,7 @@ returns c =
     let a = c .before .before .before .before in
     let g = a .before .before .before in
     let v = c .before .before .node-at in
-    sym (a .loop .inv .3 ∙ counted-zero (g .args .part .now) (length (g .args .part .now) / 8) (a .loop .k) (v .result) (v .ensures)
+    sym (a .loop .inv .3 ∙ counted-zero (g .args .part .now) (length (g .args .part .now) / nodeSize) (a .loop .k) (v .result) (v .ensures)
     (c .before .before .before .loop-test .taken) (g .args .types .now) (a .loop .seen) (g .pre .1) (c .before .if1 .left) (c .if2 .taken))
 
 loop-less-2 : tie.Need-loop-less-2 Inv-loop μ-loop
@@ -94,7 +95,7 @@ loop-again-2 c =
       refl,
       a .loop .inv .2,
       a .loop .inv .3
-          ∙ counted-met (g .args .part .now) (length (g .args .part .now) / 8) (a .loop .k) (v .result) (v .ensures)
+          ∙ counted-met (g .args .part .now) (length (g .args .part .now) / nodeSize) (a .loop .k) (v .result) (v .ensures)
           (c .before .before .before .before .loop-test .taken) (g .args .types .now) (a .loop .seen) (g .pre .1) (c .before .before .if1 .left)
           (c .before .if2 .left) (c .if3 .taken),
     )
@@ -108,7 +109,7 @@ returns-2 c =
     let a = in-loop .before in
     let g = a .before .before .before in
     let v = c .before .before .before .before .node-at in
-    sym (a .loop .inv .3 ∙ counted-jump (g .args .part .now) (length (g .args .part .now) / 8) (a .loop .k) (v .result) (v .ensures)
+    sym (a .loop .inv .3 ∙ counted-jump (g .args .part .now) (length (g .args .part .now) / nodeSize) (a .loop .k) (v .result) (v .ensures)
     (in-loop .loop-test .taken) (g .args .types .now) (a .loop .seen) (g .pre .1) (c .before .before .before .if1 .left) (c .before .if3 .left)
     (c .if4 .taken))
 
@@ -120,7 +121,7 @@ mul-seen c =
     let v = c .before .before .before .before .node-at in
     omega (
       arith,
-      field-listed (g .args .part .now) (length (g .args .part .now) / 8) (a .loop .k) (v .result) (v .ensures)
+      field-listed (g .args .part .now) (length (g .args .part .now) / nodeSize) (a .loop .k) (v .result) (v .ensures)
           (in-loop .loop-test .taken) (g .args .types .now) (a .loop .seen) (g .pre .1) (c .before .before .before .if1 .left),
     )
 
@@ -132,7 +133,7 @@ array-write-seen c =
     let v = c .before .before .before .before .node-at in
     omega (
       arith,
-      field-listed (g .args .part .now) (length (g .args .part .now) / 8) (a .loop .k) (v .result) (v .ensures)
+      field-listed (g .args .part .now) (length (g .args .part .now) / nodeSize) (a .loop .k) (v .result) (v .ensures)
           (in-loop .loop-test .taken) (g .args .types .now) (a .loop .seen) (g .pre .1) (c .before .before .before .if1 .left),
     )
 
@@ -149,7 +150,7 @@ loop-again-3 c =
       refl,
       simp length-set (a .loop .inv .2),
       a .loop .inv .3
-          ∙ counted-next (g .args .part .now) (length (g .args .part .now) / 8) (a .loop .k) (v .result) (v .ensures) (in-loop .loop-test .taken)
+          ∙ counted-next (g .args .part .now) (length (g .args .part .now) / nodeSize) (a .loop .k) (v .result) (v .ensures) (in-loop .loop-test .taken)
           (g .args .types .now) (a .loop .seen) (g .pre .1) (c .before .before .before .if1 .left) (omega arith) (c .before .if3 .left) (c .if4 .left),
     )
 

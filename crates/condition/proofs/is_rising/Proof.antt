@@ -5,6 +5,7 @@ use Prim.Native.Nat.{_+_, _*_, _-_, _≤_}
 use native.Mathlib.Omega.{arith}
 use lib.ListN.{length}
 use borrow.Author.Tests.{not-true, not-false}
+use Rattle.model.specs.Sizes.{countsSize, pairSize}
 use Rattle.condition.proofs.Table.{table-inside, pair-inside, order-neighbours, conjunctsFrom, rising-on, rising-off, rising-end}
 use Rattle.model.specs.Bytes.{pairsAt}
 use Rattle.model.specs.Condition.{conjunctAt, isBefore, rising}
@@ -15,8 +16,8 @@ use Rattle.condition.proofs.is_rising.Tie as tie
 
 abbrev Inv-loop : tie.InvT-loop
 Inv-loop condition fields count i₀ i =
-    (i ≤ count) × (8 + fields + 8 * count ≤ length condition)
-    × (rising (map (conjunctAt condition) (pairsAt condition (8 + fields) count)) ≡ rising (conjunctsFrom condition (8 + fields) count i))
+    (i ≤ count) × (countsSize + fields + pairSize * count ≤ length condition)
+    × (rising (map (conjunctAt condition) (pairsAt condition (countsSize + fields) count)) ≡ rising (conjunctsFrom condition (countsSize + fields) count i))
 
 abbrev μ-loop : tie.MeasureT-loop
 μ-loop condition fields count i₀ i = count - i
@@ -29,7 +30,7 @@ loop-holds c =
     let g = c .before .args in (
       omega arith,
       table-inside (g .condition .now) (g .fields) (g .count) (c .before .pre .0),
-      rw (pairs-all (g .condition .now) (8 + g .fields) (g .count)),
+      rw (pairs-all (g .condition .now) (countsSize + g .fields) (g .count)),
     )
 
 add-loop : tie.Need-add-loop Inv-loop μ-loop
@@ -73,7 +74,7 @@ returns : tie.Need-returns Inv-loop μ-loop
 returns c =
     let a = turn-before (c .before) in
     let g = a .before .before in
-    sym (a .loop .inv .2 ∙ rising-off (g .args .condition .now) (8 + g .args .fields) (g .args .count) (a .loop .i)
+    sym (a .loop .inv .2 ∙ rising-off (g .args .condition .now) (countsSize + g .args .fields) (g .args .count) (a .loop .i)
     (c .before .before .before .before .loop-test .taken)
     (ap isBefore (order-neighbours (g .args .condition .now) (g .args .fields) (g .args .count) (g .pre .0) (g .pre .1)
     (λ i. omega (arith, a .before .shared-slice-known .given i)) (a .loop .i) (c .before .before .before .before .loop-test .taken) _ _
@@ -92,7 +93,7 @@ loop-again c =
     let g = a .before .before in (
       omega arith,
       a .loop .inv .1,
-      a .loop .inv .2 ∙ rising-on (g .args .condition .now) (8 + g .args .fields) (g .args .count) (a .loop .i)
+      a .loop .inv .2 ∙ rising-on (g .args .condition .now) (countsSize + g .args .fields) (g .args .count) (a .loop .i)
           (c .before .before .before .before .loop-test .taken)
           (ap isBefore (order-neighbours (g .args .condition .now) (g .args .fields) (g .args .count) (g .pre .0) (g .pre .1)
           (λ i. omega (arith, a .before .shared-slice-known .given i)) (a .loop .i) (c .before .before .before .before .loop-test .taken) _ _

@@ -7,11 +7,12 @@ use native.Mathlib.Omega.{arith}
 use lib.ListN.{length}
 use borrow.Author.Needs.{needs}
 use borrow.Author.Tests.{not-true, not-false}
+use Rattle.model.specs.Sizes.{countsSize}
 use Rattle.model.specs.Bytes.{part, pairsAt, chained}
-use Rattle.model.specs.Condition.{Condition, conjunctsAt, conjunctAt, rising, readCondition}
+use Rattle.model.specs.Condition.{conjunctsAt, conjunctAt, rising, readCondition}
 use Rattle.model.specs.Lists.{every}
 use Rattle.model.specs.Program.{typeRight}
-use Rattle.model.specs.Refusals.{refused, mapped}
+use Rattle.model.specs.Refusals.{refused, mapped, wrongCondition}
 use Rattle.condition.specs.Answers.{conjunctAnswer, pairRight, sizes}
 use Rattle.condition.proofs.Passes.{formed-true, formed-false}
 use Rattle.condition.proofs.Table.{types-taken, formBy, refuses, accepts, form-short, form-many, form-wide, form-cut}
@@ -44,28 +45,28 @@ read c = c .before .before
 
 -- ---- what is known there
 
-not-read : (c : tie.After-u32-at2) → formBy (bytes c) (many c) (fields c) ≡ false → refused 12 ≡ mapped sizes (readCondition (bytes c))
+not-read : (c : tie.After-u32-at2) → formBy (bytes c) (many c) (fields c) ≡ false → refused wrongCondition ≡ mapped sizes (readCondition (bytes c))
 not-read c e = refuses (bytes c) (many c) (fields c) (c .before .u32-at .ensures .0) (c .u32-at2 .ensures .0) e
 
 chain : (c : tie.Else5) → let k =
-    counted (linked c) in chained (conjunctsAt (fields k) (many k)) (pairsAt (bytes k) (8 + fields k) (many k)) (length (bytes k)) ≡ true
+    counted (linked c) in chained (conjunctsAt (fields k) (many k)) (pairsAt (bytes k) (countsSize + fields k) (many k)) (length (bytes k)) ≡ true
 chain c = sym (c .before .is-chained .ensures) ∙ not-false (c .before .is-chained .result) (c .if5 .left)
 
-types : (c : tie.Else6) → let k = counted (linked (typed c)) in every typeRight (part (bytes k) 8 (fields k)) ≡ true
+types : (c : tie.Else6) → let k = counted (linked (typed c)) in every typeRight (part (bytes k) countsSize (fields k)) ≡ true
 types c =
     let k = counted (linked (typed c)) in
     ap (every typeRight) (sym (types-taken (bytes k) (fields k))) ∙ sym (c .before .types-right .ensures)
     ∙ not-false (c .before .types-right .result) (c .if6 .left)
 
 pairs : (c : tie.After-enum-told) → let k =
-    counted (linked (typed (read c .before))) in every (pairRight (part (bytes k) 8 (fields k)) (bytes k))
-    (pairsAt (bytes k) (8 + fields k) (many k)) ≡ true
+    counted (linked (typed (read c .before))) in every (pairRight (part (bytes k) countsSize (fields k)) (bytes k))
+    (pairsAt (bytes k) (countsSize + fields k) (many k)) ≡ true
 pairs c = formed-true _ (sym (ap conjunctAnswer (c .enum-told .given .1)) ∙ read c .read-conjuncts .ensures)
 
 -- the form is the order
 ordered : (c : tie.After-enum-told) → let k =
     counted (linked (typed (read c .before))) in formBy (bytes k) (many k) (fields k)
-    ≡ rising (map (conjunctAt (bytes k)) (pairsAt (bytes k) (8 + fields k) (many k)))
+    ≡ rising (map (conjunctAt (bytes k)) (pairsAt (bytes k) (countsSize + fields k) (many k)))
 ordered c =
     let t = typed (read c .before) in
     let w = linked t in
@@ -181,7 +182,7 @@ returns-9 : tie.Need-returns-9
 returns-9 c =
     let w = linked (typed (read (c .before .before) .before)) in
     let k = counted w in
-    let room : 8 + fields k ≤ length (bytes k) = omega (arith, w .if4 .left) in
+    let room : countsSize + fields k ≤ length (bytes k) = omega (arith, w .if4 .left) in
     accepts (bytes k) (many k) (fields k) (k .before .u32-at .ensures .0) (k .u32-at2 .ensures .0) room
     (ordered (c .before .before) ∙ sym (c .before .is-rising .ensures) ∙ not-false (c .before .is-rising .result) (c .if7 .left))
 

@@ -6,6 +6,7 @@ use Prim.Native.Nat.{ℕ, _+_, _*_, _-_, _≤_}
 use native.Mathlib.Omega.{arith}
 use lib.ListN.{length}
 use borrow.Author.Needs.{needs}
+use Rattle.model.specs.Sizes.{countsSize, pairSize}
 use Rattle.model.specs.Bytes.{part, Pair, pairAt, pairsAt}
 use Rattle.model.specs.Lists.{every}
 use Rattle.condition.specs.Answers.{conjunctAnswer, pairRight}
@@ -16,13 +17,13 @@ use Rattle.condition.proofs.read_conjuncts.Tie as tie
 
 -- the test of a pair
 abbrev test : List ℕ → ℕ → Pair → Bool
-test condition fields = pairRight (part condition 8 fields) condition
+test condition fields = pairRight (part condition countsSize fields) condition
 
 abbrev Inv-loop : tie.InvT-loop
 Inv-loop condition fields count i₀ i =
-    (i ≤ count) × (8 + fields + 8 * count ≤ length condition)
-    × (every (test condition fields) (pairsAt condition (8 + fields) count)
-    ≡ every (test condition fields) (pairsFrom condition (8 + fields) count i))
+    (i ≤ count) × (countsSize + fields + pairSize * count ≤ length condition)
+    × (every (test condition fields) (pairsAt condition (countsSize + fields) count)
+    ≡ every (test condition fields) (pairsFrom condition (countsSize + fields) count i))
 
 abbrev μ-loop : tie.MeasureT-loop
 μ-loop condition fields count i₀ i = count - i
@@ -36,7 +37,7 @@ start c = c .before .before .before
 abbrev tested : tie.In-loop Inv-loop μ-loop → Bool
 tested c =
     let g = start c .args in
-    test (g .condition .now) (g .fields) (pairAt (g .condition .now) (8 + g .fields + 8 * c .before .loop .i))
+    test (g .condition .now) (g .fields) (pairAt (g .condition .now) (countsSize + g .fields + pairSize * c .before .loop .i))
 
 -- ---- the answers
 
@@ -45,7 +46,7 @@ loop-holds c =
     let g = c .before .args in (
       omega arith,
       table-inside (g .condition .now) (g .fields) (g .count) (c .before .pre .1),
-      rw (pairs-all (g .condition .now) (8 + g .fields) (g .count)),
+      rw (pairs-all (g .condition .now) (countsSize + g .fields) (g .count)),
     )
 
 add-read-pair : tie.Need-add-read-pair Inv-loop μ-loop
@@ -59,12 +60,13 @@ add-read-pair-2 c = search needs
 
 read-pair-requires : tie.Need-read-pair-requires Inv-loop μ-loop
 read-pair-requires c κs =
-    let g = start c in (
-      omega arith,
-      omega arith,
-      omega arith,
-      pair-inside (g .args .condition .now) (g .args .fields) (g .args .count) (g .pre .1) (c .before .loop .i) (c .loop-test .taken),
-    )
+    let g = start c in
+    record {
+      few = omega arith;
+      types = omega arith;
+      pair = omega arith;
+      inside = pair-inside (g .args .condition .now) (g .args .fields) (g .args .count) (g .pre .1) (c .before .loop .i) (c .loop-test .taken);
+    }
 
 enum-told : tie.Need-enum-told Inv-loop μ-loop
 enum-told c = search needs
@@ -79,7 +81,7 @@ returns c =
     let g = start t .args in
     let e = c .enum-told2 .given in
     let off = formed-false (tested t) (e .0 .0) (sym (ap conjunctAnswer (e .1)) ∙ r .read-pair .ensures) in
-    let none = pairs-off (test (g .condition .now) (g .fields)) (g .condition .now) (8 + g .fields) (g .count) (t .before .loop .i)
+    let none = pairs-off (test (g .condition .now) (g .fields)) (g .condition .now) (countsSize + g .fields) (g .count) (t .before .loop .i)
     (t .loop-test .taken) (off .0) in
     rw (t .before .loop .inv .2 ∙ none) (ap conjunctAnswer (e .1) ∙ rw (off .1))
 
@@ -95,7 +97,7 @@ loop-again c =
     let t = r .before in
     let g = start t .args in
     let on = formed-true (tested t) (sym (ap conjunctAnswer (c .enum-told .given .1)) ∙ r .read-pair .ensures) in
-    let more = pairs-on (test (g .condition .now) (g .fields)) (g .condition .now) (8 + g .fields) (g .count) (t .before .loop .i)
+    let more = pairs-on (test (g .condition .now) (g .fields)) (g .condition .now) (countsSize + g .fields) (g .count) (t .before .loop .i)
     (t .loop-test .taken) on in
     (omega arith, t .before .loop .inv .1, t .before .loop .inv .2 ∙ more)
 

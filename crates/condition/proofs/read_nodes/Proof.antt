@@ -3,14 +3,16 @@
 use mathlib.Core.Path.{_≡_, refl, sym, ap, subst, _∙_}
 use mathlib.Core.Bool.{Bool, true, false, _&&_}
 use mathlib.Core.List.{List, []}
-use Prim.Native.Nat.{ℕ, _+_, _-_, _*_, _/_, _≤_, _<_}
+use Prim.Native.Nat.{ℕ, _+_, _-_, _*_, _/_, _≤_}
 use native.Mathlib.Omega.{arith}
 use lib.ListN.{length, set, length-set}
 use borrow.Author.Needs.{needs}
 use borrow.Author.Tests.{eq-eqb, ne-eqb}
+use Rattle.model.specs.Sizes.{nodeSize}
 use Rattle.model.specs.Condition.{operation, conversion, typeNodes, whole}
 use Rattle.model.specs.Lists.{every}
-use Rattle.model.specs.Refusals.{Out, refused, _>>=_}
+use Rattle.model.specs.Refusals.{Out, refused, _>>=_, wrongCondition}
+use Rattle.condition.specs.Numbers.{stackCells}
 use Rattle.condition.specs.declared.Node.{Node}
 use Rattle.condition.specs.Answers.{NodeIs, EntryIs, nodeOut, partNodes, partRight, formed}
 use Rattle.condition.proofs.Nodes.{rest, some}
@@ -23,7 +25,7 @@ use Rattle.condition.proofs.read_nodes.Tie as tie
 
 abbrev Inv-loop : tie.InvT-loop
 Inv-loop types part n stack₀ height₀ k₀ stack height k =
-    (k ≤ n) × (n ≡ length part / 8) × (length stack ≡ 128) × (height ≤ k)
+    (k ≤ n) × (n ≡ length part / nodeSize) × (length stack ≡ stackCells) × (height ≤ k)
     × (typeNodes (partNodes part) [] ≡ typeNodes (rest part n k) (stackOf stack height))
     × (partRight types part ≡ every (λ b. b) (formsFrom types part n k))
 
@@ -64,64 +66,64 @@ at-conversion c = c .before .before .before .before
 
 -- ---- one node
 
-entry-is : (c : tie.After-known-told Inv-loop μ-loop) → NodeIs (entry c) (bytes (head c)) (8 * head c .loop .k)
-entry-is c = subst (λ r. EntryIs r (bytes (head c)) (8 * head c .loop .k)) (c .before .read .given .1) (reader c .read-node .ensures .1)
+entry-is : (c : tie.After-known-told Inv-loop μ-loop) → NodeIs (entry c) (bytes (head c)) (nodeSize * head c .loop .k)
+entry-is c = subst (λ r. EntryIs r (bytes (head c)) (nodeSize * head c .loop .k)) (c .before .read .given .1) (reader c .read-node .ensures .1)
 
 -- the nodes up to it have their form
 forms : (c : tie.After-known-told Inv-loop μ-loop) → let h =
     head c in partRight (start h .args .types .now) (bytes h)
-    ≡ every (λ b. b) (formsFrom (start h .args .types .now) (bytes h) (length (bytes h) / 8) (h .loop .k + 1))
+    ≡ every (λ b. b) (formsFrom (start h .args .types .now) (bytes h) (length (bytes h) / nodeSize) (h .loop .k + 1))
 forms c =
     let h = head c in
     let r = reader c in
     h .loop .inv .5
-    ∙ forms-on (start h .args .types .now) (bytes h) (length (bytes h) / 8) (h .loop .k) (r .before .loop-test .taken) (r .read-node .result)
+    ∙ forms-on (start h .args .types .now) (bytes h) (length (bytes h) / nodeSize) (h .loop .k) (r .before .loop-test .taken) (r .read-node .result)
     (r .read-node .ensures .0) (entry c) (c .before .read .given .1)
 
 -- what is left to be typed after it
 after-atom : (c : tie.Then1 Inv-loop μ-loop) → let t = at-atom c in let h =
     head t in typeNodes (partNodes (bytes h)) []
-    ≡ typeNodes (rest (bytes h) (length (bytes h) / 8) (h .loop .k + 1))
+    ≡ typeNodes (rest (bytes h) (length (bytes h) / nodeSize) (h .loop .k + 1))
     (stackOf (set (h .loop .stack) (h .loop .height) (entry t .ty)) (h .loop .height + 1))
 after-atom c =
     let t = at-atom c in
     let h = head t in
-    let n = length (bytes h) / 8 in
+    let n = length (bytes h) / nodeSize in
     h .loop .inv .4
     ∙ typed-push (bytes h) n (h .loop .k) (entry t) (entry-is t) (reader t .before .loop-test .taken) (stack t) (c .if1 .taken)
     ∙ ap (typeNodes (rest (bytes h) n (h .loop .k + 1))) (sym (stack-push (h .loop .stack) (h .loop .height) (entry t .ty) (omega arith)))
 
 after-operation : (c : tie.Then2 Inv-loop μ-loop) → let t = at-operation c in let h = head t in (o : Out (List ℕ))
     → operation (entry t .ty) (stack t) ≡ o
-    → typeNodes (partNodes (bytes h)) [] ≡ (o >>= typeNodes (rest (bytes h) (length (bytes h) / 8) (h .loop .k + 1)))
+    → typeNodes (partNodes (bytes h)) [] ≡ (o >>= typeNodes (rest (bytes h) (length (bytes h) / nodeSize) (h .loop .k + 1)))
 after-operation c o e =
     let t = at-operation c in
     let h = head t in
     h .loop .inv .4
-    ∙ typed-operation (bytes h) (length (bytes h) / 8) (h .loop .k) (entry t) (entry-is t) (reader t .before .loop-test .taken) (stack t)
+    ∙ typed-operation (bytes h) (length (bytes h) / nodeSize) (h .loop .k) (entry t) (entry-is t) (reader t .before .loop-test .taken) (stack t)
     (c .before .before .if1 .left) (c .if2 .taken) o e
 
 after-conversion : (c : tie.Else2 Inv-loop μ-loop) → let t = at-conversion c in let h = head t in (o : Out (List ℕ))
     → conversion (entry t .ty) (stack t) ≡ o
-    → typeNodes (partNodes (bytes h)) [] ≡ (o >>= typeNodes (rest (bytes h) (length (bytes h) / 8) (h .loop .k + 1)))
+    → typeNodes (partNodes (bytes h)) [] ≡ (o >>= typeNodes (rest (bytes h) (length (bytes h) / nodeSize) (h .loop .k + 1)))
 after-conversion c o e =
     let t = at-conversion c in
     let h = head t in
     h .loop .inv .4
-    ∙ typed-conversion (bytes h) (length (bytes h) / 8) (h .loop .k) (entry t) (entry-is t) (reader t .before .loop-test .taken) (stack t)
+    ∙ typed-conversion (bytes h) (length (bytes h) / nodeSize) (h .loop .k) (entry t) (entry-is t) (reader t .before .loop-test .taken) (stack t)
     (c .if2 .left) o e
 
 -- a part that is no whole expression, or whose nodes are not in their form, is refused
-not-whole : (a b : Bool) → b ≡ false → refused 12 ≡ formed (a && b)
+not-whole : (a b : Bool) → b ≡ false → refused wrongCondition ≡ formed (a && b)
 not-whole true b e = rw e
 not-whole false b e = refl
 
-not-operated : (c : tie.Then2 Inv-loop μ-loop) → let t = at-operation c in let h = head t in operation (entry t .ty) (stack t) ≡ refused 12
-    → refused 12 ≡ formed (partRight (start h .args .types .now) (bytes h) && whole (partNodes (bytes h)))
+not-operated : (c : tie.Then2 Inv-loop μ-loop) → let t = at-operation c in let h = head t in operation (entry t .ty) (stack t) ≡ refused wrongCondition
+    → refused wrongCondition ≡ formed (partRight (start h .args .types .now) (bytes h) && whole (partNodes (bytes h)))
 not-operated c e =
     let h = head (at-operation c) in
     not-whole (partRight (start h .args .types .now) (bytes h)) (whole (partNodes (bytes h)))
-    (whole-refused (partNodes (bytes h)) (after-operation c (refused 12) e))
+    (whole-refused (partNodes (bytes h)) (after-operation c (refused wrongCondition) e))
 
 -- ---- the answers
 
@@ -146,7 +148,7 @@ returns c =
     let h = r .before .before in
     let g = c .before .enum-told .given in
     let types = start h .args .types .now in
-    let n = length (bytes h) / 8 in
+    let n = length (bytes h) / nodeSize in
     let off = forms-off types (bytes h) n (h .loop .k) (r .before .loop-test .taken) (r .read-node .result) (r .read-node .ensures .0)
     (g .0 .0) (g .1) in
     let twelve = forms-number types (bytes h) n (h .loop .k) (r .before .loop-test .taken) (r .read-node .result) (r .read-node .ensures .0)
@@ -222,7 +224,7 @@ returns-5 c =
     let h = head t in
     let short = conversion-short (entry t .ty) (h .loop .stack) (h .loop .height) (c .if6 .taken) in
     not-whole (partRight (start h .args .types .now) (bytes h)) (whole (partNodes (bytes h)))
-    (whole-refused (partNodes (bytes h)) (after-conversion k (refused 12) short))
+    (whole-refused (partNodes (bytes h)) (after-conversion k (refused wrongCondition) short))
 
 sub-stack : tie.Need-sub-stack Inv-loop μ-loop
 sub-stack c = search needs

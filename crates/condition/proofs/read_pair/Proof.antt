@@ -1,10 +1,11 @@
 -- `condition::read_pair` meets its contract.
-use mathlib.Core.Path.{_≡_, sym, ap, _∙_}
+use mathlib.Core.Path.{ap, _∙_}
 use mathlib.Core.List.{List}
-use Prim.Native.Nat.{ℕ, _≤_}
+use Prim.Native.Nat.{ℕ}
 use denote.Ref.{now}
 use native.Mathlib.Omega.{arith}
 use borrow.Author.Needs.{needs}
+use Rattle.model.specs.Sizes.{countsSize}
 use Rattle.model.specs.Bytes.{part, Pair, pairAt}
 use Rattle.condition.specs.Answers.{formed}
 use Rattle.condition.proofs.Nodes.{some}
@@ -21,7 +22,7 @@ abbrev bytes : tie.After-part-at → List ℕ
 bytes c = start c .args .condition .now
 
 abbrev types : tie.After-part-at → List ℕ
-types c = part (bytes c) 8 (start c .args .fields)
+types c = part (bytes c) countsSize (start c .args .fields)
 
 abbrev pair : tie.After-part-at → Pair
 pair c = pairAt (bytes c) (start c .args .at)
@@ -34,18 +35,18 @@ part-at-requires c κs = search needs
 returns : tie.Need-returns
 returns c =
     let h = c .before in
-    rw (pair-empty (types h) (bytes h) (pair h) (start h .pre .3) (now (h .part-at .result)) (h .part-at .ensures) (c .if1 .taken))
+    rw (pair-empty (types h) (bytes h) (pair h) (start h .pre .inside) (now (h .part-at .result)) (h .part-at .ensures) (c .if1 .taken))
 
 returns-2 : tie.Need-returns-2
 returns-2 c =
     let h = c .before .before in
-    rw (pair-long (types h) (bytes h) (pair h) (start h .pre .3) (now (h .part-at .result)) (h .part-at .ensures) (c .before .if1 .left)
+    rw (pair-long (types h) (bytes h) (pair h) (start h .pre .inside) (now (h .part-at .result)) (h .part-at .ensures) (c .before .if1 .left)
     (c .if2 .taken))
 
 returns-3 : tie.Need-returns-3
 returns-3 c =
     let h = c .before .before .before in
-    rw (pair-broken (types h) (bytes h) (pair h) (start h .pre .3) (now (h .part-at .result)) (h .part-at .ensures)
+    rw (pair-broken (types h) (bytes h) (pair h) (start h .pre .inside) (now (h .part-at .result)) (h .part-at .ensures)
     (some _ (c .before .before .if1 .left)) (c .before .if2 .left) (c .if3 .taken))
 
 add-end : tie.Need-add-end
@@ -64,7 +65,7 @@ read-conjunct-requires : tie.Need-read-conjunct-requires
 read-conjunct-requires c κs =
     let k = c .before in
     let h = k .before .before .before in
-    (omega (arith, types-count (bytes h) (start h .args .fields) (start h .pre .1)), k .before .if2 .left)
+    (omega (arith, types-count (bytes h) (start h .args .fields) (start h .pre .types)), k .before .if2 .left)
 
 returns-4 : tie.Need-returns-4
 returns-4 c =
@@ -72,7 +73,7 @@ returns-4 c =
     let h = k .before .before .before in
     c .read-conjunct .ensures
     ∙ rw (types-taken (bytes h) (start h .args .fields))
-    (ap formed (pair-part (types h) (bytes h) (pair h) (start h .pre .3) (now (h .part-at .result)) (h .part-at .ensures)
+    (ap formed (pair-part (types h) (bytes h) (pair h) (start h .pre .inside) (now (h .part-at .result)) (h .part-at .ensures)
     (some _ (k .before .before .if1 .left)) (k .before .if2 .left) (k .if3 .left)))
 
 pub read-pair-spec : {M : Type 1} → statement M

@@ -55,7 +55,7 @@ module _ (c : tie.After-product Inv-loop μ-loop) where
       let g = start (turn c) in
       let one = c .before in
       next-conjunct (g .args .condition .now) (g .args .sizes) (g .pre .0) (turn c .loop .i) (one .before .loop-test .taken)
-      (one .conjunct .result .now) (one .conjunct .ensures .1)
+      (one .conjunct .result .now) (one .conjunct .ensures .nodes)
 
   module _ (I : Input) (n : CountedAt (turn c) I) where
     readings-told : ltb 0 (c .product .result) ≡ hasReadings I next
@@ -77,7 +77,7 @@ product-requires c κs =
     let at = c .before .before in
     let g = start at in
     let formed = conjunct-formed (g .args .condition .now) (g .args .sizes) (g .pre .0) (at .loop .i) (c .before .loop-test .taken) in
-    (subst IsConjunct (sym (c .conjunct .ensures .0)) formed, g .pre .1)
+    (subst IsConjunct (sym (c .conjunct .ensures .is-part)) formed, g .pre .1)
 
 returns : tie.Need-returns Inv-loop μ-loop
 returns c = λ I n.

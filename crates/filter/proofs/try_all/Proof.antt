@@ -45,7 +45,7 @@ module _ (c : tie.After-conjunct Inv-loop μ-loop) where
   is-next =
       let g = start (turn c) in
       next-conjunct (g .args .condition .now) (g .args .sizes) (g .pre .read) (turn c .loop .place) (c .before .loop-test .taken)
-      (c .conjunct .result .now) (c .conjunct .ensures .1)
+      (c .conjunct .result .now) (c .conjunct .ensures .nodes)
 
 -- ---- answers
 
@@ -62,12 +62,12 @@ first-failure-requires c κs =
     let inside = c .before .loop-test .taken in
     let asked = NoneBlank (g .args .counts .now) in
     record {
-      conjunct = subst IsConjunct (sym (c .conjunct .ensures .0))
+      conjunct = subst IsConjunct (sym (c .conjunct .ensures .is-part))
           (conjunct-formed (g .args .condition .now) (g .args .sizes) (g .pre .read) i inside);
       lent = g .pre .lent;
       none-blank = conjunct-asked (g .args .condition .now) (g .args .sizes) (g .pre .read) i asked (g .pre .none-blank) inside
           (c .conjunct .result .now)
-          (c .conjunct .ensures .1);
+          (c .conjunct .ensures .nodes);
     }
 
 enum-told : tie.Need-enum-told Inv-loop μ-loop

@@ -35,7 +35,7 @@ step : (c : tie.After-conjunct Inv-loop μ-loop) → let S = conjunctsOf (file c
 step c =
     let s = start (head c) in
     let n = conjuncts-are (file c) (s .args .counts) (s .pre .0) in
-    lines-step (conjunctsOf (file c)) (head c .loop .i) (partNodes (c .conjunct .result .now)) (omega arith) (c .conjunct .ensures .1)
+    lines-step (conjunctsOf (file c)) (head c .loop .i) (partNodes (c .conjunct .result .now)) (omega arith) (c .conjunct .ensures .nodes)
 
 loop-holds : tie.Need-loop-holds Inv-loop μ-loop
 loop-holds c = (omega arith, remains-all (c .before .before .pre .1))
