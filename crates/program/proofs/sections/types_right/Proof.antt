@@ -1,18 +1,41 @@
 -- `program::sections::types_right` meets its contract.
+use mathlib.Core.Path.{_≡_, sym}
 use borrow.Author.Needs.{needs}
 use borrow.Author.Tests.{not-true, not-false}
-use Rattle.model.specs.Program.{typesRight}
+use Rattle.model.specs.Lists.{every}
+use Rattle.model.specs.Program.{Tables, typeRight, typesRight}
+use Rattle.program.specs.Reading.{tablesOf}
 use Rattle.program.proofs.Tables.{fields-are, variables-are, arrays-are}
 use Rattle.program.proofs.sections.types_right.Statement.{statement}
 use Rattle.program.proofs.sections.types_right.Tie as tie
+
+-- ---- the places: where the types of the fields, then those of the variables were looked at
+
+abbrev start : tie.After-are-types → tie.Start
+start c = c .before .before
+
+abbrev tables : tie.After-are-types → Tables
+tables c = tablesOf (start c .args .program .now)
+
+abbrev fields-seen : tie.After-are-types2 → tie.After-are-types
+fields-seen c = c .before .before
+
+field-types : (c : tie.After-are-types) → every typeRight (tables c .fields) ≡ c .are-types .result
+field-types c = let a = start c .args in rw (fields-are (a .program .now) (a .layout) (start c .pre)) (sym (c .are-types .ensures))
+
+variable-types : (c : tie.After-are-types2) → every typeRight (tables (fields-seen c) .variables) ≡ c .are-types2 .result
+variable-types c =
+    let b = start (fields-seen c) in
+    rw (variables-are (b .args .program .now) (b .args .layout) (b .pre)) (sym (c .are-types2 .ensures))
+
+-- ---- the answers
 
 are-types-requires : tie.Need-are-types-requires
 are-types-requires c κs = search needs
 
 returns : tie.Need-returns
 unfolding typesRight
-returns c = let a = c .before .before .before .args in let h = c .before .before .before .pre in
-    rw (fields-are (a .program .now) (a .layout) h, ← c .before .are-types .ensures, not-true (c .before .are-types .result) (c .if1 .taken))
+returns c = let f = c .before in rw (field-types f, not-true (f .are-types .result) (c .if1 .taken))
 
 are-types-requires-2 : tie.Need-are-types-requires-2
 are-types-requires-2 c κs = search needs
@@ -20,15 +43,12 @@ are-types-requires-2 c κs = search needs
 returns-2 : tie.Need-returns-2
 unfolding typesRight
 returns-2 c =
-    let start = c .before .before .before .before .before in
-    let a = start .args in let h = start .pre in
-    rw (
-      fields-are (a .program .now) (a .layout) h,
-      variables-are (a .program .now) (a .layout) h,
-      ← c .before .before .before .are-types .ensures,
-      not-false (c .before .before .before .are-types .result) (c .before .before .if1 .left),
-      ← c .before .are-types2 .ensures,
-      not-true (c .before .are-types2 .result) (c .if2 .taken),
+    let v = c .before in
+    let f = fields-seen v in rw (
+      field-types f,
+      not-false (f .are-types .result) (v .before .if1 .left),
+      variable-types v,
+      not-true (v .are-types2 .result) (c .if2 .taken),
     )
 
 are-arrays-requires : tie.Need-are-arrays-requires
@@ -37,16 +57,15 @@ are-arrays-requires c κs = search needs
 returns-3 : tie.Need-returns-3
 unfolding typesRight
 returns-3 c =
-    let start = c .before .before .before .before .before .before in
-    let a = start .args in let h = start .pre in
+    let v = c .before .before in
+    let f = fields-seen v in
+    let b = start f in
     rw (
-      fields-are (a .program .now) (a .layout) h,
-      variables-are (a .program .now) (a .layout) h,
-      arrays-are (a .program .now) (a .layout) h,
-      ← c .before .before .before .before .are-types .ensures,
-      not-false (c .before .before .before .before .are-types .result) (c .before .before .before .if1 .left),
-      ← c .before .before .are-types2 .ensures,
-      not-false (c .before .before .are-types2 .result) (c .before .if2 .left),
+      field-types f,
+      not-false (f .are-types .result) (v .before .if1 .left),
+      variable-types v,
+      not-false (v .are-types2 .result) (c .before .if2 .left),
+      arrays-are (b .args .program .now) (b .args .layout) (b .pre),
     ) (c .are-arrays .ensures)
 
 pub types-right-spec : {M : Type 1} → statement M
