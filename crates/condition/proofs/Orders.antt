@@ -71,17 +71,21 @@ module _ (types s t : List ℕ) (small-s : (i : ℕ) → getD s i 0 < 256) (smal
       let eb : b + nodeSize * 0 ≡ b = omega arith in
       let p = node-bytes types s a small-s (rw ea at (rs 0 (omega arith))) (omega arith) in
       let q = node-bytes types t b small-t (rw eb at (rt 0 (omega arith))) (omega arith) in
-      let l : length (part s a nodeSize) ≡ length (part t b nodeSize) = length-part s a nodeSize (omega arith) ∙ sym (length-part t b nodeSize (omega arith)) in
+      let l : length (part s a nodeSize) ≡ length (part t b nodeSize) =
+      length-part s a nodeSize (omega arith) ∙ sym (length-part t b nodeSize (omega arith)) in
       let fs : (k : ℕ) → a + nodeSize * suc k ≡ a + nodeSize + nodeSize * k = λ k. omega arith in
       let ft : (k : ℕ) → b + nodeSize * suc k ≡ b + nodeSize + nodeSize * k = λ k. omega arith in
       let on = nodes-bytes n (a + nodeSize) (b + nodeSize) (omega arith) (omega arith)
       (λ k h. subst (λ (j : ℕ). nodeRight types s j ≡ true) (fs k) (rs (suc k) (omega arith)))
       (λ k h. subst (λ (j : ℕ). nodeRight types t j ≡ true) (ft k) (rt (suc k) (omega arith))) in
       rw (part-first s a n, part-first t b n)
-      (ap₂ _then_ (ap₂ orderNumbers p q) on ∙ sym (numbers-append (part s a nodeSize) (part t b nodeSize) (part s (a + nodeSize) (nodeSize * n)) (part t (b + nodeSize) (nodeSize * n)) l))
+      (ap₂ _then_ (ap₂ orderNumbers p q) on
+      ∙ sym (numbers-append (part s a nodeSize) (part t b nodeSize)
+      (part s (a + nodeSize) (nodeSize * n)) (part t (b + nodeSize) (nodeSize * n)) l))
 
   -- the order of two parts
-  module _ (right-s : partRight types s ≡ true) (right-t : partRight types t ≡ true) (whole-s : length s % nodeSize ≡ 0) (whole-t : length t % nodeSize ≡ 0) where
+  module _ (right-s : partRight types s ≡ true) (right-t : partRight types t ≡ true)
+      (whole-s : length s % nodeSize ≡ 0) (whole-t : length t % nodeSize ≡ 0) where
     at-zero : (u : List ℕ) (n : ℕ) → every (λ b. b) (entries (nodeRight types) nodeSize u 0 n) ≡ true → (k : ℕ) → k < n
         → nodeRight types u (0 + nodeSize * k) ≡ true
     at-zero u n h k l =
@@ -94,7 +98,8 @@ module _ (types s t : List ℕ) (small-s : (i : ℕ) → getD s i 0 < 256) (smal
         let f : nodeSize * (length s / nodeSize) ≡ length s = omega arith in
         let g : nodeSize * (length s / nodeSize) ≡ length t = omega arith in
         rw e
-        (nodes-bytes (length s / nodeSize) 0 0 (omega arith) (omega arith) (at-zero s (length s / nodeSize) right-s) (at-zero t (length s / nodeSize) (rw e at right-t))
+        (nodes-bytes (length s / nodeSize) 0 0 (omega arith) (omega arith) (at-zero s (length s / nodeSize) right-s)
+        (at-zero t (length s / nodeSize) (rw e at right-t))
         ∙ ap₂ orderNumbers (ap (λ (m : ℕ). take m s) f ∙ take-length s) (ap (λ (m : ℕ). take m t) g ∙ take-length t))
 
     pub order-bytes : order (partNodes s) (partNodes t) ≡ (compare (length s) (length t) then orderNumbers s t)

@@ -88,13 +88,17 @@ module _ (types s : List ℕ) (n k : ℕ) (more : k < n) (r : NodeRead)
 
   pub forms-on : (v : Node) → r ≡ Entry v → every (λ b. b) (formsFrom types s n k) ≡ every (λ b. b) (formsFrom types s n (k + 1))
   unfolding every
-  forms-on v e = rw (forms-step, check-ok (nodeRight types s (nodeSize * k)) wrongCondition (ok (nodeAt s (nodeSize * k))) (nodeFrom v) (sym answer ∙ ap nodeOut e) .0)
+  forms-on v e =
+      let a = nodeSize * k in
+      rw (forms-step, check-ok (nodeRight types s a) wrongCondition (ok (nodeAt s a)) (nodeFrom v) (sym answer ∙ ap nodeOut e) .0)
 
   pub forms-off : (m : ℕ) → r ≡ Wrong m → every (λ b. b) (formsFrom types s n k) ≡ false
   unfolding every
-  forms-off m e = rw (forms-step, check-wrong (nodeRight types s (nodeSize * k)) wrongCondition m (nodeAt s (nodeSize * k)) (sym (ap nodeOut e) ∙ answer))
+  forms-off m e =
+      let a = nodeSize * k in
+      rw (forms-step, check-wrong (nodeRight types s a) wrongCondition m (nodeAt s a) (sym (ap nodeOut e) ∙ answer))
 
-  -- the refusal has the number 12
+  -- the refusal is the condition's
   pub forms-number : (m : ℕ) → r ≡ Wrong m → m ≡ wrongCondition
   forms-number m e = go (nodeRight types s (nodeSize * k)) (sym (ap nodeOut e) ∙ answer)
     where

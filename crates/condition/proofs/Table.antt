@@ -11,7 +11,7 @@ use borrow.Author.Tests.{eq-eqb, ne-eqb, le-leb, lt-leb, lt-ltb, le-ltb, leb-tru
 use Rattle.model.specs.Sizes.{countsSize, pairSize, nodeSize, mostNodes, mostConjuncts, mostFields}
 use Rattle.model.specs.Lists.{every}
 use Rattle.model.specs.Refusals.{ok, refused, mapped, check, wrongCondition}
-use Rattle.model.specs.Bytes.{u32At, part, Pair, pairAt, entries, pairsAt, chained}
+use Rattle.model.specs.Bytes.{u32At, part, Pair, pairAt, entries, pairsAt}
 use Rattle.model.specs.Program.{typeRight}
 use Rattle.model.specs.Conjunct.{Conjuncts, _then_, orderNumbers, order}
 use Rattle.model.specs.Condition.{Condition, conjunctsAt, nodeAt, nodeRight, conjunctAt, nodesRight, lengthRight, whole, numbered}
@@ -20,7 +20,8 @@ use Rattle.model.proofs.Tests.{case, and-left, and-right}
 use Rattle.model.proofs.Results.{check-ok, ok-eq}
 use Rattle.model.proofs.Every.{every-of-map, every-at}
 use Rattle.model.proofs.Parts.{length-entries, entries-getD, chained-le, chained-inside, length-part, entries-part}
-use Rattle.condition.specs.Answers.{partNodes, partRight, pairPart, pairRight, sizes, sizesOf, ConditionIsRead, typesOf, conjunctsOf}
+use Rattle.condition.specs.Answers.{partNodes, partRight, pairPart, pairRight, pairPlace, pairsOf, typesIn, linked}
+use Rattle.condition.specs.Answers.{sizes, sizesOf, ConditionIsRead, typesOf, conjunctsOf}
 use Rattle.condition.specs.declared.Counts.{Counts}
 use Rattle.condition.proofs.Nodes.{node-narrow, right-narrow}
 use Rattle.condition.proofs.Passes.{pairsFrom, pairs-step}
@@ -68,8 +69,11 @@ module _ (types s : List ℕ) (p : Pair) (inside : p .offset + p .len ≤ length
 
   pub pair-broken : 0 < length t → length t ≤ nodeSize * mostNodes → (length t % nodeSize ≡ 0 → ⊥) → pairRight types s p ≡ false
   unfolding pairRight
-  pair-broken z h b = rw
-      (lt-ltb 0 (p .len) (omega (arith, size)), le-leb (p .len) (nodeSize * mostNodes) (omega (arith, size)), ne-eqb (p .len % nodeSize) 0 (λ e. b (ap (_% nodeSize) size ∙ e)))
+  pair-broken z h b = rw (
+    lt-ltb 0 (p .len) (omega (arith, size)),
+    le-leb (p .len) (nodeSize * mostNodes) (omega (arith, size)),
+    ne-eqb (p .len % nodeSize) 0 (λ e. b (ap (_% nodeSize) size ∙ e)),
+  )
 
   pub pair-part : 0 < length t → length t ≤ nodeSize * mostNodes → length t % nodeSize ≡ 0
       → (partRight types t && whole (partNodes t) && numbered (partNodes t)) ≡ pairRight types s p
@@ -85,7 +89,7 @@ module _ (types s : List ℕ) (p : Pair) (inside : p .offset + p .len ≤ length
       )
 
 -- the types of the fields, as they are taken from the file
-pub types-taken : (s : List ℕ) (f : ℕ) → take (countsSize + f - countsSize) (drop countsSize s) ≡ part s countsSize f
+pub types-taken : (s : List ℕ) (f : ℕ) → take (countsSize + f - countsSize) (drop countsSize s) ≡ typesIn s f
 types-taken s f = let e : countsSize + f - countsSize ≡ f = omega arith in rw e
 
 pub types-count : (s : List ℕ) (f : ℕ) → countsSize + f ≤ length s → length (take (countsSize + f - countsSize) (drop countsSize s)) ≡ f
@@ -93,14 +97,15 @@ types-count s f h = ap length (types-taken s f) ∙ length-part s countsSize f h
 
 -- ---- the table of pairs
 
-module _ (s : List ℕ) (f c : ℕ) (chain : chained (conjunctsAt f c) (pairsAt s (countsSize + f) c) (length s) ≡ true) where
-  pub table-inside : countsSize + f + pairSize * c ≤ length s
-  table-inside = chained-le (pairsAt s (countsSize + f) c) (conjunctsAt f c) (length s) chain
+module _ (s : List ℕ) (f c : ℕ) (chain : linked s f c ≡ true) where
+  pub table-inside : conjunctsAt f c ≤ length s
+  table-inside = chained-le (pairsOf s f c) (conjunctsAt f c) (length s) chain
 
-  pub pair-inside : (i : ℕ) → i < c → pairAt s (countsSize + f + pairSize * i) .offset + pairAt s (countsSize + f + pairSize * i) .len ≤ length s
+  pub pair-inside : (i : ℕ) → i < c → pairAt s (pairPlace f i) .offset + pairAt s (pairPlace f i) .len ≤ length s
   pair-inside i h =
       subst (λ (q : Pair). q .offset + q .len ≤ length s) (entries-getD pairAt pairSize s c (countsSize + f) i (pairAt s 0) h)
-      (chained-inside (pairsAt s (countsSize + f) c) (conjunctsAt f c) (length s) chain i (pairAt s 0) (omega (arith, length-entries pairAt pairSize s c (countsSize + f))) .1)
+      (chained-inside (pairsOf s f c) (conjunctsAt f c) (length s) chain i (pairAt s 0)
+      (omega (arith, length-entries pairAt pairSize s c (countsSize + f))) .1)
 
 -- ---- the pass over the conjuncts
 
@@ -147,11 +152,13 @@ module _ (types s : List ℕ) (p : Pair) (right : pairRight types s p ≡ true) 
       (and-left (lengthRight p && nodesRight types s p && whole (conjunctAt s p)) (numbered (conjunctAt s p)) right))
 
   pub pair-eighths : p .len % nodeSize ≡ 0
-  pair-eighths = eqb-true (p .len % nodeSize) 0 (and-right (ltb 0 (p .len) && leb (p .len) (nodeSize * mostNodes)) (eqb (p .len % nodeSize) 0) pair-length)
+  pair-eighths =
+      eqb-true (p .len % nodeSize) 0 (and-right (ltb 0 (p .len) && leb (p .len) (nodeSize * mostNodes)) (eqb (p .len % nodeSize) 0) pair-length)
 
   pub pair-short : p .len ≤ nodeSize * mostNodes
   pair-short = leb-true (p .len) (nodeSize * mostNodes)
-      (and-right (ltb 0 (p .len)) (leb (p .len) (nodeSize * mostNodes)) (and-left (ltb 0 (p .len) && leb (p .len) (nodeSize * mostNodes)) (eqb (p .len % nodeSize) 0) pair-length))
+      (and-right (ltb 0 (p .len)) (leb (p .len) (nodeSize * mostNodes))
+      (and-left (ltb 0 (p .len) && leb (p .len) (nodeSize * mostNodes)) (eqb (p .len % nodeSize) 0) pair-length))
 
 module _ (types s : List ℕ) (small : (i : ℕ) → getD s i 0 < 256) (p q : Pair)
     (in-p : p .offset + p .len ≤ length s) (in-q : q .offset + q .len ≤ length s) (right-p : pairRight types s p ≡ true)
@@ -166,7 +173,8 @@ module _ (types s : List ℕ) (small : (i : ℕ) → getD s i 0 < 256) (p q : Pa
       ∙ order-bytes types P Q (small-take (p .len) (drop (p .offset) s) (small-drop (p .offset) s small))
       (small-take (q .len) (drop (q .offset) s) (small-drop (q .offset) s small))
       (part-right s p in-p types ∙ pair-forms types s p right-p) (part-right s q in-q types ∙ pair-forms types s q right-q)
-      (ap (_% nodeSize) (part-length s p in-p) ∙ pair-eighths types s p right-p) (ap (_% nodeSize) (part-length s q in-q) ∙ pair-eighths types s q right-q))
+      (ap (_% nodeSize) (part-length s p in-p) ∙ pair-eighths types s p right-p)
+      (ap (_% nodeSize) (part-length s q in-q) ∙ pair-eighths types s q right-q))
 
 -- a test that all pairs pass
 pub every-pair : (test : Pair → Bool) (s : List ℕ) (at n : ℕ) → every test (pairsAt s at n) ≡ true → (i : ℕ) → i < n
@@ -176,16 +184,17 @@ every-pair test s at n h i l =
     (every-at test (pairAt s 0) (pairsAt s at n) h i (omega (arith, length-entries pairAt pairSize s n at)))
 
 -- two neighbours, by their parts
-pub order-neighbours : (s : List ℕ) (f c : ℕ) → chained (conjunctsAt f c) (pairsAt s (countsSize + f) c) (length s) ≡ true
-    → every (pairRight (part s countsSize f) s) (pairsAt s (countsSize + f) c) ≡ true
-    → ((i : ℕ) → getD s i 0 < 256) → (i : ℕ) → i + 1 < c → (t u : List ℕ) → t ≡ pairPart s (countsSize + f + pairSize * i) → u ≡ pairPart s (countsSize + f + pairSize * (i + 1))
-    → order (conjunctAt s (pairAt s (countsSize + f + pairSize * i))) (conjunctAt s (pairAt s (countsSize + f + pairSize * (i + 1))))
+pub order-neighbours : (s : List ℕ) (f c : ℕ) → linked s f c ≡ true
+    → every (pairRight (typesIn s f) s) (pairsOf s f c) ≡ true
+    → ((i : ℕ) → getD s i 0 < 256) → (i : ℕ) → i + 1 < c → (t u : List ℕ) → t ≡ pairPart s (pairPlace f i) → u ≡ pairPart s (pairPlace f (i + 1))
+    → order (conjunctAt s (pairAt s (pairPlace f i))) (conjunctAt s (pairAt s (pairPlace f (i + 1))))
     ≡ (compare (length t) (length u) then orderNumbers t u)
 order-neighbours s f c chain right small i more =
-    let types = part s countsSize f in
-    order-parts types s small (pairAt s (countsSize + f + pairSize * i)) (pairAt s (countsSize + f + pairSize * (i + 1))) (pair-inside s f c chain i (omega arith))
+    let types = typesIn s f in
+    order-parts types s small (pairAt s (pairPlace f i)) (pairAt s (pairPlace f (i + 1))) (pair-inside s f c chain i (omega arith))
     (pair-inside s f c chain (i + 1) more)
-    (every-pair (pairRight types s) s (countsSize + f) c right i (omega arith)) (every-pair (pairRight types s) s (countsSize + f) c right (i + 1) more)
+    (every-pair (pairRight types s) s (countsSize + f) c right i (omega arith))
+    (every-pair (pairRight types s) s (countsSize + f) c right (i + 1) more)
 
 -- conjuncts from the one with number i on
 abbrev pub conjunctsFrom : List ℕ → ℕ → ℕ → ℕ → Conjuncts
@@ -241,10 +250,10 @@ pairs-tests types s ps =
 -- the tests, with these counts
 unfoldable pub formBy : List ℕ → ℕ → ℕ → Bool
 formBy s c f =
-    let types = part s countsSize f in
-    let pairs = pairsAt s (countsSize + f) c in
-    leb countsSize (length s) && leb c mostConjuncts && leb f mostFields && chained (conjunctsAt f c) pairs (length s) && every typeRight types && every
-    (pairRight types s) pairs && rising (map (conjunctAt s) pairs)
+    let types = typesIn s f in
+    let pairs = pairsOf s f c in
+    leb countsSize (length s) && leb c mostConjuncts && leb f mostFields && linked s f c
+    && every typeRight types && every (pairRight types s) pairs && rising (map (conjunctAt s) pairs)
 
 regroup : (x a b c d r : Bool) → (x && (a && b && c && d) && r) ≡ (x && a && b && c && d && r)
 regroup false a b c d r = refl
@@ -254,9 +263,9 @@ pub read-form : (s : List ℕ)
     → readCondition s ≡ check (formBy s (u32At s 0) (u32At s 4)) wrongCondition (ok (record { types = typesOf s; conjuncts = conjunctsOf s }))
 unfolding readCondition formBy
 read-form s =
-    let ps = pairsAt s (countsSize + u32At s 4) (u32At s 0) in
-    let first = leb countsSize (length s) && leb (u32At s 0) mostConjuncts && leb (u32At s 4) mostFields && chained (conjunctsAt (u32At s 4) (u32At s 0)) ps
-    (length s) && every typeRight (typesOf s) in
+    let ps = pairsOf s (u32At s 4) (u32At s 0) in
+    let first = leb countsSize (length s) && leb (u32At s 0) mostConjuncts && leb (u32At s 4) mostFields && linked s (u32At s 4) (u32At s 0)
+    && every typeRight (typesOf s) in
     rw (pairs-tests (typesOf s) s ps)
     (ap (λ (b : Bool). check b wrongCondition (ok (record { types = typesOf s; conjuncts = conjunctsOf s })))
     (sym (regroup first (every lengthRight ps) (every (nodesRight (typesOf s) s) ps) (every whole (conjunctsOf s)) (every numbered (conjunctsOf s))
@@ -265,7 +274,8 @@ read-form s =
 module _ (s : List ℕ) where
   -- how many conjuncts and types a file holds
   pub conjuncts-count : length (conjunctsOf s) ≡ u32At s 0
-  conjuncts-count = length-map (pairsAt s (countsSize + u32At s 4) (u32At s 0)) (conjunctAt s) ∙ length-entries pairAt pairSize s (u32At s 0) (countsSize + u32At s 4)
+  conjuncts-count =
+      length-map (pairsOf s (u32At s 4) (u32At s 0)) (conjunctAt s) ∙ length-entries pairAt pairSize s (u32At s 0) (countsSize + u32At s 4)
 
   sizes-form : mapped sizes (readCondition s) ≡ check (formBy s (u32At s 0) (u32At s 4)) wrongCondition (ok (u32At s 0, length (typesOf s)))
   sizes-form =
@@ -292,36 +302,36 @@ getD-any (x ∷ xs) (suc i) d e h = getD-any xs i d e (omega arith)
 -- its tests pass, with its counts
 module _ (s : List ℕ) (c f : ℕ) (form : formBy s c f ≡ true) where
   abbrev begun : Bool
-  begun = leb countsSize (length s) && leb c mostConjuncts && leb f mostFields && chained (conjunctsAt f c) (pairsAt s (countsSize + f) c) (length s)
+  begun = leb countsSize (length s) && leb c mostConjuncts && leb f mostFields && linked s f c
 
   abbrev rights : Bool
-  rights = every (pairRight (part s countsSize f) s) (pairsAt s (countsSize + f) c)
+  rights = every (pairRight (typesIn s f) s) (pairsOf s f c)
 
-  first-six : (begun && every typeRight (part s countsSize f) && rights) ≡ true
+  first-six : (begun && every typeRight (typesIn s f) && rights) ≡ true
   unfolding formBy
-  first-six = and-left (begun && every typeRight (part s countsSize f) && rights) (rising (map (conjunctAt s) (pairsAt s (countsSize + f) c))) form
+  first-six = and-left (begun && every typeRight (typesIn s f) && rights) (rising (map (conjunctAt s) (pairsOf s f c))) form
 
   first-four : begun ≡ true
-  first-four = and-left begun (every typeRight (part s countsSize f)) (and-left (begun && every typeRight (part s countsSize f)) rights first-six)
+  first-four = and-left begun (every typeRight (typesIn s f)) (and-left (begun && every typeRight (typesIn s f)) rights first-six)
 
-  pub form-chained : chained (conjunctsAt f c) (pairsAt s (countsSize + f) c) (length s) ≡ true
-  form-chained = and-right (leb countsSize (length s) && leb c mostConjuncts && leb f mostFields) (chained (conjunctsAt f c) (pairsAt s (countsSize + f) c) (length s)) first-four
+  pub form-chained : linked s f c ≡ true
+  form-chained = and-right (leb countsSize (length s) && leb c mostConjuncts && leb f mostFields) (linked s f c) first-four
 
-  pub form-types : every typeRight (part s countsSize f) ≡ true
-  form-types = and-right begun (every typeRight (part s countsSize f)) (and-left (begun && every typeRight (part s countsSize f)) rights first-six)
+  pub form-types : every typeRight (typesIn s f) ≡ true
+  form-types = and-right begun (every typeRight (typesIn s f)) (and-left (begun && every typeRight (typesIn s f)) rights first-six)
 
   pub form-pairs : rights ≡ true
-  form-pairs = and-right (begun && every typeRight (part s countsSize f)) rights first-six
+  form-pairs = and-right (begun && every typeRight (typesIn s f)) rights first-six
 
   -- the pair of a conjunct
-  pub form-pair : (i : ℕ) → i < c → pairRight (part s countsSize f) s (pairAt s (countsSize + f + pairSize * i)) ≡ true
-  form-pair i h = every-pair (pairRight (part s countsSize f) s) s (countsSize + f) c form-pairs i h
+  pub form-pair : (i : ℕ) → i < c → pairRight (typesIn s f) s (pairAt s (pairPlace f i)) ≡ true
+  form-pair i h = every-pair (pairRight (typesIn s f) s) s (countsSize + f) c form-pairs i h
 
 pub record Counted (s : List ℕ) (c f : ℕ) : Type 0 where
   pub conjuncts : c ≡ u32At s 0
   pub fields : f ≡ u32At s 4
   pub form : formBy s c f ≡ true
-  pub table : countsSize + f + pairSize * c ≤ length s
+  pub table : conjunctsAt f c ≤ length s
 
 pub counted-read : (s : List ℕ) (k : Counts) → ConditionIsRead s k → Counted s (k .conjuncts) (k .fields)
 counted-read s k read =
@@ -334,28 +344,29 @@ counted-read s k read =
 
 -- a conjunct's part
 module _ (s : List ℕ) (k : Counts) (read : ConditionIsRead s k) (i : ℕ) (h : i < k .conjuncts) where
-  pub conjunct-inside : pairAt s (countsSize + k .fields + pairSize * i) .offset + pairAt s (countsSize + k .fields + pairSize * i) .len ≤ length s
+  pub conjunct-inside : pairAt s (pairPlace (k .fields) i) .offset + pairAt s (pairPlace (k .fields) i) .len ≤ length s
   conjunct-inside =
       let q = counted-read s k read in
       pair-inside s (k .fields) (k .conjuncts) (form-chained s (k .conjuncts) (k .fields) (q .form)) i h
 
-  pub conjunct-nodes : partNodes (pairPart s (countsSize + k .fields + pairSize * i)) ≡ getD (conjunctsOf s) i []
+  pub conjunct-nodes : partNodes (pairPart s (pairPlace (k .fields) i)) ≡ getD (conjunctsOf s) i []
   conjunct-nodes =
       let q = counted-read s k read in
-      let p = pairAt s (countsSize + k .fields + pairSize * i) in
-      let ps = pairsAt s (countsSize + u32At s 4) (u32At s 0) in
+      let p = pairAt s (pairPlace (k .fields) i) in
+      let ps = pairsOf s (u32At s 4) (u32At s 0) in
       let m : length (map (conjunctAt s) ps) ≡ u32At s 0 = conjuncts-count s in
       part-nodes s p conjunct-inside
-      ∙ ap (λ (f : ℕ). conjunctAt s (pairAt s (countsSize + f + pairSize * i))) (q .fields)
+      ∙ ap (λ (f : ℕ). conjunctAt s (pairAt s (pairPlace f i))) (q .fields)
       ∙ sym (getD-any (map (conjunctAt s) ps) i [] (conjunctAt s (pairAt s 0)) (rw m (subst (λ (c : ℕ). i < c) (q .conjuncts) h))
       ∙ List·getD-map (conjunctAt s) ps i (pairAt s 0)
-      ∙ ap (conjunctAt s) (entries-getD pairAt pairSize s (u32At s 0) (countsSize + u32At s 4) i (pairAt s 0) (subst (λ (c : ℕ). i < c) (q .conjuncts) h)))
+      ∙ ap (conjunctAt s)
+      (entries-getD pairAt pairSize s (u32At s 0) (countsSize + u32At s 4) i (pairAt s 0) (subst (λ (c : ℕ). i < c) (q .conjuncts) h)))
 
-  pub conjunct-short : length (pairPart s (countsSize + k .fields + pairSize * i)) ≤ nodeSize * mostNodes
+  pub conjunct-short : length (pairPart s (pairPlace (k .fields) i)) ≤ nodeSize * mostNodes
   conjunct-short =
       let q = counted-read s k read in
-      let p = pairAt s (countsSize + k .fields + pairSize * i) in
-      rw (part-length s p conjunct-inside) (pair-short (part s countsSize (k .fields)) s p (form-pair s (k .conjuncts) (k .fields) (q .form) i h))
+      let p = pairAt s (pairPlace (k .fields) i) in
+      rw (part-length s p conjunct-inside) (pair-short (typesIn s (k .fields)) s p (form-pair s (k .conjuncts) (k .fields) (q .form) i h))
 
 -- what the model's reader gives
 pub condition-read : (s : List ℕ) (C : Condition) → readCondition s ≡ ok C → (C .types ≡ typesOf s) × (C .conjuncts ≡ conjunctsOf s)
@@ -382,29 +393,29 @@ module _ (s : List ℕ) (c f : ℕ) where
 
     module _ (few : c ≤ mostConjuncts) (narrow : f ≤ mostFields) where
       form-rest : formBy s c f
-          ≡ (chained (conjunctsAt f c) (pairsAt s (countsSize + f) c) (length s) && every typeRight (part s countsSize f) && every (pairRight (part s countsSize f) s)
-          (pairsAt s (countsSize + f) c)
-          && rising (map (conjunctAt s) (pairsAt s (countsSize + f) c)))
+          ≡ (linked s f c && every typeRight (typesIn s f) && every (pairRight (typesIn s f) s)
+          (pairsOf s f c)
+          && rising (map (conjunctAt s) (pairsOf s f c)))
       unfolding formBy
       form-rest = rw (le-leb countsSize (length s) begins, le-leb c mostConjuncts few, le-leb f mostFields narrow)
 
-      pub form-unchained : chained (conjunctsAt f c) (pairsAt s (countsSize + f) c) (length s) ≡ false → formBy s c f ≡ false
+      pub form-unchained : linked s f c ≡ false → formBy s c f ≡ false
       form-unchained h = form-rest ∙ rw h
 
-      pub form-cut : length s < countsSize + f + pairSize * c → formBy s c f ≡ false
+      pub form-cut : length s < conjunctsAt f c → formBy s c f ≡ false
       form-cut h =
-          case (chained (conjunctsAt f c) (pairsAt s (countsSize + f) c) (length s))
-          (λ z. chained (conjunctsAt f c) (pairsAt s (countsSize + f) c) (length s) ≡ z → formBy s c f ≡ false)
+          case (linked s f c)
+          (λ z. linked s f c ≡ z → formBy s c f ≡ false)
           (λ q r. absurd (omega (arith, table-inside s f c q))) (λ q r. form-unchained q) refl
 
-      module _ (chain : chained (conjunctsAt f c) (pairsAt s (countsSize + f) c) (length s) ≡ true) where
-        pub form-untyped : every typeRight (part s countsSize f) ≡ false → formBy s c f ≡ false
+      module _ (chain : linked s f c ≡ true) where
+        pub form-untyped : every typeRight (typesIn s f) ≡ false → formBy s c f ≡ false
         form-untyped h = form-rest ∙ rw (chain, h)
 
-        module _ (typed : every typeRight (part s countsSize f) ≡ true) where
-          pub form-wrong : every (pairRight (part s countsSize f) s) (pairsAt s (countsSize + f) c) ≡ false → formBy s c f ≡ false
+        module _ (typed : every typeRight (typesIn s f) ≡ true) where
+          pub form-wrong : every (pairRight (typesIn s f) s) (pairsOf s f c) ≡ false → formBy s c f ≡ false
           form-wrong h = form-rest ∙ rw (chain, typed, h)
 
-          pub form-is : every (pairRight (part s countsSize f) s) (pairsAt s (countsSize + f) c) ≡ true
-              → formBy s c f ≡ rising (map (conjunctAt s) (pairsAt s (countsSize + f) c))
+          pub form-is : every (pairRight (typesIn s f) s) (pairsOf s f c) ≡ true
+              → formBy s c f ≡ rising (map (conjunctAt s) (pairsOf s f c))
           form-is h = form-rest ∙ rw (chain, typed, h)

@@ -10,11 +10,11 @@ use Rattle.arith.specs.Step.{fits}
 use Rattle.arith.specs.Words.{immediate}
 use Rattle.model.specs.Lists.{every}
 use Rattle.model.specs.Refusals.{Out, ok, refused, mapped, check, wrongCondition}
-use Rattle.model.specs.Bytes.{byteAt, u16At, u32At, part, Pair, pairAt, entries, pairsAt}
+use Rattle.model.specs.Bytes.{byteAt, u16At, u32At, part, Pair, pairAt, entries, pairsAt, chained}
 use Rattle.model.specs.Values.{add, sub, mul, div}
 use Rattle.model.specs.Program.{typeRight}
 use Rattle.model.specs.Conjunct.{field, Node as ModelNode, const, atom, op, conv, Conj, Conjuncts}
-use Rattle.model.specs.Condition.{Condition, nodeAt, nodeRight, nodesRight, conjunctAt, whole, numbered, lengthRight, readCondition}
+use Rattle.model.specs.Condition.{Condition, conjunctsAt, nodeAt, nodeRight, nodesRight, conjunctAt, whole, numbered, lengthRight, readCondition}
 use Rattle.condition.specs.declared.Node.{Node}
 use Rattle.condition.specs.declared.NodeRead.{NodeRead}
 use Rattle.condition.specs.declared.NodeRead.the-variants.{Node as Entry, Refused as Wrong}
@@ -80,6 +80,21 @@ partRight types s = every (λ b. b) (entries (nodeRight types) nodeSize s 0 (len
 abbrev pub pairPart : List ℕ → ℕ → List ℕ
 pairPart s a = part s (pairAt s a .offset) (pairAt s a .len)
 
+-- the types and the pairs of a file with so many fields and conjuncts
+abbrev pub typesIn : List ℕ → (fields : ℕ) → List ℕ
+typesIn s f = part s countsSize f
+
+abbrev pub pairsOf : List ℕ → (fields conjuncts : ℕ) → List Pair
+pairsOf s f c = pairsAt s (countsSize + f) c
+
+-- the conjuncts stand one after the other from behind the pairs to the file's end
+abbrev pub linked : List ℕ → (fields conjuncts : ℕ) → Bool
+linked s f c = chained (conjunctsAt f c) (pairsOf s f c) (length s)
+
+-- where the pair of a conjunct stands, in a file with so many fields
+abbrev pub pairPlace : (fields i : ℕ) → ℕ
+pairPlace f i = countsSize + f + pairSize * i
+
 -- the tests of one pair
 unfoldable pub pairRight : List ℕ → List ℕ → Pair → Bool
 pairRight types s p = lengthRight p && nodesRight types s p && whole (conjunctAt s p) && numbered (conjunctAt s p)
@@ -112,10 +127,10 @@ ConditionIsRead s k = mapped sizes (readCondition s) ≡ ok (sizesOf k)
 
 -- the types and the conjuncts that a file holds
 abbrev pub typesOf : List ℕ → List ℕ
-typesOf s = part s countsSize (u32At s 4)
+typesOf s = typesIn s (u32At s 4)
 
 abbrev pub conjunctsOf : List ℕ → Conjuncts
-conjunctsOf s = map (conjunctAt s) (pairsAt s (countsSize + u32At s 4) (u32At s 0))
+conjunctsOf s = map (conjunctAt s) (pairsOf s (u32At s 4) (u32At s 0))
 
 -- ---- a pair and its part
 
@@ -128,6 +143,6 @@ pub record PairInside (s : List ℕ) (fields at : ℕ) : Type 0 where
 
 -- a list is the bytes of the conjunct with a number, and its nodes are the conjunct's
 pub record ConjunctIs (s : List ℕ) (k : Counts) (i : ℕ) (bytes : List ℕ) : Type 0 where
-  pub is-part : bytes ≡ pairPart s (countsSize + k .fields + pairSize * i)
+  pub is-part : bytes ≡ pairPart s (pairPlace (k .fields) i)
   pub nodes : partNodes bytes ≡ getD (conjunctsOf s) i []
   pub short : length bytes ≤ nodeSize * mostNodes

@@ -11,10 +11,10 @@ ghost use Rattle.model.specs.Sizes.{mostFields, mostNodes, nodeSize, countsSize
 ghost use Rattle.model.specs.Bytes.{part, pairAt, pairsAt, chained};
 ghost use Rattle.model.specs.Program.{typeRight};
 ghost use Rattle.model.specs.Conjunct.{_then_, orderNumbers};
-ghost use Rattle.model.specs.Condition.{conjunctsAt, nodeAt, nodeRight, conjunctAt, whole, numbered, isBefore, rising, readCondition};
+ghost use Rattle.model.specs.Condition.{nodeAt, nodeRight, conjunctAt, whole, numbered, isBefore, rising, readCondition};
 ghost use Rattle.condition.specs.Answers.{constantRight, readingRight, operationRight, rightBy, NodeIs, EntryIs, nodeOut};
 ghost use Rattle.condition.specs.Answers.{conjunctAnswer, formed, partNodes, partRight, pairPart, pairRight, sizes, conditionAnswer};
-ghost use Rattle.condition.specs.Answers.{ConditionIsRead, PairInside, ConjunctIs, typesOf};
+ghost use Rattle.condition.specs.Answers.{ConditionIsRead, PairInside, ConjunctIs, typesOf, typesIn, pairsOf, linked};
 
 // ---- the sizes of the condition file
 
@@ -320,7 +320,8 @@ fn is_chained(condition: &[u8], at: usize, count: usize, start: usize) -> bool
 
 // The part of the pair at a place.
 fn part_at(condition: &[u8], at: usize) -> &[u8]
-    requires { ⌜ (at + pairSize ≤ length (now condition)) × (pairAt (now condition) at .offset + pairAt (now condition) at .len ≤ length (now condition)) ⌝ }
+    requires { ⌜ (at + pairSize ≤ length (now condition))
+        × (pairAt (now condition) at .offset + pairAt (now condition) at .len ≤ length (now condition)) ⌝ }
     ensures { λ r. ⌜ now r ≡ pairPart (now (condition .entry)) at ⌝ }
 {
     let start = bytes_le::u32_at(condition, at) as usize;
@@ -349,7 +350,7 @@ fn read_conjunct(types: &[u8], part: &[u8]) -> ConjunctRead
 fn read_pair(condition: &[u8], fields: usize, at: usize) -> ConjunctRead
     requires { ⌜ PairInside (now condition) fields at ⌝ }
     ensures { λ r. ⌜ conjunctAnswer r ≡ formed
-        (pairRight (part (now (condition .entry)) countsSize fields) (now (condition .entry)) (pairAt (now (condition .entry)) at)) ⌝ }
+        (pairRight (typesIn (now (condition .entry)) fields) (now (condition .entry)) (pairAt (now (condition .entry)) at)) ⌝ }
 {
     let held = part_at(condition, at);
     let len = held.len();
@@ -369,10 +370,10 @@ fn read_pair(condition: &[u8], fields: usize, at: usize) -> ConjunctRead
 // Every conjunct is in its form.
 fn read_conjuncts(condition: &[u8], fields: usize, count: usize) -> ConjunctRead
     requires { ⌜ (fields ≤ mostFields)
-        × (chained (conjunctsAt fields count) (pairsAt (now condition) (countsSize + fields) count) (length (now condition)) ≡ true) ⌝ }
+        × (linked (now condition) fields count ≡ true) ⌝ }
     ensures { λ r. ⌜ conjunctAnswer r ≡ formed
-        (every (pairRight (part (now (condition .entry)) countsSize fields) (now (condition .entry)))
-        (pairsAt (now (condition .entry)) (countsSize + fields) count)) ⌝ }
+        (every (pairRight (typesIn (now (condition .entry)) fields) (now (condition .entry)))
+        (pairsOf (now (condition .entry)) fields count)) ⌝ }
 {
     let mut i: usize = 0;
     while i < count {
@@ -397,9 +398,9 @@ fn conjunct_refusal(read: ConjunctRead) -> u8
 
 // The conjuncts stand in rising order, none twice: each before the next.
 fn is_rising(condition: &[u8], fields: usize, count: usize) -> bool
-    requires { ⌜ (chained (conjunctsAt fields count) (pairsAt (now condition) (countsSize + fields) count) (length (now condition)) ≡ true)
-        × (every (pairRight (part (now condition) countsSize fields) (now condition)) (pairsAt (now condition) (countsSize + fields) count) ≡ true) ⌝ }
-    ensures { λ r. ⌜ r ≡ rising (map (conjunctAt (now (condition .entry))) (pairsAt (now (condition .entry)) (countsSize + fields) count)) ⌝ }
+    requires { ⌜ (linked (now condition) fields count ≡ true)
+        × (every (pairRight (typesIn (now condition) fields) (now condition)) (pairsOf (now condition) fields count) ≡ true) ⌝ }
+    ensures { λ r. ⌜ r ≡ rising (map (conjunctAt (now (condition .entry))) (pairsOf (now (condition .entry)) fields count)) ⌝ }
 {
     let mut i: usize = 0;
     while i + 1 < count {

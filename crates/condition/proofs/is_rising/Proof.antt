@@ -1,14 +1,14 @@
 -- `condition::is_rising` meets its contract.
 use mathlib.Core.Path.{_≡_, sym, _∙_, ap}
 use mathlib.Core.List.{map}
-use Prim.Native.Nat.{_+_, _*_, _-_, _≤_}
+use Prim.Native.Nat.{_+_, _-_, _≤_}
 use native.Mathlib.Omega.{arith}
 use lib.ListN.{length}
 use borrow.Author.Tests.{not-true, not-false}
-use Rattle.model.specs.Sizes.{countsSize, pairSize}
+use Rattle.model.specs.Sizes.{countsSize}
+use Rattle.condition.specs.Answers.{pairsOf}
 use Rattle.condition.proofs.Table.{table-inside, pair-inside, order-neighbours, conjunctsFrom, rising-on, rising-off, rising-end}
-use Rattle.model.specs.Bytes.{pairsAt}
-use Rattle.model.specs.Condition.{conjunctAt, isBefore, rising}
+use Rattle.model.specs.Condition.{conjunctAt, isBefore, rising, conjunctsAt}
 use Rattle.condition.proofs.Passes.{pairs-all}
 use borrow.Author.Needs.{needs}
 use Rattle.condition.proofs.is_rising.Statement.{statement}
@@ -16,8 +16,8 @@ use Rattle.condition.proofs.is_rising.Tie as tie
 
 abbrev Inv-loop : tie.InvT-loop
 Inv-loop condition fields count i₀ i =
-    (i ≤ count) × (countsSize + fields + pairSize * count ≤ length condition)
-    × (rising (map (conjunctAt condition) (pairsAt condition (countsSize + fields) count)) ≡ rising (conjunctsFrom condition (countsSize + fields) count i))
+    (i ≤ count) × (conjunctsAt fields count ≤ length condition)
+    × (rising (map (conjunctAt condition) (pairsOf condition fields count)) ≡ rising (conjunctsFrom condition (countsSize + fields) count i))
 
 abbrev μ-loop : tie.MeasureT-loop
 μ-loop condition fields count i₀ i = count - i

@@ -8,12 +8,11 @@ use lib.ListN.{length}
 use borrow.Author.Needs.{needs}
 use borrow.Author.Tests.{not-true, not-false}
 use Rattle.model.specs.Sizes.{countsSize}
-use Rattle.model.specs.Bytes.{part, pairsAt, chained}
-use Rattle.model.specs.Condition.{conjunctsAt, conjunctAt, rising, readCondition}
+use Rattle.model.specs.Condition.{conjunctAt, rising, readCondition}
 use Rattle.model.specs.Lists.{every}
 use Rattle.model.specs.Program.{typeRight}
 use Rattle.model.specs.Refusals.{refused, mapped, wrongCondition}
-use Rattle.condition.specs.Answers.{conjunctAnswer, pairRight, sizes}
+use Rattle.condition.specs.Answers.{conjunctAnswer, pairRight, sizes, pairsOf, typesIn, linked}
 use Rattle.condition.proofs.Passes.{formed-true, formed-false}
 use Rattle.condition.proofs.Table.{types-taken, formBy, refuses, accepts, form-short, form-many, form-wide, form-cut}
 use Rattle.condition.proofs.Table.{form-unchained, form-untyped, form-wrong, form-is}
@@ -34,8 +33,8 @@ fields c = c .u32-at2 .result
 abbrev counted : tie.Else4 → tie.After-u32-at2
 counted c = c .before .before .before
 
-abbrev linked : tie.Else5 → tie.Else4
-linked c = c .before .before
+abbrev in-chain : tie.Else5 → tie.Else4
+in-chain c = c .before .before
 
 abbrev typed : tie.Else6 → tie.Else5
 typed c = c .before .before .before
@@ -49,27 +48,27 @@ not-read : (c : tie.After-u32-at2) → formBy (bytes c) (many c) (fields c) ≡ 
 not-read c e = refuses (bytes c) (many c) (fields c) (c .before .u32-at .ensures .0) (c .u32-at2 .ensures .0) e
 
 chain : (c : tie.Else5) → let k =
-    counted (linked c) in chained (conjunctsAt (fields k) (many k)) (pairsAt (bytes k) (countsSize + fields k) (many k)) (length (bytes k)) ≡ true
+    counted (in-chain c) in linked (bytes k) (fields k) (many k) ≡ true
 chain c = sym (c .before .is-chained .ensures) ∙ not-false (c .before .is-chained .result) (c .if5 .left)
 
-types : (c : tie.Else6) → let k = counted (linked (typed c)) in every typeRight (part (bytes k) countsSize (fields k)) ≡ true
+types : (c : tie.Else6) → let k = counted (in-chain (typed c)) in every typeRight (typesIn (bytes k) (fields k)) ≡ true
 types c =
-    let k = counted (linked (typed c)) in
+    let k = counted (in-chain (typed c)) in
     ap (every typeRight) (sym (types-taken (bytes k) (fields k))) ∙ sym (c .before .types-right .ensures)
     ∙ not-false (c .before .types-right .result) (c .if6 .left)
 
 pairs : (c : tie.After-enum-told) → let k =
-    counted (linked (typed (read c .before))) in every (pairRight (part (bytes k) countsSize (fields k)) (bytes k))
-    (pairsAt (bytes k) (countsSize + fields k) (many k)) ≡ true
+    counted (in-chain (typed (read c .before))) in every (pairRight (typesIn (bytes k) (fields k)) (bytes k))
+    (pairsOf (bytes k) (fields k) (many k)) ≡ true
 pairs c = formed-true _ (sym (ap conjunctAnswer (c .enum-told .given .1)) ∙ read c .read-conjuncts .ensures)
 
 -- the form is the order
 ordered : (c : tie.After-enum-told) → let k =
-    counted (linked (typed (read c .before))) in formBy (bytes k) (many k) (fields k)
-    ≡ rising (map (conjunctAt (bytes k)) (pairsAt (bytes k) (countsSize + fields k) (many k)))
+    counted (in-chain (typed (read c .before))) in formBy (bytes k) (many k) (fields k)
+    ≡ rising (map (conjunctAt (bytes k)) (pairsOf (bytes k) (fields k) (many k)))
 ordered c =
     let t = typed (read c .before) in
-    let w = linked t in
+    let w = in-chain t in
     let k = counted w in
     form-is (bytes k) (many k) (fields k) (k .before .before .if1 .left) (w .before .before .if2 .left) (w .before .if3 .left) (chain t)
     (types (read c .before)) (pairs c)
@@ -138,7 +137,7 @@ types-right-requires c κs = search needs
 returns-6 : tie.Need-returns-6
 returns-6 c =
     let t = c .before .before .before in
-    let w = linked t in
+    let w = in-chain t in
     let k = counted w in
     let wrong = ap (every typeRight) (sym (types-taken (bytes k) (fields k))) ∙ sym (c .before .types-right .ensures)
     ∙ not-true (c .before .types-right .result) (c .if6 .taken) in
@@ -146,7 +145,7 @@ returns-6 c =
     (chain t) wrong)
 
 read-conjuncts-requires : tie.Need-read-conjuncts-requires
-read-conjuncts-requires c κs = (linked (typed c) .before .if3 .left, chain (typed c))
+read-conjuncts-requires c κs = (in-chain (typed c) .before .if3 .left, chain (typed c))
 
 enum-told : tie.Need-enum-told
 enum-told c = search needs
@@ -162,7 +161,7 @@ returns-7 c =
     let g = c .before .enum-told2 .given in
     let r = c .before .before .before in
     let t = typed (r .before) in
-    let w = linked t in
+    let w = in-chain t in
     let k = counted w in
     let off = formed-false _ (g .0 .0) (sym (ap conjunctAnswer (g .1)) ∙ r .read-conjuncts .ensures) in
     let number = c .conjunct-refusal .ensures (g .0 .0) (ap conjunctAnswer (g .1)) ∙ off .1 in
@@ -175,12 +174,12 @@ is-rising-requires c κs = (chain (typed (read c .before)), pairs c)
 
 returns-8 : tie.Need-returns-8
 returns-8 c =
-    let k = counted (linked (typed (read (c .before .before) .before))) in
+    let k = counted (in-chain (typed (read (c .before .before) .before))) in
     not-read k (ordered (c .before .before) ∙ sym (c .before .is-rising .ensures) ∙ not-true (c .before .is-rising .result) (c .if7 .taken))
 
 returns-9 : tie.Need-returns-9
 returns-9 c =
-    let w = linked (typed (read (c .before .before) .before)) in
+    let w = in-chain (typed (read (c .before .before) .before)) in
     let k = counted w in
     let room : countsSize + fields k ≤ length (bytes k) = omega (arith, w .if4 .left) in
     accepts (bytes k) (many k) (fields k) (k .before .u32-at .ensures .0) (k .u32-at2 .ensures .0) room

@@ -2,14 +2,15 @@
 use mathlib.Core.Path.{_≡_, sym, ap, _∙_}
 use mathlib.Core.Bool.{Bool}
 use mathlib.Core.List.{List}
-use Prim.Native.Nat.{ℕ, _+_, _*_, _-_, _≤_}
+use Prim.Native.Nat.{ℕ, _+_, _-_, _≤_}
 use native.Mathlib.Omega.{arith}
 use lib.ListN.{length}
 use borrow.Author.Needs.{needs}
-use Rattle.model.specs.Sizes.{countsSize, pairSize}
-use Rattle.model.specs.Bytes.{part, Pair, pairAt, pairsAt}
+use Rattle.model.specs.Sizes.{countsSize}
+use Rattle.model.specs.Condition.{conjunctsAt}
+use Rattle.model.specs.Bytes.{Pair, pairAt}
 use Rattle.model.specs.Lists.{every}
-use Rattle.condition.specs.Answers.{conjunctAnswer, pairRight}
+use Rattle.condition.specs.Answers.{conjunctAnswer, pairRight, pairPlace, pairsOf, typesIn}
 use Rattle.condition.proofs.Passes.{pairsFrom, pairs-all, formed-true, formed-false}
 use Rattle.condition.proofs.Table.{table-inside, pair-inside, pairs-on, pairs-off, pairs-end}
 use Rattle.condition.proofs.read_conjuncts.Statement.{statement}
@@ -17,12 +18,12 @@ use Rattle.condition.proofs.read_conjuncts.Tie as tie
 
 -- the test of a pair
 abbrev test : List ℕ → ℕ → Pair → Bool
-test condition fields = pairRight (part condition countsSize fields) condition
+test condition fields = pairRight (typesIn condition fields) condition
 
 abbrev Inv-loop : tie.InvT-loop
 Inv-loop condition fields count i₀ i =
-    (i ≤ count) × (countsSize + fields + pairSize * count ≤ length condition)
-    × (every (test condition fields) (pairsAt condition (countsSize + fields) count)
+    (i ≤ count) × (conjunctsAt fields count ≤ length condition)
+    × (every (test condition fields) (pairsOf condition fields count)
     ≡ every (test condition fields) (pairsFrom condition (countsSize + fields) count i))
 
 abbrev μ-loop : tie.MeasureT-loop
@@ -37,7 +38,7 @@ start c = c .before .before .before
 abbrev tested : tie.In-loop Inv-loop μ-loop → Bool
 tested c =
     let g = start c .args in
-    test (g .condition .now) (g .fields) (pairAt (g .condition .now) (countsSize + g .fields + pairSize * c .before .loop .i))
+    test (g .condition .now) (g .fields) (pairAt (g .condition .now) (pairPlace (g .fields) (c .before .loop .i)))
 
 -- ---- the answers
 

@@ -5,9 +5,8 @@ use Prim.Native.Nat.{ℕ}
 use denote.Ref.{now}
 use native.Mathlib.Omega.{arith}
 use borrow.Author.Needs.{needs}
-use Rattle.model.specs.Sizes.{countsSize}
-use Rattle.model.specs.Bytes.{part, Pair, pairAt}
-use Rattle.condition.specs.Answers.{formed}
+use Rattle.model.specs.Bytes.{Pair, pairAt}
+use Rattle.condition.specs.Answers.{formed, typesIn}
 use Rattle.condition.proofs.Nodes.{some}
 use Rattle.condition.proofs.Table.{pair-empty, pair-long, pair-broken, pair-part, types-taken, types-count}
 use Rattle.condition.proofs.read_pair.Statement.{statement}
@@ -22,7 +21,7 @@ abbrev bytes : tie.After-part-at → List ℕ
 bytes c = start c .args .condition .now
 
 abbrev types : tie.After-part-at → List ℕ
-types c = part (bytes c) countsSize (start c .args .fields)
+types c = typesIn (bytes c) (start c .args .fields)
 
 abbrev pair : tie.After-part-at → Pair
 pair c = pairAt (bytes c) (start c .args .at)

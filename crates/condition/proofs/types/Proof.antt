@@ -2,9 +2,8 @@
 use mathlib.Core.Path.{_∙_, ap}
 use Prim.Native.Nat.{_-_}
 use native.Mathlib.Omega.{arith}
-use Rattle.model.specs.Sizes.{countsSize}
+use Rattle.condition.specs.Answers.{typesIn}
 use Rattle.condition.proofs.Table.{counted-read}
-use Rattle.model.specs.Bytes.{part}
 use Rattle.condition.proofs.Table.{types-taken, types-count}
 use borrow.Author.Needs.{needs}
 use Rattle.condition.proofs.types.Statement.{statement}
@@ -29,7 +28,7 @@ returns c =
     let g = c .before .before in
     let k = counted-read (g .args .condition .now) (g .args .counts) (g .pre) in (
       types-taken (g .args .condition .now) (g .args .counts .fields)
-          ∙ ap (part (g .args .condition .now) countsSize) (k .fields),
+          ∙ ap (typesIn (g .args .condition .now)) (k .fields),
       types-count (g .args .condition .now) (g .args .counts .fields) (omega (arith, k .table)),
     )
 
