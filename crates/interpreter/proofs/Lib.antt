@@ -3,6 +3,7 @@ pub mod Statements
 pub mod Settling
 pub mod Logs
 pub mod Choices
+pub mod Operands
 pub mod Steps
 pub mod Starts
 pub mod Readings

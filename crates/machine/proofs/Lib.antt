@@ -1,4 +1,5 @@
 pub mod Stores
+pub mod Clearing
 pub mod Numbers
 pub mod Records
 pub mod Executions
