@@ -1,7 +1,6 @@
 -- What the functions for one conjunct are given and promise: the right side of an assignment, and what is added to the set of a region.
 use mathlib.Core.Bool.{false}
 use mathlib.Core.List.{List, []}
-use mathlib.Core.Logic.{_≢_}
 use mathlib.Core.Path.{_≡_}
 use Prim.Native.Nat.{ℕ, _+_, _≤_, _<_, _^_}
 use lib.ListN.{length}
@@ -13,7 +12,7 @@ use Rattle.model.specs.Kinds.{Kind, aNumber, aCopy, anOperation, aConversion, a
 use Rattle.model.specs.Sizes.{mostConjuncts, mostNodes}
 use Rattle.model.specs.TidySets.{Canon, Sub, Numbered}
 use Rattle.code_table.specs.declared.Decoded.{Decoded}
-use Rattle.code_table.specs.Statements.{Known}
+use Rattle.code_table.specs.Statements.{numberOf, OtherThan, Known}
 use Rattle.conjunct.specs.Value.{conjOf}
 use Rattle.sets.specs.Region.{setOf, regionWords}
 use Rattle.rules.specs.declared.Answer.{Answer}
@@ -66,16 +65,16 @@ pub record Given (s : List ℕ) (b : ℕ) (e : List ℕ) (n : ℕ) (out seen : L
   pub buffers : Buffers out seen
 
 -- a statement with its label, of a kind up to the last
-pub record Labelled (l : ℕ) (d : Decoded) (last : ℕ) : Type 0 where
+pub record Labelled (l : ℕ) (d : Decoded) (last : Kind) : Type 0 where
   pub label : l < 2 ^ 16
-  pub kind : d .kind ≤ last
+  pub kind : d .kind ≤ numberOf last
   pub known : Known d
 
 -- what is given with one conjunct and a statement of a kind up to the last: the conjunct is numbered, and where the statement is no
 -- store, so that a conjunct comes to one, the set has room for one
-pub record GivenStatement (s : List ℕ) (b : ℕ) (e : List ℕ) (n : ℕ) (out seen : List ℕ) (label : ℕ) (d : Decoded) (last : ℕ) : Type 0 where
+pub record GivenStatement (s : List ℕ) (b : ℕ) (e : List ℕ) (n : ℕ) (out seen : List ℕ) (label : ℕ) (d : Decoded) (last : Kind) : Type 0 where
   pub given : Given s b e n out seen
-  pub space : d .kind ≢ 9 → length (setOf s b) < mostConjuncts
+  pub space : OtherThan aStore d → length (setOf s b) < mostConjuncts
   pub statement : Labelled label d last
   pub numbered : Numbered (conjOf e n)
 
@@ -84,5 +83,5 @@ pub record GivenSet (s : List ℕ) (b room label : ℕ) (d : Decoded) : Type 0 w
   pub apart : b + regionWords ≤ room
   pub there : room + regionWords ≤ length s
   pub empty : setOf s room ≡ []
-  pub statement : Labelled label d 10
+  pub statement : Labelled label d aSite
   pub numbered : All Numbered (setOf s b)

@@ -1,17 +1,17 @@
 // The rule of one statement on a set of conjuncts. A conjunct is the first n of lent words; `out` and
 // `seen` are room for 120 words each to work in.
 ghost use mathlib.Core.Path.{_≡_};
-ghost use mathlib.Core.Logic.{_≢_};
 ghost use mathlib.Core.List.{List, [], _∷_, map};
 ghost use Prim.Native.Nat.{ℕ, _+_, _*_, _≤_, _<_, _^_};
 ghost use lib.ListN.{length, getD, take};
 ghost use Rattle.model.specs.Conjunct.{Atom, atom, var, atoms, renumber};
+ghost use Rattle.model.specs.Kinds.{aLoad, aStore, aSite};
 ghost use Rattle.model.specs.Lists.{All};
 ghost use Rattle.model.specs.Walk.{nodes, loads, swapAll, subsets, before, back};
 ghost use Rattle.model.specs.Sizes.{mostNodes};
 ghost use Rattle.model.specs.TidySets.{Numbered};
 ghost use Rattle.model.specs.Touch.{writes};
-ghost use Rattle.code_table.specs.Statements.{instrOf, Known};
+ghost use Rattle.code_table.specs.Statements.{numberOf, OfKind, instrOf, Known};
 ghost use Rattle.conjunct.specs.Word.{nodeOf, nodesOf};
 ghost use Rattle.conjunct.specs.Value.{conjOf};
 ghost use Rattle.conjunct.specs.Behind.{rightOf};
@@ -65,7 +65,7 @@ fn three_nodes(u: u64, v: u64, w: u64) -> Right
 
 // the right side's nodes; a read or a load is a fresh atom
 fn right_side(label: u64, d: Decoded) -> Right
-    requires { ⌜ Labelled label d 8 ⌝ }
+    requires { ⌜ Labelled label d aLoad ⌝ }
     ensures { λ r. ⌜ (r .len ≤ 3) × (rightOf r ≡ nodes label (d .ty) (sideOf d)) ⌝ }
 {
     let kind = d.kind;
@@ -108,9 +108,9 @@ fn assign_one(
     out: &mut [u64],
     seen: &mut [u64],
 ) -> Answer
-    requires { ⌜ GivenStatement (now s) room (now e) n (now out) (now seen) label d 8 ⌝ }
+    requires { ⌜ GivenStatement (now s) room (now e) n (now out) (now seen) label d aLoad ⌝ }
     ensures { λ r. ⌜
-        Added r (λ G. d .kind ≡ 9 → NoneLong G) (map renumber (before label (instrOf d) (conjOf (now (e .entry)) n)))
+        Added r (λ G. OfKind aStore d → NoneLong G) (map renumber (before label (instrOf d) (conjOf (now (e .entry)) n)))
         room (now (s .entry)) (now (s .exit))
         × Within room (now (s .entry)) (now (s .exit))
         ⌝ }
@@ -289,7 +289,7 @@ fn store_one(
     out: &mut [u64],
     seen: &mut [u64],
 ) -> Answer
-    requires { ⌜ Given (now s) room (now e) n (now out) (now seen) × (d .kind ≡ 9) × Known d ⌝ }
+    requires { ⌜ Given (now s) room (now e) n (now out) (now seen) × OfKind aStore d × Known d ⌝ }
     ensures { λ r. ⌜
         ((label : ℕ) → Added r NoneLong (map renumber (before label (instrOf d) (conjOf (now (e .entry)) n)))
         room (now (s .entry)) (now (s .exit)))
@@ -311,7 +311,7 @@ fn store_one(
 
 // Whether the statement d changes what the conjunct speaks of.
 fn touched(e: &[u64], n: usize, d: Decoded) -> bool
-    requires { ⌜ (n ≤ length (now e)) × (d .kind ≤ 10) ⌝ }
+    requires { ⌜ (n ≤ length (now e)) × (d .kind ≤ numberOf aSite) ⌝ }
     ensures { λ r. ⌜ r ≡ writes (instrOf d) (conjOf (now (e .entry)) n) ⌝ }
 {
     let kind = d.kind;
@@ -337,9 +337,9 @@ fn add_before(
     out: &mut [u64],
     seen: &mut [u64],
 ) -> Answer
-    requires { ⌜ GivenStatement (now s) room (now e) n (now out) (now seen) label d 10 ⌝ }
+    requires { ⌜ GivenStatement (now s) room (now e) n (now out) (now seen) label d aSite ⌝ }
     ensures { λ r. ⌜
-        Added r (λ G. d .kind ≡ 9 → NoneLong G) (map renumber (before label (instrOf d) (conjOf (now (e .entry)) n)))
+        Added r (λ G. OfKind aStore d → NoneLong G) (map renumber (before label (instrOf d) (conjOf (now (e .entry)) n)))
         room (now (s .entry)) (now (s .exit))
         × Within room (now (s .entry)) (now (s .exit))
         ⌝ }
@@ -406,7 +406,7 @@ fn gather_all(s: &mut [u64], b: usize, room: usize, label: u64, d: Decoded) -> A
 // b + sets::REGION, is room to work in.
 pub fn rule(s: &mut [u64], b: usize, label: u64, d: Decoded) -> Answer
     requires { ⌜
-        (b + 2 * regionWords ≤ length (now s)) × (label < 2 ^ 16) × (d .kind ≤ 10) × Known d × All Numbered (setOf (now s) b)
+        (b + 2 * regionWords ≤ length (now s)) × (label < 2 ^ 16) × (d .kind ≤ numberOf aSite) × Known d × All Numbered (setOf (now s) b)
         ⌝ }
     ensures { λ r. ⌜
         (back label (instrOf d) (setOf (now (s .entry)) b) ≡ answered r (setOf (now (s .exit)) b))
