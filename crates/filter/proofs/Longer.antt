@@ -1,23 +1,21 @@
 -- Files that are longer than any of their form: the filter refuses them, so it answers alike where only one byte more than
 -- the longest is looked at.
 use mathlib.Core.Path.{_≡_, refl, sym, ap, _∙_}
-use mathlib.Core.Bool.{Bool, true, false, _&&_, cond}
+use mathlib.Core.Bool.{true, _&&_, cond}
 use mathlib.Core.List.{List, [], _∷_}
-use Prim.Native.Nat.{ℕ, _+_, _*_, _/_, _%_, _≤_, _<_}
-use native.Mathlib.Nat.{mul-suc, mul-comm}
+use Prim.Native.Nat.{ℕ, _+_, _*_, _%_, _≤_, _<_}
+use native.Mathlib.Nat.{mul-suc}
 use native.Mathlib.Omega.{arith}
 use lib.Dec.{leb, ltb, eqb}
-use lib.IntN.{ℤ}
 use lib.ListN.{length, getD, take}
 use lib.Seq.{length-take-le, take-all}
 use borrow.Author.Tests.{eqb-true, leb-true, leb-false}
-use Rattle.model.specs.Sizes.{mostFields, mostReadings}
-use Rattle.arith.specs.Types.{bits}
 use Rattle.arith.proofs.Spans.{bits-le}
-use Rattle.model.specs.Lists.{All, every}
+use Rattle.model.specs.Sizes.{pairSize, countsSize, nodeSize, mostNodes, mostFields, mostReadings}
+use Rattle.model.specs.Lists.{All}
 use Rattle.model.specs.Refusals.{Out, ok, refused, _>>=_, check, wrongCondition, wrongInput}
 use Rattle.model.specs.Bytes.{u32At, part, Pair, pairAt, pairsAt, chained}
-use Rattle.model.specs.Condition.{Condition, conjunctsAt, readCondition}
+use Rattle.model.specs.Condition.{Condition, conditionBytes, conjunctsAt, readCondition}
 use Rattle.model.specs.Input.{Input, width, readingsOf, lengthsRight, readInput}
 use Rattle.model.specs.Failure.{verdict}
 use Rattle.model.proofs.Tests.{case, and-left, and-right}
@@ -30,6 +28,23 @@ use Rattle.filter.specs.Verdict.{judged}
 use Rattle.filter.proofs.Conjuncts.{form-few, form-narrow}
 use Rattle.filter.proofs.Verdicts.{verdict-steps}
 
+-- ---- the longest files
+
+-- the bytes of the widest reading
+abbrev readingBytes : ℕ
+readingBytes = 8
+
+-- the bytes of the longest conjunct, and of a field's most readings
+abbrev conjunctMost : ℕ
+conjunctMost = nodeSize * mostNodes
+
+abbrev partMost : ℕ
+partMost = mostReadings * readingBytes
+
+-- the bytes of the longest input: a pair and the most readings for each field
+abbrev pub inputBytes : ℕ
+inputBytes = mostFields * (pairSize + partMost)
+
 -- ---- parts of a bounded length, one after the other
 
 chained-end : (m : ℕ) (ps : List Pair) (a e : ℕ) → chained a ps e ≡ true → All (λ p. p .len ≤ m) ps → e ≤ a + m * length ps
@@ -41,27 +56,27 @@ chained-end m (p ∷ ps) a e h k =
 
 -- ---- the condition
 
-rights-short : (types s : List ℕ) (ps : List Pair) → All (λ p. pairRight types s p ≡ true) ps → All (λ p. p .len ≤ 960) ps
+rights-short : (types s : List ℕ) (ps : List Pair) → All (λ p. pairRight types s p ≡ true) ps → All (λ p. p .len ≤ conjunctMost) ps
 rights-short types s [] h = tt
 rights-short types s (p ∷ ps) h = (pair-short types s p (h .0), rights-short types s ps (h .1))
 
-form-bounded : (s : List ℕ) (c f : ℕ) → formBy s c f ≡ true → length s ≤ 61992
+form-bounded : (s : List ℕ) (c f : ℕ) → formBy s c f ≡ true → length s ≤ conditionBytes
 form-bounded s c f form =
-    let ps = pairsAt s (8 + f) c in
-    let short = rights-short (part s 8 f) s ps (every-all (pairRight (part s 8 f) s) ps (form-pairs s c f form)) in
+    let ps = pairsAt s (countsSize + f) c in
+    let short = rights-short (part s countsSize f) s ps (every-all (pairRight (part s countsSize f) s) ps (form-pairs s c f form)) in
     omega (
       arith,
-      chained-end 960 ps (conjunctsAt f c) (length s) (form-chained s c f form) short,
-      length-entries pairAt 8 s c (8 + f),
+      chained-end conjunctMost ps (conjunctsAt f c) (length s) (form-chained s c f form) short,
+      length-entries pairAt pairSize s c (countsSize + f),
       form-few s c f form,
       form-narrow s c f form,
     )
 
-condition-long : (s : List ℕ) → 61992 < length s → readCondition s ≡ refused 12
+condition-long : (s : List ℕ) → conditionBytes < length s → readCondition s ≡ refused wrongCondition
 condition-long s h =
     let C : Condition = record { types = typesOf s; conjuncts = conjunctsOf s } in
     read-form s
-    ∙ case (formBy s (u32At s 0) (u32At s 4)) (λ z. check z wrongCondition (ok C) ≡ refused 12)
+    ∙ case (formBy s (u32At s 0) (u32At s 4)) (λ z. check z wrongCondition (ok C) ≡ refused wrongCondition)
     (λ q. absurd (omega (arith, form-bounded s (u32At s 0) (u32At s 4) q))) (λ q. refl)
 
 -- a condition that is read has at most 32 fields
@@ -70,15 +85,15 @@ fields-few s C e =
     let D : Condition = record { types = typesOf s; conjuncts = conjunctsOf s } in
     let form = check-ok (formBy s (u32At s 0) (u32At s 4)) wrongCondition (ok D) C (sym (read-form s) ∙ e) .0 in
     let inside = table-inside s (u32At s 4) (u32At s 0) (form-chained s (u32At s 0) (u32At s 4) form) in
-    rw (condition-read s C e .0, length-part s 8 (u32At s 4) (omega arith)) (form-narrow s (u32At s 0) (u32At s 4) form)
+    rw (condition-read s C e .0, length-part s countsSize (u32At s 4) (omega arith)) (form-narrow s (u32At s 0) (u32At s 4) form)
 
 -- ---- the input
 
-width-le : (t : ℕ) → width t ≤ 8
+width-le : (t : ℕ) → width t ≤ readingBytes
 unfolding width
 width-le t = omega (arith, bits-le t)
 
-lengths-short : (types : List ℕ) (ps : List Pair) → length ps ≡ length types → lengthsRight types ps ≡ true → All (λ p. p .len ≤ 1024) ps
+lengths-short : (types : List ℕ) (ps : List Pair) → length ps ≡ length types → lengthsRight types ps ≡ true → All (λ p. p .len ≤ partMost) ps
 unfolding lengthsRight
 lengths-short types [] n h = tt
 lengths-short [] (p ∷ ps) n h = absurd (omega arith)
@@ -89,44 +104,51 @@ lengths-short (ty ∷ types) (p ∷ ps) n h =
       lengths-short types ps (omega arith) (and-right (even && few) (lengthsRight types ps) h),
     )
 
-input-long : (types s : List ℕ) → length types ≤ mostFields → 33024 < length s → readInput types s ≡ refused 13
+input-long : (types s : List ℕ) → length types ≤ mostFields → inputBytes < length s → readInput types s ≡ refused wrongInput
 unfolding readInput
 input-long types s few h =
     let ps = pairsAt s 0 (length types) in
-    let n = length-entries pairAt 8 s (length types) 0 in
-    let chain = chained (8 * length types) ps (length s) in
-    let J : Input = λ f. cond (ltb f (length types)) (readingsOf (getD types f 0) s (pairAt s (8 * f))) [] in
-    case (chain && lengthsRight types ps) (λ z. check z wrongInput (ok J) ≡ refused 13)
+    let n = length-entries pairAt pairSize s (length types) 0 in
+    let chain = chained (pairSize * length types) ps (length s) in
+    let J : Input = λ f. cond (ltb f (length types)) (readingsOf (getD types f 0) s (pairAt s (pairSize * f))) [] in
+    case (chain && lengthsRight types ps) (λ z. check z wrongInput (ok J) ≡ refused wrongInput)
     (λ q. absurd (omega (
       arith,
-      chained-end 1024 ps (8 * length types) (length s) (and-left chain (lengthsRight types ps) q)
+      chained-end partMost ps (pairSize * length types) (length s) (and-left chain (lengthsRight types ps) q)
           (lengths-short types ps n (and-right chain (lengthsRight types ps) q)),
     )))
     (λ q. refl)
 
 -- ---- what is read of a longer file decides
 
-input-shortened : (types s : List ℕ) → length types ≤ mostFields → readInput types (take 33025 s) ≡ readInput types s
-input-shortened types s few =
-    case (leb (length s) 33024) (λ z. readInput types (take 33025 s) ≡ readInput types s)
-    (λ q. ap (readInput types) (take-all 33025 s (omega (arith, leb-true (length s) 33024 q))))
-    (λ q.
-    let l = leb-false (length s) 33024 q in
-    input-long types (take 33025 s) few (omega (arith, length-take-le 33025 s (omega arith))) ∙ sym (input-long types s few l))
+-- one byte more than the longest
+abbrev pub conditionPart : List ℕ → List ℕ
+conditionPart c = take (conditionBytes + 1) c
 
-on-input : (c s : List ℕ) (o : Out Condition) → readCondition c ≡ o → verdict c (take 33025 s) ≡ verdict c s
-on-input c s (refused n) e = verdict-steps c (take 33025 s) ∙ rw e (sym (verdict-steps c s ∙ rw e))
+abbrev pub inputPart : List ℕ → List ℕ
+inputPart s = take (inputBytes + 1) s
+
+input-shortened : (types s : List ℕ) → length types ≤ mostFields → readInput types (inputPart s) ≡ readInput types s
+input-shortened types s few =
+    case (leb (length s) inputBytes) (λ z. readInput types (inputPart s) ≡ readInput types s)
+    (λ q. ap (readInput types) (take-all (inputBytes + 1) s (omega (arith, leb-true (length s) inputBytes q))))
+    (λ q.
+    let l = leb-false (length s) inputBytes q in
+    input-long types (inputPart s) few (omega (arith, length-take-le (inputBytes + 1) s (omega arith))) ∙ sym (input-long types s few l))
+
+on-input : (c s : List ℕ) (o : Out Condition) → readCondition c ≡ o → verdict c (inputPart s) ≡ verdict c s
+on-input c s (refused n) e = verdict-steps c (inputPart s) ∙ rw e (sym (verdict-steps c s ∙ rw e))
 on-input c s (ok C) e =
-    verdict-steps c (take 33025 s)
+    verdict-steps c (inputPart s)
     ∙ rw e (ap (λ (i : Out Input). i >>= λ I. judged I (C .conjuncts)) (input-shortened (C .types) s (fields-few c C e))
     ∙ sym (verdict-steps c s ∙ rw e))
 
-pub shortened : (c s : List ℕ) → verdict (take 61993 c) (take 33025 s) ≡ verdict c s
+pub shortened : (c s : List ℕ) → verdict (conditionPart c) (inputPart s) ≡ verdict c s
 shortened c s =
-    case (leb (length c) 61992) (λ z. verdict (take 61993 c) (take 33025 s) ≡ verdict c s)
-    (λ q. ap (λ (d : List ℕ). verdict d (take 33025 s)) (take-all 61993 c (omega (arith, leb-true (length c) 61992 q)))
+    case (leb (length c) conditionBytes) (λ z. verdict (conditionPart c) (inputPart s) ≡ verdict c s)
+    (λ q. ap (λ (d : List ℕ). verdict d (inputPart s)) (take-all (conditionBytes + 1) c (omega (arith, leb-true (length c) conditionBytes q)))
     ∙ on-input c s (readCondition c) refl)
     (λ q.
-    let l = leb-false (length c) 61992 q in
-    verdict-steps (take 61993 c) (take 33025 s)
-    ∙ rw (condition-long (take 61993 c) (omega (arith, length-take-le 61993 c (omega arith)))) (sym (verdict-steps c s ∙ rw (condition-long c l))))
+    let l = leb-false (length c) conditionBytes q in
+    verdict-steps (conditionPart c) (inputPart s)
+    ∙ rw (condition-long (conditionPart c) (omega (arith, length-take-le (conditionBytes + 1) c (omega arith)))) (sym (verdict-steps c s ∙ rw (condition-long c l))))
