@@ -8,6 +8,7 @@ use lib.ListN.{length, getD}
 use borrow.Author.Tests.{lt-ltb}
 use Rattle.model.specs.Conjunct.{Conj, Conjuncts, withConjunct, unionOf, long, limits}
 use Rattle.model.specs.Refusals.{ok, refused, _>>=_}
+use Rattle.model.specs.Sizes.{mostConjuncts}
 use Rattle.model.specs.Walk.{start}
 use Rattle.model.specs.TidySets.{Tidy}
 use Rattle.model.proofs.Canonical.{union-every}
@@ -41,12 +42,12 @@ module _ (s : List ℕ) (a b : ℕ) where
   both-short : long both ≡ false
   both-short = all-short both (union-every Short (setOf s a) (setOf s b) (set-short s a) (set-short s b))
 
-  union-fits : length both ≤ 64 → limits both ≡ ok both
+  union-fits : length both ≤ mostConjuncts → limits both ≡ ok both
   union-fits h = fine-limits both (record { short = both-short; few = h })
 
-  union-over : 64 < length both → limits both ≡ refused 10
+  union-over : mostConjuncts < length both → limits both ≡ refused 10
   unfolding limits
-  union-over h = rw (both-short, lt-ltb 64 (length both) h)
+  union-over h = rw (both-short, lt-ltb mostConjuncts (length both) h)
 
 -- ---- the union so far at b, the site's set after it
 

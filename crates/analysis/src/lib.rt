@@ -24,15 +24,16 @@ ghost use Rattle.walk.specs.Piece.{Lies, Piece};
 ghost use Rattle.enclosing.specs.Enclosing.{Enclosed, Moved};
 ghost use Rattle.analysis.specs.Deriving.{unionAt, siteAt, analysisWords, derivation, Filed, FileGiven, Derives};
 ghost use Rattle.analysis.specs.Joining.{joinedTo, SitesFrom, Sited, PassedLabel, Uniting};
+use conjunct::MOST_NODES;
 use program::Layout;
 use program::ProgramRead;
 use rules::Answer;
 
 // Where the union so far stands: the first region, behind the code table.
-const UNION: usize = 3075;
+const UNION: usize = code_table::WORDS;
 
 // Where a site's set stands: the region after it.
-const SITE: usize = 10820;
+const SITE: usize = UNION + sets::REGION;
 
 // ---- one site
 
@@ -70,8 +71,8 @@ fn start_set(s: &mut [u64], b: usize)
 {
     let room = b + sets::REGION;
     sets::clear(s, room);
-    let mut e: [u64; 120] = [0; 120];
-    let mut seen: [u64; 120] = [0; 120];
+    let mut e: [u64; MOST_NODES] = [0; MOST_NODES];
+    let mut seen: [u64; MOST_NODES] = [0; MOST_NODES];
     gather_start(s, b, room, &mut e, &mut seen);
     sets::copy(s, b, room);
 }
@@ -153,7 +154,7 @@ fn sites(s: &mut [u64], n: usize) -> Answer
 
 // The words of scratch that a call of `derive` needs: the code table, the union so far, and ten
 // regions for the walk.
-pub const SCRATCH: usize = 88270;
+pub const SCRATCH: usize = SITE + 10 * sets::REGION;
 
 // The bytes of output that it needs: the length of the longest condition file.
 pub const CONDITION: usize = 61992;

@@ -18,9 +18,9 @@ const SUM: u64 = 0x02_00_0000_0000_0000;
 
 const CONVERSION: u64 = 0x06_00_0000_0000_0000;
 
-const VARIABLE: u64 = 0x07_00_0000_0000_0000;
+pub const VARIABLE: u64 = 0x07_00_0000_0000_0000;
 
-const LOAD: u64 = 0x08_00_0000_0000_0000;
+pub const LOAD: u64 = 0x08_00_0000_0000_0000;
 
 // the four low bytes in the other order
 fn turned(v: u64) -> u64

@@ -10,11 +10,12 @@ use lib.ListN.{length, getD, take, drop, set, length-drop}
 use lib.Seq.{take-suc, getD-drop, getD-set-same, getD-set-other}
 use borrow.Author.Tests.{ne-eqb}
 use Rattle.model.specs.Conjunct.{Conj, Conjuncts}
+use Rattle.model.specs.Sizes.{mostArrays}
 use Rattle.model.specs.Touch.{isVar, isLoad, some}
 use Rattle.model.proofs.Lists.{all-imp, all-append}
 use Rattle.model.proofs.Tests.{or-left, or-right}
 use Rattle.conjunct.proofs.node.Looked.{low-variable, high-variable, at-variable, low-load, at-load}
-use Rattle.conjunct.specs.Word.{low4, nodeOf, nodesOf}
+use Rattle.conjunct.specs.Word.{place2, place3, firstVariable, firstLoad, low4, nodeOf, nodesOf}
 use Rattle.footprint.specs.Footprints.{variableFlags, FreeVariable, FreeArray, Covers, CoversSet, Extends}
 use Rattle.footprint.specs.declared.Footprint.{Footprint}
 
@@ -90,34 +91,34 @@ low-flag b r = omega arith
 
 module _ (w : ℕ) where
   -- neither a variable nor a load
-  pub covers-plain : (m : Footprint) → w < 504403158265495552 → Covers m (nodeOf w ∷ [])
+  pub covers-plain : (m : Footprint) → w < firstVariable → Covers m (nodeOf w ∷ [])
   unfolding some
   covers-plain m h = record {
     variables = λ x f. rw (← low-variable w x h);
     arrays = λ t k f. rw (← low-load w t k (omega arith));
   }
 
-  module _ (l : 504403158265495552 ≤ w) (h : w < 576460752303423488) where
-    not-variable : (x : ℕ) → (x % variableFlags ≡ w / 16777216 % variableFlags → ⊥) → isVar x (nodeOf w) ≡ false
-    not-variable x n = sym (at-variable w x l h) ∙ ne-eqb (low4 w) x (λ e. n (ap (_% variableFlags) (sym e) ∙ low-flag (w / 16777216) _))
+  module _ (l : firstVariable ≤ w) (h : w < firstLoad) where
+    not-variable : (x : ℕ) → (x % variableFlags ≡ w / place3 % variableFlags → ⊥) → isVar x (nodeOf w) ≡ false
+    not-variable x n = sym (at-variable w x l h) ∙ ne-eqb (low4 w) x (λ e. n (ap (_% variableFlags) (sym e) ∙ low-flag (w / place3) _))
 
     -- a variable whose flag is set
-    pub covers-variable : (m n : Footprint) → length (m .variables) ≡ variableFlags → n .variables ≡ set (m .variables) (w / 16777216 % variableFlags) true
+    pub covers-variable : (m n : Footprint) → length (m .variables) ≡ variableFlags → n .variables ≡ set (m .variables) (w / place3 % variableFlags) true
         → n .arrays ≡ m .arrays → Extends m n × Covers n (nodeOf w ∷ [])
     unfolding some
     covers-variable m n k v a =
-        let off : (x : ℕ) → FreeVariable n x → (x % variableFlags ≡ w / 16777216 % variableFlags → ⊥) × FreeVariable m x =
-        λ x f. off-before (m .variables) (w / 16777216 % variableFlags) (x % variableFlags) (omega arith) (ap (λ fs. getD fs (x % variableFlags) false) (sym v) ∙ f) in (
+        let off : (x : ℕ) → FreeVariable n x → (x % variableFlags ≡ w / place3 % variableFlags → ⊥) × FreeVariable m x =
+        λ x f. off-before (m .variables) (w / place3 % variableFlags) (x % variableFlags) (omega arith) (ap (λ fs. getD fs (x % variableFlags) false) (sym v) ∙ f) in (
           record { variables = λ x f. off x f .1; arrays = λ t f. (f .0, ap (λ fs. getD fs t false) (sym a) ∙ f .1) },
           record { variables = λ x f. rw (not-variable x (off x f .0)); arrays = λ t j f. rw (← low-load w t j h) },
         )
 
-  module _ (l : 576460752303423488 ≤ w) where
-    not-load : (t k : ℕ) → (t ≡ w / 65536 % 256 → ⊥) → isLoad t k (nodeOf w) ≡ false
-    not-load t k n = sym (at-load w t k l) ∙ ap (_&& eqb (w % 65536) k) (ne-eqb (w / 65536 % 256) t (λ e. n (sym e)))
+  module _ (l : firstLoad ≤ w) where
+    not-load : (t k : ℕ) → (t ≡ w / place2 % 256 → ⊥) → isLoad t k (nodeOf w) ≡ false
+    not-load t k n = sym (at-load w t k l) ∙ ap (_&& eqb (w % place2) k) (ne-eqb (w / place2 % 256) t (λ e. n (sym e)))
 
     -- a load from an array without a flag
-    pub covers-past-load : (m : Footprint) → 16 ≤ w / 65536 % 256 → Covers m (nodeOf w ∷ [])
+    pub covers-past-load : (m : Footprint) → mostArrays ≤ w / place2 % 256 → Covers m (nodeOf w ∷ [])
     unfolding some
     covers-past-load m g = record {
       variables = λ x f. rw (← high-variable w x l);
@@ -125,12 +126,12 @@ module _ (w : ℕ) where
     }
 
     -- a load from an array whose flag is set
-    pub covers-load : (m n : Footprint) → length (m .arrays) ≡ 16 → w / 65536 % 256 < 16 → n .arrays ≡ set (m .arrays) (w / 65536 % 256) true → n .variables ≡ m .variables
-        → Extends m n × Covers n (nodeOf w ∷ [])
+    pub covers-load : (m n : Footprint) → length (m .arrays) ≡ mostArrays → w / place2 % 256 < mostArrays
+        → n .arrays ≡ set (m .arrays) (w / place2 % 256) true → n .variables ≡ m .variables → Extends m n × Covers n (nodeOf w ∷ [])
     unfolding some
     covers-load m n k g a v =
-        let off : (t : ℕ) → FreeArray n t → (t ≡ w / 65536 % 256 → ⊥) × (getD (m .arrays) t false ≡ false) =
-        λ t f. off-before (m .arrays) (w / 65536 % 256) t (omega arith) (ap (λ fs. getD fs t false) (sym a) ∙ f .1) in (
+        let off : (t : ℕ) → FreeArray n t → (t ≡ w / place2 % 256 → ⊥) × (getD (m .arrays) t false ≡ false) =
+        λ t f. off-before (m .arrays) (w / place2 % 256) t (omega arith) (ap (λ fs. getD fs t false) (sym a) ∙ f .1) in (
           record { variables = λ x f. ap (λ fs. getD fs (x % variableFlags) false) (sym v) ∙ f; arrays = λ t f. (f .0, off t f .1) },
           record { variables = λ x f. rw (← high-variable w x l); arrays = λ t j f. rw (not-load t j (off t f .0)) },
         )

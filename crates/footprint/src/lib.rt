@@ -8,21 +8,28 @@ ghost use Rattle.model.specs.Sizes.{mostStatements};
 ghost use Rattle.code_table.specs.Statements.{stmtFrom};
 ghost use Rattle.code_table.specs.Table.{tableWords, stmts};
 ghost use Rattle.conjunct.specs.Word.{nodesOf};
-ghost use Rattle.sets.specs.Region.{slotAt, setOf};
+ghost use Rattle.sets.specs.Region.{slotWords, regionWords, slotAt, setOf};
 ghost use Rattle.footprint.specs.Footprints.{Covers, CoversSet, Extends, Spares, SparedAll, BackTo};
 use code_table::Decoded;
+use conjunct::node::LOAD;
+use conjunct::node::VARIABLE;
+
+// The flags of variables, and of arrays.
+const VARIABLE_FLAGS: usize = 64;
+
+const ARRAYS: usize = 16;
 
 // A flag for each variable, by its number modulo their count, and for each array.
 pub struct Footprint {
-    pub variables: [bool; 64],
-    pub arrays: [bool; 16],
+    pub variables: [bool; VARIABLE_FLAGS],
+    pub arrays: [bool; ARRAYS],
 }
 
 // ---- what a set speaks of
 
 // With those of the conjunct of the slot at a.
 fn with_slot(m: Footprint, s: &[u64], a: usize) -> Footprint
-    requires { ⌜ a + 121 ≤ length (now s) ⌝ }
+    requires { ⌜ a + slotWords ≤ length (now s) ⌝ }
     ensures { λ r. ⌜ Extends m r × Covers r (nodesOf (slotAt (now (s .entry)) a)) ⌝ }
 {
     let n = conjunct::capped(s[a] as usize);
@@ -31,16 +38,16 @@ fn with_slot(m: Footprint, s: &[u64], a: usize) -> Footprint
     while j < n {
         let w = s[a + 1 + j];
         j += 1;
-        if w < 0x07_00_0000_0000_0000 {
+        if w < VARIABLE {
             continue;
         }
-        if w < 0x08_00_0000_0000_0000 {
-            let x = (w / 0x100_0000 % 0x40) as usize;
+        if w < LOAD {
+            let x = (w / 0x100_0000) as usize % VARIABLE_FLAGS;
             r.variables[x] = true;
             continue;
         }
         let t = (w / 0x1_0000 % 0x100) as usize;
-        if 16 <= t {
+        if ARRAYS <= t {
             continue;
         }
         r.arrays[t] = true;
@@ -50,17 +57,17 @@ fn with_slot(m: Footprint, s: &[u64], a: usize) -> Footprint
 
 // Those of the set of the region at b.
 pub fn of_set(s: &[u64], b: usize) -> Footprint
-    requires { ⌜ b + 7745 ≤ length (now s) ⌝ }
+    requires { ⌜ b + regionWords ≤ length (now s) ⌝ }
     ensures { λ r. ⌜ CoversSet r (setOf (now (s .entry)) b) ⌝ }
 {
     let n = sets::size(s, b);
     let mut r = Footprint {
-        variables: [false; 64],
-        arrays: [false; 16],
+        variables: [false; VARIABLE_FLAGS],
+        arrays: [false; ARRAYS],
     };
     let mut i: usize = 0;
     while i < n {
-        r = with_slot(r, s, b + 1 + 121 * i);
+        r = with_slot(r, s, b + 1 + sets::SLOT * i);
         i += 1;
     }
     r
@@ -78,7 +85,7 @@ fn spares(m: Footprint, d: Decoded) -> bool
         return true;
     }
     if kind == 9 {
-        if 16 <= a {
+        if ARRAYS <= a {
             return false;
         }
         if m.arrays[a] {
@@ -86,7 +93,7 @@ fn spares(m: Footprint, d: Decoded) -> bool
         }
         return true;
     }
-    if m.variables[a % 64] {
+    if m.variables[a % VARIABLE_FLAGS] {
         return false;
     }
     true

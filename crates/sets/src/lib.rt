@@ -20,7 +20,7 @@ use conjunct::Order;
 const MOST_CONJUNCTS: usize = 64;
 
 // the words of a slot: a node count and room for the nodes
-const SLOT: usize = 1 + MOST_NODES;
+pub const SLOT: usize = 1 + MOST_NODES;
 
 // the words of a region: the count of the conjuncts, and a slot for each
 pub const REGION: usize = 1 + MOST_CONJUNCTS * SLOT;

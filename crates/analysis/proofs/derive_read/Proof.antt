@@ -27,9 +27,9 @@ found c = c .before .before .before .before
 coded : (c : tie.After-load) → let g = entered c in Coded (g .args .layout .statements) (tableOf 0 (c .load .last .1 .1 .0)) (g .pre .0 .program .code)
 coded c = let r = entered c .pre .0 in c .load .ensures .coded (r .program) (r .read)
 
--- places on the way, by the place from which they are seen
-abbrev after-sites-from-known-told : tie.After-known-told → tie.After-sites
-after-sites-from-known-told c = c .before .before .before .before .before
+-- behind the sites, one of which was refused
+abbrev refused-at : tie.After-known-told → tie.After-sites
+refused-at c = c .before .before .before .before .before
 
 -- the sites come to what is derived from it
 derives : (c : tie.After-sites) → derived (entered (loaded c) .pre .0 .program .code) ≡ answered (c .sites .result) (setOf (c .sites .last .0) unionAt)
@@ -71,7 +71,7 @@ same-length c = search needs
 
 returns : tie.Need-returns
 returns c =
-    let t = after-sites-from-known-told c in
+    let t = refused-at c in
     let g = entered (loaded t) in
     let r = g .pre .0 in
     derives-refusal (g .args .program .now) (r .program) (r .read) _ (g .args .condition .now)

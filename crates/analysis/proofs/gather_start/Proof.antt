@@ -21,25 +21,22 @@ Inv-loop s₀ b room e₀ seen₀ k₀ s e seen k =
 abbrev μ-loop : tie.MeasureT-loop
 μ-loop s₀ b room e₀ seen₀ k₀ s e seen k = k
 
--- places on the way, by the place from which they are seen
-abbrev start-from-size : tie.After-size Inv-loop μ-loop → tie.Start Inv-loop μ-loop
-start-from-size c = c .before .before .before .before .before
+-- where the function begins, behind the rule at the start and behind the renumbering
+abbrev entered : tie.After-size Inv-loop μ-loop → tie.Start Inv-loop μ-loop
+entered c = c .before .before .before .before .before
 
-abbrev start-from-loop : tie.After-loop Inv-loop μ-loop → tie.Start Inv-loop μ-loop
-start-from-loop c = start-from-size (c .before .before)
+abbrev at-start-done : tie.After-renumber Inv-loop μ-loop → tie.After-at-start Inv-loop μ-loop
+at-start-done c = c .before .before .before .before .before
 
-abbrev after-at-start-from-renumber : tie.After-renumber Inv-loop μ-loop → tie.After-at-start Inv-loop μ-loop
-after-at-start-from-renumber c = c .before .before .before .before .before
-
-abbrev after-renumber-from-slice-known8 : tie.After-slice-known8 Inv-loop μ-loop → tie.After-renumber Inv-loop μ-loop
-after-renumber-from-slice-known8 c = c .before .before .before .before .before .before .before .before .before
+abbrev renumbered : tie.After-slice-known8 Inv-loop μ-loop → tie.After-renumber Inv-loop μ-loop
+renumbered c = c .before .before .before .before .before .before .before .before .before
 
 size-requires : tie.Need-size-requires Inv-loop μ-loop
 size-requires c κs = search needs
 
 loop-holds : tie.Need-loop-holds Inv-loop μ-loop
 loop-holds c =
-    let g = start-from-size c in
+    let g = entered c in
     let a = g .args in
     (omega (arith, c .size .ensures .0), refl, refl, refl, λ i h. refl, g .pre .2 ∙ sym (started-none (setOf (a .s .now) (a .b)) (c .size .result) (c .size .ensures .0)))
 
@@ -63,12 +60,12 @@ loop-less c = search needs
 
 loop-again : tie.Need-loop-again Inv-loop μ-loop
 loop-again c =
-    let after-renumber = after-renumber-from-slice-known8 c in
-    let after-at-start = after-at-start-from-renumber after-renumber in
+    let after-renumber = renumbered c in
+    let after-at-start = at-start-done after-renumber in
     let after-get = after-at-start .before .before .before .before in
     let in-loop = after-get .before .before .before in
     let at-loop = in-loop .before in
-    let g = start-from-size (at-loop .before) in
+    let g = entered (at-loop .before) in
     let a = g .args in
     let lp = at-loop .loop in
     let e = after-get .get in
@@ -96,7 +93,7 @@ same-length-3 c = search needs
 
 returns : tie.Need-returns Inv-loop μ-loop
 returns c =
-    let a = start-from-loop c .args in
+    let a = entered (c .before .before) .args in
     let lp = c .before .loop in
     (start-done (a .s .now) (a .b) (lp .s) (a .room) (lp .k) (omega arith) (lp .inv .5), lp .inv .4)
 

@@ -7,22 +7,20 @@ use lib.ListN.{length}
 use borrow.Author.Needs.{needs}
 use borrow.Author.Tests.{not-true, not-false}
 use Rattle.enclosing.proofs.Walked.{refused-done}
+use Rattle.sets.specs.Region.{regionWords}
 use Rattle.analysis.proofs.Uniting.{joined-over, joined-done, joined-tidy}
 use Rattle.analysis.proofs.join_next.Statement.{statement}
 use Rattle.analysis.proofs.join_next.Tie as tie
 
--- places on the way, by the place from which they are seen
-abbrev start-from-union-arg : tie.After-union-arg → tie.Start
-start-from-union-arg c = c .before .before .before .before .before .before
+-- where the function begins, behind the rule at the start and behind the union
+abbrev entered : tie.After-start-set → tie.Start
+entered c = c .before .before .before
 
-abbrev after-start-set-from-then1 : tie.Then1 → tie.After-start-set
-after-start-set-from-then1 c = c .before .before .before .before .before .before .before
+abbrev started : tie.After-union → tie.After-start-set
+started c = c .before .before .before .before
 
-abbrev after-start-set-from-copy-arg : tie.After-copy-arg → tie.After-start-set
-after-start-set-from-copy-arg c = c .before .before .before .before .before .before .before .before
-
-abbrev after-union-from-slice-known4 : tie.After-slice-known4 → tie.After-union
-after-union-from-slice-known4 c = c .before .before .before .before .before .before .before
+abbrev united : tie.After-slice-known4 → tie.After-union
+united c = c .before .before .before .before .before .before .before
 
 add-next : tie.Need-add-next
 add-next c = search needs
@@ -32,8 +30,9 @@ start-set-requires c κs = search needs
 
 union-requires : tie.Need-union-requires
 union-requires c κs =
-    let p = start-from-union-arg c .pre in
-    let k = c .before .before .before .start-set .kept .0 in
+    let after-start-set = c .before .before .before in
+    let p = entered after-start-set .pre in
+    let k = after-start-set .start-set .kept .0 in
     (omega (arith, p .0, k), omega (arith, p .0, k), inr (omega arith))
 
 same-length : tie.Need-same-length
@@ -41,11 +40,12 @@ same-length c = search needs
 
 returns : tie.Need-returns
 returns c =
-    let after-start-set = after-start-set-from-then1 c in
-    let start = after-start-set .before .before .before in
+    let after-union = c .before .before .before in
+    let after-start-set = started after-union in
+    let start = entered after-start-set in
     let a = start .args in
     let f = after-start-set .start-set in
-    let u = c .before .before .before .union in (
+    let u = after-union .union in (
       joined-over (a .s .now) (f .last .0) (a .b) (f .kept .0) (omega (arith, start .pre .0)) (f .ensures .1) (f .ensures .0) (u .last .0) (u .result) (not-true _ (c .if1 .taken)) (u .ensures .0),
       λ e. absurd (refused-done _ e),
       λ i h. u .ensures .1 i (inl (omega arith)) ∙ f .ensures .1 i (omega arith),
@@ -53,11 +53,12 @@ returns c =
 
 copy-requires : tie.Need-copy-requires
 copy-requires c κs =
-    let after-start-set = after-start-set-from-copy-arg c in
-    let start = after-start-set .before .before .before in
+    let after-union = c .before .before .before .before in
+    let after-start-set = started after-union in
+    let start = entered after-start-set in
     let p = start .pre in
     let k = after-start-set .start-set .kept .0 in
-    let l = c .before .before .before .before .union .kept .0 in
+    let l = after-union .union .kept .0 in
     (omega (arith, p .0, k, l), omega (arith, p .0, k, l), inl (omega arith))
 
 same-length-2 : tie.Need-same-length-2
@@ -65,15 +66,15 @@ same-length-2 c = search needs
 
 returns-2 : tie.Need-returns-2
 returns-2 c =
-    let after-union = after-union-from-slice-known4 c in
-    let after-start-set = after-union .before .before .before .before in
-    let start = after-start-set .before .before .before in
+    let after-union = united c in
+    let after-start-set = started after-union in
+    let start = entered after-start-set in
     let a = start .args in
     let p = start .pre in
     let f = after-start-set .start-set in
     let u = after-union .union in
     let v = c .before .before .copy in
-    let fits : a .b + 7745 ≤ length (a .s .now) = omega (arith, p .0) in (
+    let fits : a .b + regionWords ≤ length (a .s .now) = omega (arith, p .0) in (
       joined-done (a .s .now) (f .last .0) (a .b) (f .kept .0) fits (f .ensures .1) (f .ensures .0) (u .last .0) (v .last .0) (u .result)
           (not-false _ (c .before .before .before .before .if1 .left)) (u .ensures .0) (v .ensures .0),
       λ e. joined-tidy (a .s .now) (f .last .0) (a .b) (f .kept .0) fits (f .ensures .1) (f .ensures .0) (u .last .0) (v .last .0) (u .result)

@@ -7,9 +7,9 @@ use Rattle.analysis.proofs.Uniting.{inserted-first}
 use Rattle.analysis.proofs.single.Statement.{statement}
 use Rattle.analysis.proofs.single.Tie as tie
 
--- places on the way, by the place from which they are seen
-abbrev after-clear-from-slice-known3 : tie.After-slice-known3 → tie.After-clear
-after-clear-from-slice-known3 c = c .before .before .before .before .before .before .before
+-- behind the clearing
+abbrev cleared : tie.After-slice-known3 → tie.After-clear
+cleared c = c .before .before .before .before .before .before .before
 
 clear-requires : tie.Need-clear-requires
 clear-requires c κs = search needs
@@ -25,7 +25,7 @@ same-length c = search needs
 
 returns : tie.Need-returns
 returns c =
-    let after-clear = after-clear-from-slice-known3 c in
+    let after-clear = cleared c in
     let start = after-clear .before .before .before in
     let a = start .args in
     let s₁ = after-clear .clear .last .0 in

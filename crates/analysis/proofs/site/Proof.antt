@@ -25,9 +25,9 @@ made c = c .before .before .before .before
 abbrev walked : tie.After-enum-told → tie.After-walk-out
 walked c = c .before .before .before .before
 
--- places on the way, by the place from which they are seen
-abbrev after-walk-out-from-known-told : tie.After-known-told → tie.After-walk-out
-after-walk-out-from-known-told c = c .before .before .before .before .before
+-- behind the walk that was refused
+abbrev refused-at : tie.After-known-told → tie.After-walk-out
+refused-at c = c .before .before .before .before .before
 
 -- the table is as it was behind the first set
 single-table : (c : tie.After-single) → tableOf 0 (c .single .last .0) ≡ tableOf 0 (entered c .args .s .now)
@@ -85,7 +85,7 @@ same-length c = search needs
 
 returns : tie.Need-returns
 returns c =
-    let u = after-walk-out-from-known-told c in
+    let u = refused-at c in
     let g = entered (made u) in
     let v = made u .single in
     let w = made u .before .before .variable in

@@ -28,9 +28,9 @@ cleared c = c .before .before .before
 abbrev head : tie.After-pass Inv-loop μ-loop → tie.At-loop Inv-loop μ-loop
 head c = c .before .before .before
 
--- places on the way, by the place from which they are seen
-abbrev after-pass-from-known-told : tie.After-known-told Inv-loop μ-loop → tie.After-pass Inv-loop μ-loop
-after-pass-from-known-told c = c .before .before .before .before .before
+-- behind the label that was refused
+abbrev refused-at : tie.After-known-told Inv-loop μ-loop → tie.After-pass Inv-loop μ-loop
+refused-at c = c .before .before .before .before .before
 
 -- the table is as it was
 clear-table : (c : tie.After-clear Inv-loop μ-loop) → tableOf 0 (c .clear .last .0) ≡ tableOf 0 (entered c .args .s .now)
@@ -75,13 +75,13 @@ enum-known-a c = search needs
 
 same-length : tie.Need-same-length Inv-loop μ-loop
 same-length c =
-    let after-pass = after-pass-from-known-told c in
+    let after-pass = refused-at c in
     let h = head (after-pass) in
     after-pass .pass .kept .0 ∙ h .loop .inv .same-length ∙ cleared h .clear .kept .0
 
 returns : tie.Need-returns Inv-loop μ-loop
 returns c =
-    let t = after-pass-from-known-told c in
+    let t = refused-at c in
     let lp = head t .loop in
     let v = cleared (head t) in
     let g = entered v in

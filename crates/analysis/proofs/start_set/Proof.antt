@@ -6,20 +6,20 @@ use native.Mathlib.Omega.{arith}
 use borrow.Author.Needs.{needs}
 use Rattle.model.specs.Refusals.{ok}
 use Rattle.model.specs.Walk.{start}
-use Rattle.sets.specs.Region.{setOf}
+use Rattle.sets.specs.Region.{regionWords, setOf}
 use Rattle.analysis.proofs.Starting.{kept}
 use Rattle.analysis.proofs.start_set.Statement.{statement}
 use Rattle.analysis.proofs.start_set.Tie as tie
 
--- places on the way, by the place from which they are seen
-abbrev after-clear-from-gather-start : tie.After-gather-start → tie.After-clear
-after-clear-from-gather-start c = c .before .before .before .before .before .before
+-- behind the clearing, behind the gathering, and before the copy
+abbrev cleared : tie.After-gather-start → tie.After-clear
+cleared c = c .before .before .before .before .before .before
 
-abbrev after-gather-start-from-copy-arg : tie.After-copy-arg → tie.After-gather-start
-after-gather-start-from-copy-arg c = c .before .before .before .before .before
+abbrev gathered : tie.After-copy-arg → tie.After-gather-start
+gathered c = c .before .before .before .before .before
 
-abbrev after-gather-start-from-slice-known4 : tie.After-slice-known4 → tie.After-gather-start
-after-gather-start-from-slice-known4 c = after-gather-start-from-copy-arg (c .before .before .before)
+abbrev copying : tie.After-slice-known4 → tie.After-copy-arg
+copying c = c .before .before .before
 
 add-room : tie.Need-add-room
 add-room c = search needs
@@ -38,28 +38,28 @@ gather-start-requires c κs = search needs
 
 copy-requires : tie.Need-copy-requires
 copy-requires c κs =
-    let after-gather-start = after-gather-start-from-copy-arg c in
-    let after-clear = after-clear-from-gather-start after-gather-start in
+    let after-gather-start = gathered c in
+    let after-clear = cleared after-gather-start in
     let u = after-clear .clear in
     let t = after-gather-start .gather-start in
     (omega (arith, u .kept .0, t .kept .0), omega (arith, u .kept .0, t .kept .0), inl (omega arith))
 
 same-length : tie.Need-same-length
 same-length c =
-    let after-gather-start = after-gather-start-from-slice-known4 c in
-    let after-clear = after-clear-from-gather-start after-gather-start in
+    let after-gather-start = gathered (copying c) in
+    let after-clear = cleared after-gather-start in
     c .before .before .copy .kept .0 ∙ after-gather-start .gather-start .kept .0 ∙ after-clear .clear .kept .0
 
 returns : tie.Need-returns
 returns c =
-    let after-gather-start = after-gather-start-from-slice-known4 c in
-    let after-clear = after-clear-from-gather-start after-gather-start in
+    let after-gather-start = gathered (copying c) in
+    let after-clear = cleared after-gather-start in
     let start′ = after-clear .before .before .before in
     let a = start′ .args in
     let u = after-clear .clear in
     let t = after-gather-start .gather-start in
     let v = c .before .before .copy in
-    let same : setOf (u .last .0) (a .b) ≡ setOf (a .s .now) (a .b) = kept (a .s .now) (a .b) (a .b + 7745) (omega arith) (omega arith) (u .last .0) (u .kept .0) (u .ensures .1) in (
+    let same : setOf (u .last .0) (a .b) ≡ setOf (a .s .now) (a .b) = kept (a .s .now) (a .b) (a .b + regionWords) (omega arith) (omega arith) (u .last .0) (u .kept .0) (u .ensures .1) in (
       ap start (sym same) ∙ t .ensures .0 ∙ ap ok (sym (v .ensures .0)),
       λ i h. v .ensures .1 i (inl h) ∙ t .ensures .1 i (inl (omega arith)) ∙ u .ensures .1 i (inl (omega arith)),
     )

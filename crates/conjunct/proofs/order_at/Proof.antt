@@ -14,9 +14,9 @@ Inv-loop s a n t b m i₀ i = (i ≤ n) × (n ≡ m) × Rest s t n a b i
 abbrev μ-loop : tie.MeasureT-loop
 μ-loop s a n t b m i₀ i = n - i
 
--- places on the way, by the place from which they are seen
-abbrev at-loop-from-else3 : tie.Else3 Inv-loop μ-loop → tie.At-loop Inv-loop μ-loop
-at-loop-from-else3 c = c .before .before .before .before
+-- the head of the loop, and where the function begins
+abbrev head : tie.Else3 Inv-loop μ-loop → tie.At-loop Inv-loop μ-loop
+head c = c .before .before .before .before
 
 abbrev entry : tie.Then3 Inv-loop μ-loop → tie.Start Inv-loop μ-loop
 entry c = c .before .before .before .before .before .before .before
@@ -59,7 +59,7 @@ returns-3 c =
 
 returns-4 : tie.Need-returns-4 Inv-loop μ-loop
 returns-4 c =
-    let at-loop = at-loop-from-else3 (c .before) in
+    let at-loop = head (c .before) in
     let start = at-loop .before .before .before in
     let a = start .args in
     let p = start .pre in
@@ -75,7 +75,7 @@ loop-less c = search needs
 
 loop-again : tie.Need-loop-again Inv-loop μ-loop
 loop-again c =
-    let at-loop = at-loop-from-else3 (c .before) in
+    let at-loop = head (c .before) in
     let start = at-loop .before .before .before in
     let a = start .args in
     let p = start .pre in

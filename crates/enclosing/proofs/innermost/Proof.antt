@@ -15,9 +15,9 @@ Inv-loop s i at₀ at = (at ≤ i) × NoneFrom (stmts s) (mates s) i at
 abbrev μ-loop : tie.MeasureT-loop
 μ-loop s i at₀ at = at
 
--- places on the way, by the place from which they are seen
-abbrev start-from-block-end : tie.After-block-end Inv-loop μ-loop → tie.Start Inv-loop μ-loop
-start-from-block-end c = c .before .before .before .before
+-- where the function begins
+abbrev entered : tie.After-block-end Inv-loop μ-loop → tie.Start Inv-loop μ-loop
+entered c = c .before .before .before .before
 
 loop-holds : tie.Need-loop-holds Inv-loop μ-loop
 loop-holds c = (omega arith, λ s a b. absurd (omega arith))
@@ -31,7 +31,7 @@ block-end-requires c κs = search needs
 returns : tie.Need-returns Inv-loop μ-loop
 returns c =
     let lp = c .before .before .before .loop in
-    let a = start-from-block-end (c .before) .args in (
+    let a = entered (c .before) .args in (
       omega arith,
       subst (λ x. a .i < x) (c .before .block-end .ensures) (c .if1 .taken),
       none-after (stmts (a .s .now)) (mates (a .s .now)) (a .i) (lp .at) (omega arith) (lp .inv .1),
@@ -43,7 +43,7 @@ loop-less c = search needs
 loop-again : tie.Need-loop-again Inv-loop μ-loop
 loop-again c =
     let lp = c .before .before .before .loop in
-    let a = start-from-block-end (c .before) .args in (
+    let a = entered (c .before) .args in (
       omega arith,
       none-more (stmts (a .s .now)) (mates (a .s .now)) (a .i) (lp .at) (c .before .block-end .result) (omega arith) (lp .inv .1) (c .before .block-end .ensures)
           (omega arith),

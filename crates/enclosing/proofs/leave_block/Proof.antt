@@ -23,9 +23,9 @@ use Rattle.enclosing.proofs.leave_block.Tie as tie
 abbrev entered : tie.After-mate → tie.Start
 entered c = c .before .before .before .before .before
 
--- places on the way, by the place from which they are seen
-abbrev after-mate-from-slice-known2 : tie.After-slice-known2 → tie.After-mate
-after-mate-from-slice-known2 c = c .before .before .before .before .before
+-- behind the matching label
+abbrev mated : tie.After-slice-known2 → tie.After-mate
+mated c = c .before .before .before .before .before
 
 -- the label is one of the program's
 below : (g : tie.Start) → (g .args .i < g .pre .1 .0) × (g .pre .1 .0 ≤ mostStatements)
@@ -118,7 +118,7 @@ same-length c = search needs
 returns : tie.Need-returns
 returns c =
     let w = c .before .before .walk-both in
-    let m = after-mate-from-slice-known2 c in
+    let m = mated c in
     let g = entered m in
     let k = tableOf 0 (g .args .s .now) in
     let does = subst (λ x. Both g x (w .result) (w .last .0)) (m .mate .ensures) (w .ensures .does) in

@@ -22,9 +22,9 @@ entered c = c .before .before .before
 abbrev first : tie.After-enum-told → tie.After-walk
 first c = c .before .before .before .before
 
--- places on the way, by the place from which they are seen
-abbrev after-walk-from-known-told : tie.After-known-told → tie.After-walk
-after-walk-from-known-told c = c .before .before .before .before .before
+-- behind the walk that was refused
+abbrev refused-at : tie.After-known-told → tie.After-walk
+refused-at c = c .before .before .before .before .before
 
 -- the table is as it was behind the first walk
 first-table : (c : tie.After-walk) → tableOf 0 (c .walk .last .0) ≡ tableOf 0 (entered c .args .s .now)
@@ -72,7 +72,7 @@ same-length c = search needs
 
 returns : tie.Need-returns
 returns c =
-    let w = after-walk-from-known-told c in
+    let w = refused-at c in
     let g = entered w in
     let S = setOf (g .args .s .now) (g .args .b) in
     let T = setOf (w .walk .last .0) (g .args .b) in

@@ -27,9 +27,9 @@ head c = c .before .before
 abbrev found : tie.After-leave-block Inv-loop μ-loop → tie.After-innermost Inv-loop μ-loop
 found c = c .before .before .before .before .before
 
--- places on the way, by the place from which they are seen
-abbrev after-leave-block-from-known-told2 : tie.After-known-told2 Inv-loop μ-loop → tie.After-leave-block Inv-loop μ-loop
-after-leave-block-from-known-told2 c = c .before .before .before .before .before
+-- behind the block that was refused
+abbrev refused-at : tie.After-known-told2 Inv-loop μ-loop → tie.After-leave-block Inv-loop μ-loop
+refused-at c = c .before .before .before .before .before
 
 -- the label is one of the program's
 below : (c : tie.At-loop Inv-loop μ-loop) → (c .loop .at < c .loop .inv .statements) × (c .loop .inv .statements ≤ mostStatements)
@@ -101,11 +101,11 @@ enum-known-a : tie.Need-enum-known-a Inv-loop μ-loop
 enum-known-a c = search needs
 
 same-length-2 : tie.Need-same-length-2 Inv-loop μ-loop
-same-length-2 c = let v = after-leave-block-from-known-told2 c in v .leave-block .kept .0 ∙ head (found v) .loop .inv .same-length
+same-length-2 c = let v = refused-at c in v .leave-block .kept .0 ∙ head (found v) .loop .inv .same-length
 
 returns-2 : tie.Need-returns-2 Inv-loop μ-loop
 returns-2 c =
-    let v = after-leave-block-from-known-told2 c in
+    let v = refused-at c in
     let lp = head (found v) .loop in
     let g = head (found v) .before .before in
     let b = v .leave-block in

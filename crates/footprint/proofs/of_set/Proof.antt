@@ -1,4 +1,4 @@
--- `footprint::mentioned` meets its contract.
+-- `footprint::of_set` meets its contract.
 use mathlib.Core.List.{[]}
 use mathlib.Core.Path.{_≡_, sym, subst}
 use Prim.Native.Nat.{_+_, _-_, _*_, _≤_}
@@ -8,7 +8,7 @@ use lib.Seq.{take-all}
 use borrow.Author.Needs.{needs}
 use Rattle.conjunct.specs.Word.{nodesOf}
 use Rattle.sets.proofs.Rows.{set-length, set-at}
-use Rattle.sets.specs.Region.{slotAt, setOf}
+use Rattle.sets.specs.Region.{slotWords, slotAt, setOf}
 use Rattle.footprint.proofs.Flags.{speaks-next}
 use Rattle.footprint.specs.Footprints.{CoversSet}
 use Rattle.footprint.proofs.of_set.Statement.{statement}
@@ -20,9 +20,9 @@ Inv-loop s b n r₀ i₀ r i = (i ≤ n) × (n ≡ length (setOf s b)) × Covers
 abbrev μ-loop : tie.MeasureT-loop
 μ-loop s b n r₀ i₀ r i = n - i
 
--- places on the way, by the place from which they are seen
-abbrev start-from-with-slot : tie.After-with-slot Inv-loop μ-loop → tie.Start Inv-loop μ-loop
-start-from-with-slot c = c .before .before .before .before .before
+-- where the function begins
+abbrev entered : tie.After-with-slot Inv-loop μ-loop → tie.Start Inv-loop μ-loop
+entered c = c .before .before .before .before .before
 
 size-requires : tie.Need-size-requires Inv-loop μ-loop
 size-requires c κs = search needs
@@ -50,11 +50,11 @@ loop-less c = search needs
 
 loop-again : tie.Need-loop-again Inv-loop μ-loop
 loop-again c =
-    let a = start-from-with-slot c .args in
+    let a = entered c .args in
     let lp = c .before .before .loop in
     let S = setOf (a .s .now) (a .b) in
     let w = c .with-slot in
-    let e = nodesOf (slotAt (a .s .now) (a .b + 1 + 121 * lp .i)) in
+    let e = nodesOf (slotAt (a .s .now) (a .b + 1 + slotWords * lp .i)) in
     let at : e ≡ getD S (lp .i) [] = sym (set-at (a .s .now) (a .b) (lp .i) (omega (arith, set-length (a .s .now) (a .b)))) in
     (omega arith, lp .inv .1, speaks-next (lp .r) (w .result) S (lp .i) e (omega arith) at (w .ensures .0) (lp .inv .2) (w .ensures .1))
 

@@ -18,9 +18,9 @@ Inv-loop s m p q i₀ i = (p ≤ i) × SparedAll m (stmts s) p i
 abbrev μ-loop : tie.MeasureT-loop
 μ-loop s m p q i₀ i = q - i
 
--- places on the way, by the place from which they are seen
-abbrev start-from-else1 : tie.Else1 Inv-loop μ-loop → tie.Start Inv-loop μ-loop
-start-from-else1 c = c .before .before .before .before .before .before
+-- where the function begins
+abbrev entered : tie.Else1 Inv-loop μ-loop → tie.Start Inv-loop μ-loop
+entered c = c .before .before .before .before .before .before
 
 loop-holds : tie.Need-loop-holds Inv-loop μ-loop
 loop-holds c = (omega arith, λ i a b. absurd (omega arith))
@@ -42,7 +42,7 @@ loop-less c = search needs
 
 loop-again : tie.Need-loop-again Inv-loop μ-loop
 loop-again c =
-    let a = start-from-else1 c .args in
+    let a = entered c .args in
     let lp = c .before .before .before .before .loop in
     let spared = c .before .spares .ensures (not-false _ (c .if1 .left)) in
     (omega arith, quiet-next (a .m) (stmts (a .s .now)) (a .p) (lp .i) (lp .inv .1) (subst (λ d. Spares (a .m) (stmtFrom d)) (c .before .before .fetch .ensures) spared))

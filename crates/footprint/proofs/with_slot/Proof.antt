@@ -5,7 +5,7 @@ use mathlib.Core.List.{List, [], _∷_}
 use Prim.Native.Nat.{ℕ, _+_, _-_, _/_, _%_, _≤_, _<_}
 use native.Mathlib.Omega.{arith}
 use lib.ListN.{length, getD, length-set}
-use Rattle.conjunct.specs.Word.{nodeOf, nodesOf}
+use Rattle.conjunct.specs.Word.{place2, place3, nodeOf, nodesOf}
 use Rattle.sets.proofs.Slots.{slot-words}
 use Rattle.footprint.proofs.Flags.{extends-self, covers-plain, covers-variable, covers-past-load, covers-load, Noted, noted-none, noted-next}
 use Rattle.footprint.specs.Footprints.{Extends, Covers}
@@ -98,7 +98,7 @@ loop-again-2 c =
     let lp = c .before .before .before .before .loop in
     let a = entered (c .before .before .before .before) .args in
     let w = getD (a .s .now) (a .a + 1 + lp .j) 0 in
-    next-node (a .m) (lp .r) _ (a .s .now) (a .a) (lp .j) (omega arith) (omega arith) (lp .inv) (length-set (lp .r .variables) (w / 16777216 % variableFlags) true) refl
+    next-node (a .m) (lp .r) _ (a .s .now) (a .a) (lp .j) (omega arith) (omega arith) (lp .inv) (length-set (lp .r .variables) (w / place3 % variableFlags) true) refl
     (covers-variable w (omega arith) (omega arith) (lp .r) _ (lp .inv .variables) refl refl)
 
 loop-less-3 : tie.Need-loop-less-3 Inv-loop μ-loop
@@ -122,7 +122,7 @@ loop-again-4 c =
     let lp = at-load (c .before) .loop in
     let a = entered (at-load (c .before)) .args in
     let w = getD (a .s .now) (a .a + 1 + lp .j) 0 in
-    next-node (a .m) (lp .r) _ (a .s .now) (a .a) (lp .j) (omega arith) (omega arith) (lp .inv) refl (length-set (lp .r .arrays) (w / 65536 % 256) true)
+    next-node (a .m) (lp .r) _ (a .s .now) (a .a) (lp .j) (omega arith) (omega arith) (lp .inv) refl (length-set (lp .r .arrays) (w / place2 % 256) true)
     (covers-load w (omega arith) (lp .r) _ (lp .inv .arrays) (omega arith) refl refl)
 
 returns : tie.Need-returns Inv-loop μ-loop

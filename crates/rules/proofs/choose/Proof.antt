@@ -21,12 +21,9 @@ Inv-loop w₀ n atoms k j v rest₀ half₀ i₀ w rest half i =
 abbrev μ-loop : tie.MeasureT-loop
 μ-loop w₀ n atoms k j v rest₀ half₀ i₀ w rest half i = k - i
 
--- places on the way, by the place from which they are seen
-abbrev start-from-loop : tie.After-loop Inv-loop μ-loop → tie.Start Inv-loop μ-loop
-start-from-loop c = c .before .before .before .before .before
-
-abbrev start-from-joined1 : tie.Joined1 Inv-loop μ-loop → tie.Start Inv-loop μ-loop
-start-from-joined1 c = c .before .before .before .before .before .before
+-- where the function begins
+abbrev entered : tie.At-loop Inv-loop μ-loop → tie.Start Inv-loop μ-loop
+entered c = c .before .before .before .before
 
 power-requires : tie.Need-power-requires Inv-loop μ-loop
 power-requires c κs = search needs
@@ -54,7 +51,7 @@ loop-less c = search needs
 
 loop-again : tie.Need-loop-again Inv-loop μ-loop
 loop-again c =
-    let g = start-from-joined1 c in
+    let g = entered (c .before .before) in
     let a = g .args in
     let lp = c .before .before .loop in
     let small : lp .i < a .k = omega arith in
@@ -85,7 +82,7 @@ same-length c = search needs
 
 returns : tie.Need-returns Inv-loop μ-loop
 returns c =
-    let g = start-from-loop c in
+    let g = entered (c .before) in
     let a = g .args in
     let lp = c .before .loop in
     let n : lp .i ≡ a .k = omega arith in

@@ -1,29 +1,28 @@
 -- `rules::right_side` meets its contract.
-use mathlib.Core.Path.{_≡_, _∙_}
+use mathlib.Core.Path.{_∙_}
 use native.Mathlib.Omega.{arith}
 use borrow.Author.Needs.{needs}
+use Rattle.model.specs.Kinds.{aLoad}
+use Rattle.code_table.specs.Statements.{OfKind}
 use Rattle.rules.proofs.ByKind.{side-number, side-copy, side-calc, side-change, side-read, side-load}
 use Rattle.rules.proofs.right_side.Statement.{statement}
 use Rattle.rules.proofs.right_side.Tie as tie
 
--- places on the way, by the place from which they are seen
-abbrev start-from-one-node2 : tie.After-one-node2 → tie.Start
-start-from-one-node2 c = c .before .before .before .before .before
+-- where the function begins, from the node or nodes of each kind, and from the last else
+abbrev entered-copy : tie.After-one-node2 → tie.Start
+entered-copy c = c .before .before .before .before .before
 
-abbrev start-from-else5 : tie.Else5 → tie.Start
-start-from-else5 c = c .before .before .before .before .before .before
+abbrev entered-calc : tie.After-three-nodes → tie.Start
+entered-calc c = c .before .before .before .before .before .before .before .before
 
-abbrev start-from-one-node3 : tie.After-one-node3 → tie.Start
-start-from-one-node3 c = c .before .before .before .before .before .before .before .before
+abbrev entered-change : tie.After-two-nodes → tie.Start
+entered-change c = c .before .before .before .before .before .before .before .before .before
 
-abbrev start-from-one-node4 : tie.After-one-node4 → tie.Start
-start-from-one-node4 c = start-from-else5 (c .before .before)
+abbrev entered-read : tie.After-one-node3 → tie.Start
+entered-read c = c .before .before .before .before .before .before .before .before
 
-abbrev start-from-three-nodes : tie.After-three-nodes → tie.Start
-start-from-three-nodes c = c .before .before .before .before .before .before .before .before
-
-abbrev start-from-two-nodes : tie.After-two-nodes → tie.Start
-start-from-two-nodes c = c .before .before .before .before .before .before .before .before .before
+abbrev entered-else : tie.Else5 → tie.Start
+entered-else c = c .before .before .before .before .before .before
 
 cast-ty : tie.Need-cast-ty
 cast-ty c = search needs
@@ -47,7 +46,7 @@ one-node-requires-2 c κs = search needs
 
 returns-2 : tie.Need-returns-2
 returns-2 c =
-    let g = start-from-one-node2 c in
+    let g = entered-copy c in
     (c .one-node2 .ensures .0, c .one-node2 .ensures .1 ∙ rw (c .before .variable .ensures) (side-copy (g .args .d) (g .args .label) (omega arith)))
 
 variable-requires-2 : tie.Need-variable-requires-2
@@ -67,7 +66,7 @@ three-nodes-requires c κs = search needs
 
 returns-3 : tie.Need-returns-3
 returns-3 c =
-    let g = start-from-three-nodes c in
+    let g = entered-calc c in
     let w = c .before .operation .result in (
       c .three-nodes .ensures .0,
       c .three-nodes .ensures .1
@@ -89,7 +88,7 @@ two-nodes-requires c κs = search needs
 
 returns-4 : tie.Need-returns-4
 returns-4 c =
-    let g = start-from-two-nodes c in (
+    let g = entered-change c in (
       c .two-nodes .ensures .0,
       c .two-nodes .ensures .1
           ∙ rw (c .before .before .variable4 .ensures, c .before .conversion .ensures) (side-change (g .args .d) (g .args .label) (omega arith)),
@@ -103,13 +102,13 @@ one-node-requires-3 c κs = search needs
 
 returns-5 : tie.Need-returns-5
 returns-5 c =
-    let g = start-from-one-node3 c in
+    let g = entered-read c in
     (c .one-node3 .ensures .0, c .one-node3 .ensures .1 ∙ rw (c .before .reading .ensures) (side-read (g .args .d) (g .args .label) (omega arith)))
 
 load-requires : tie.Need-load-requires
 load-requires c κs =
-    let g = start-from-else5 c in
-    let k : g .args .d .kind ≡ 8 = omega arith in
+    let g = entered-else c in
+    let k : OfKind aLoad (g .args .d) = omega arith in
     let n = g .pre .known .loads k in
     (omega arith, omega arith, omega arith, omega arith)
 
@@ -118,7 +117,7 @@ one-node-requires-4 c κs = search needs
 
 returns-6 : tie.Need-returns-6
 returns-6 c =
-    let g = start-from-one-node4 c in
+    let g = entered-else (c .before .before) in
     (c .one-node4 .ensures .0, c .one-node4 .ensures .1 ∙ rw (c .before .load .ensures) (side-load (g .args .d) (g .args .label) (omega arith)))
 
 pub right-side-spec : {M : Type 1} → statement M

@@ -15,12 +15,11 @@ use Rattle.rules.proofs.store_subsets.Tie as tie
 abbrev entry : tie.After-loads → tie.Start
 entry c = c .before .before .before .before .before .before
 
-abbrev loaded : tie.After-slice-known6 → tie.After-loads
-loaded c = c .before .before .before .before .before .before .before .before .before .before .before .before .before .before
+abbrev added : tie.After-slice-known6 → tie.After-add-subsets
+added c = c .before .before .before .before .before .before
 
--- places on the way, by the place from which they are seen
-abbrev after-add-subsets : tie.After-slice-known6 → tie.After-add-subsets
-after-add-subsets c = c .before .before .before .before .before .before
+abbrev loaded : tie.After-add-subsets → tie.After-loads
+loaded c = c .before .before .before .before .before .before .before .before
 
 slice-aggregate-loads : tie.Need-slice-aggregate-loads
 slice-aggregate-loads c = search needs
@@ -62,11 +61,12 @@ same-length-3 c = search needs
 
 returns-2 : tie.Need-returns-2
 returns-2 c =
-    let a = entry (loaded c) .args in
+    let after-loads = loaded (added c) in
+    let a = entry after-loads .args in
     let onto = loads (a .t .array) (a .t .len) (atoms (conjOf (a .e .now) (a .n))) in
-    let ls = loaded c .loads in
+    let ls = after-loads .loads in
     let from-start : ls .result - 0 ≡ ls .result = omega arith in
-    let r = after-add-subsets c .add-subsets in
+    let r = added c .add-subsets in
     (λ x ty q. r .ensures .0 onto x ty (ap (conjOf (ls .last .1 .1 .1 .1 .0)) from-start ∙ ls .ensures .1) q, r .ensures .1)
 
 pub store-subsets-spec : {M : Type 1} → statement M

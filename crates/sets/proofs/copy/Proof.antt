@@ -16,12 +16,9 @@ Inv-loop s₀ to from n i₀ s i = (i ≤ n) × (n ≡ few (getD s₀ from 0)) �
 abbrev μ-loop : tie.MeasureT-loop
 μ-loop s₀ to from n i₀ s i = n - i
 
--- places on the way, by the place from which they are seen
-abbrev start-from-loop : tie.After-loop Inv-loop μ-loop → tie.Start Inv-loop μ-loop
-start-from-loop c = c .before .before .before .before .before
-
-abbrev start-from-copy-slot-arg : tie.After-copy-slot-arg Inv-loop μ-loop → tie.Start Inv-loop μ-loop
-start-from-copy-slot-arg c = c .before .before .before .before .before .before
+-- where the function begins, and the head of the loop
+abbrev entered : tie.At-loop Inv-loop μ-loop → tie.Start Inv-loop μ-loop
+entered c = c .before .before .before .before
 
 abbrev loop-of-turn : tie.After-slice-known3 Inv-loop μ-loop → tie.At-loop Inv-loop μ-loop
 loop-of-turn c = c .before .before .before .before .before
@@ -61,7 +58,7 @@ add-copy-slot-4 c = search needs
 
 copy-slot-requires : tie.Need-copy-slot-requires Inv-loop μ-loop
 copy-slot-requires c κs =
-    let start = start-from-copy-slot-arg c in
+    let start = entered (c .before .before) in
     let a = start .args in
     let p = start .pre in
     let lp = c .before .before .loop in
@@ -98,11 +95,11 @@ slice-write-s c = search needs
 same-length : tie.Need-same-length Inv-loop μ-loop
 same-length c =
     let lp = c .before .loop in
-    length-set (lp .s) (start-from-loop c .args .to) (c .before .before .at-most .result) ∙ lp .inv .3
+    length-set (lp .s) (entered (c .before) .args .to) (c .before .before .at-most .result) ∙ lp .inv .3
 
 returns : tie.Need-returns Inv-loop μ-loop
 returns c =
-    let start = start-from-loop c in
+    let start = entered (c .before) in
     let a = start .args in
     let p = start .pre in
     let n = c .before .before .at-most .result in

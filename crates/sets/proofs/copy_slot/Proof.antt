@@ -16,12 +16,9 @@ Inv-loop s₀ to from n j₀ s j = (j ≤ n) × (n ≤ slotWords) × (length s �
 abbrev μ-loop : tie.MeasureT-loop
 μ-loop s₀ to from n j₀ s j = n - j
 
--- places on the way, by the place from which they are seen
-abbrev start-from-loop : tie.After-loop Inv-loop μ-loop → tie.Start Inv-loop μ-loop
-start-from-loop c = c .before .before .before .before .before
-
-abbrev start-from-slice-known3 : tie.After-slice-known3 Inv-loop μ-loop → tie.Start Inv-loop μ-loop
-start-from-slice-known3 c = c .before .before .before .before .before .before
+-- where the function begins
+abbrev entered : tie.At-loop Inv-loop μ-loop → tie.Start Inv-loop μ-loop
+entered c = c .before .before .before .before
 
 mul-capped : tie.Need-mul-capped Inv-loop μ-loop
 mul-capped c = search needs
@@ -65,7 +62,7 @@ loop-less c = search needs
 
 loop-again : tie.Need-loop-again Inv-loop μ-loop
 loop-again c =
-    let start = start-from-slice-known3 c in
+    let start = entered (c .before .before) in
     let a = start .args in
     let p = start .pre in
     let lp = c .before .before .loop in (
@@ -80,7 +77,7 @@ same-length c = search needs
 
 returns : tie.Need-returns Inv-loop μ-loop
 returns c =
-    let start = start-from-loop c in
+    let start = entered (c .before) in
     let a = start .args in
     let p = start .pre in
     let cap = c .before .before .capped in

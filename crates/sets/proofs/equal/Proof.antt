@@ -21,15 +21,15 @@ Inv-loop s a b n m i₀ i =
 abbrev μ-loop : tie.MeasureT-loop
 μ-loop s a b n m i₀ i = n - i
 
--- places on the way, by the place from which they are seen
-abbrev start-from-at-most2 : tie.After-at-most2 Inv-loop μ-loop → tie.Start Inv-loop μ-loop
-start-from-at-most2 c = c .before .before .before .before .before
+-- where the function begins, from behind the two counts, from a turn of the loop and from behind it
+abbrev entered : tie.After-at-most2 Inv-loop μ-loop → tie.Start Inv-loop μ-loop
+entered c = c .before .before .before .before .before
 
-abbrev start-from-same-slot : tie.After-same-slot Inv-loop μ-loop → tie.Start Inv-loop μ-loop
-start-from-same-slot c = start-from-at-most2 (c .before .before .before .before)
+abbrev entered-turn : tie.After-same-slot Inv-loop μ-loop → tie.Start Inv-loop μ-loop
+entered-turn c = entered (c .before .before .before .before)
 
-abbrev start-from-loop : tie.After-loop Inv-loop μ-loop → tie.Start Inv-loop μ-loop
-start-from-loop c = start-from-at-most2 (c .before .before .before)
+abbrev entered-loop : tie.After-loop Inv-loop μ-loop → tie.Start Inv-loop μ-loop
+entered-loop c = entered (c .before .before .before)
 
 mul-at-most : tie.Need-mul-at-most Inv-loop μ-loop
 mul-at-most c = search needs
@@ -51,7 +51,7 @@ at-most-requires-2 c κs = search needs
 
 returns : tie.Need-returns Inv-loop μ-loop
 returns c =
-    let a = start-from-at-most2 (c .before) .args in
+    let a = entered (c .before) .args in
     same-lengths (setOf (a .s .now) (a .a)) (setOf (a .s .now) (a .b)) (λ e.
     c .if1 .taken
     (c .before .before .before .at-most .ensures .0 ∙ sym (set-length (a .s .now) (a .a)) ∙ e ∙ set-length (a .s .now) (a .b)
@@ -59,7 +59,7 @@ returns c =
 
 loop-holds : tie.Need-loop-holds Inv-loop μ-loop
 loop-holds c =
-    let a = start-from-at-most2 (c .before) .args in
+    let a = entered (c .before) .args in
     let n = c .before .before .before .at-most .ensures in
     let m = c .before .at-most2 .ensures in
     let p = n .0 ∙ sym (set-length (a .s .now) (a .a)) in
@@ -89,7 +89,7 @@ same-slot-requires c κs = search needs
 
 returns-2 : tie.Need-returns-2 Inv-loop μ-loop
 returns-2 c =
-    let a = start-from-same-slot (c .before) .args in
+    let a = entered-turn (c .before) .args in
     let s = a .s .now in
     let lp = c .before .before .before .loop in
     let p = set-at s (a .a) (lp .i) (omega (arith, set-length s (a .a))) in
@@ -105,7 +105,7 @@ loop-less c = search needs
 
 loop-again : tie.Need-loop-again Inv-loop μ-loop
 loop-again c =
-    let a = start-from-same-slot (c .before) .args in
+    let a = entered-turn (c .before) .args in
     let s = a .s .now in
     let lp = c .before .before .before .loop in
     let p = set-at s (a .a) (lp .i) (omega (arith, set-length s (a .a))) in
@@ -120,7 +120,7 @@ loop-again c =
 
 returns-3 : tie.Need-returns-3 Inv-loop μ-loop
 returns-3 c =
-    let a = start-from-loop c .args in
+    let a = entered-loop c .args in
     let lp = c .before .loop in
     sym (lp .inv .4 ∙ same-end (setOf (a .s .now) (a .a)) (setOf (a .s .now) (a .b)) (lp .i) (omega arith) (omega arith))
 

@@ -7,12 +7,12 @@ use Rattle.sets.proofs.Rows.{set-at, set-past}
 use Rattle.sets.proofs.get.Statement.{statement}
 use Rattle.sets.proofs.get.Tie as tie
 
--- places on the way, by the place from which they are seen
-abbrev start-from-else1 : tie.Else1 → tie.Start
-start-from-else1 c = c .before .before .before .before .before
+-- where the function begins, from behind the slot of a conjunct and from a number past the last
+abbrev entered-within : tie.After-slice-known2 → tie.Start
+entered-within c = c .before .before .before .before .before .before .before .before .before
 
-abbrev start-from-slice-known2 : tie.After-slice-known2 → tie.Start
-start-from-slice-known2 c = c .before .before .before .before .before .before .before .before .before
+abbrev entered-past : tie.Else1 → tie.Start
+entered-past c = c .before .before .before .before .before
 
 mul-at-most : tie.Need-mul-at-most
 mul-at-most c = search needs
@@ -40,13 +40,13 @@ same-length c = search needs
 
 returns : tie.Need-returns
 returns c =
-    let a = start-from-slice-known2 c .args in
+    let a = entered-within c .args in
     let read = c .before .before .read-slot .ensures in
     (read .0, ap nodesOf (read .1) ∙ sym (set-at (a .s .now) (a .base) (a .i) (omega arith)))
 
 returns-2 : tie.Need-returns-2
 returns-2 c =
-    let a = start-from-else1 c .args in
+    let a = entered-past c .args in
     (omega arith, sym (set-past (a .s .now) (a .base) (a .i) (omega arith)))
 
 pub get-spec : {M : Type 1} → statement M

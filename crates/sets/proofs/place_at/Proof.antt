@@ -12,9 +12,9 @@ use Rattle.sets.proofs.place_at.Statement.{statement}
 use Rattle.sets.proofs.place_at.Tie as tie
 use Rattle.sets.specs.Region.{slotWords}
 
--- places on the way, by the place from which they are seen
-abbrev after-shift-from-slice-known3 : tie.After-slice-known3 → tie.After-shift
-after-shift-from-slice-known3 c = c .before .before .before .before .before .before
+-- behind the shift
+abbrev shifted : tie.After-slice-known3 → tie.After-shift
+shifted c = c .before .before .before .before .before .before
 
 add-a : tie.Need-add-a
 add-a c = search needs
@@ -45,14 +45,14 @@ slice-write-s c = search needs
 
 same-length : tie.Need-same-length
 same-length c =
-    let after-shift = after-shift-from-slice-known3 c in
+    let after-shift = shifted c in
     let start = after-shift .before .before .before .before in
     let a = start .args in
     length-set (c .before .before .write-slot .last .0) (a .base) (a .n + 1) ∙ c .before .before .write-slot .kept .0 ∙ after-shift .shift .kept .0
 
 returns : tie.Need-returns
 returns c =
-    let after-shift = after-shift-from-slice-known3 c in
+    let after-shift = shifted c in
     let start = after-shift .before .before .before .before in
     let a = start .args in
     let p = start .pre in

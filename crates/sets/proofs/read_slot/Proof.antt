@@ -15,12 +15,9 @@ Inv-loop s a out₀ n j₀ out j = (j ≤ n) × (n ≤ mostNodes) × (length out
 abbrev μ-loop : tie.MeasureT-loop
 μ-loop s a out₀ n j₀ out j = n - j
 
--- places on the way, by the place from which they are seen
-abbrev start-from-loop : tie.After-loop Inv-loop μ-loop → tie.Start Inv-loop μ-loop
-start-from-loop c = c .before .before .before .before .before .before
-
-abbrev start-from-shared-slice-known3 : tie.After-shared-slice-known3 Inv-loop μ-loop → tie.Start Inv-loop μ-loop
-start-from-shared-slice-known3 c = c .before .before .before .before .before .before .before
+-- where the function begins
+abbrev entered : tie.At-loop Inv-loop μ-loop → tie.Start Inv-loop μ-loop
+entered c = c .before .before .before .before .before
 
 mul-capped : tie.Need-mul-capped Inv-loop μ-loop
 mul-capped c = search needs
@@ -60,7 +57,7 @@ loop-less c = search needs
 
 loop-again : tie.Need-loop-again Inv-loop μ-loop
 loop-again c =
-    let a = start-from-shared-slice-known3 c .args in
+    let a = entered (c .before .before) .args in
     let lp = c .before .before .loop in (
       omega arith,
       lp .inv .1,
@@ -73,7 +70,7 @@ same-length c = search needs
 
 returns : tie.Need-returns Inv-loop μ-loop
 returns c =
-    let a = start-from-loop c .args in
+    let a = entered (c .before) .args in
     let cap = c .before .before .capped in
     let lp = c .before .loop in
     let e : lp .j ≡ cap .result = omega arith in

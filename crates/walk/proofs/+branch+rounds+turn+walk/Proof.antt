@@ -171,20 +171,18 @@ branch-else t g =
     let other = g .pre .1 .2 in
     laid-le (stmts (g .args .s .now)) (mates (g .args .s .now)) (other .code) (g .args .e + 1) (g .args .f) (other .lies)
 
--- places on the way, by the place from which they are seen
-abbrev branch-after-walk-from-known-told : (t : ℕ) → branch-lts.After-known-told (branch-told t) (branch-at t) branch.Post → branch-lts.After-walk (branch-told t) (branch-at t) branch.Post
-branch-after-walk-from-known-told t c = c .before .before .before .before .before
+-- behind the walk of each branch, where it was refused and where it was done
+abbrev first-refused : (t : ℕ) → branch-lts.After-known-told (branch-told t) (branch-at t) branch.Post → BranchFirst t
+first-refused t c = c .before .before .before .before .before
 
-abbrev branch-after-walk-from-switch-branch-arg : (t : ℕ) → branch-lts.After-switch-branch-arg (branch-told t) (branch-at t) branch.Post
-    → branch-lts.After-walk (branch-told t) (branch-at t) branch.Post
-branch-after-walk-from-switch-branch-arg t c = c .before .before .before .before .before
+abbrev first-done : (t : ℕ) → branch-lts.After-switch-branch-arg (branch-told t) (branch-at t) branch.Post → BranchFirst t
+first-done t c = c .before .before .before .before .before
 
-abbrev branch-after-walk2-from-close-branch-arg : (t : ℕ) → branch-lts.After-close-branch-arg (branch-told t) (branch-at t) branch.Post
-    → branch-lts.After-walk2 (branch-told t) (branch-at t) branch.Post
-branch-after-walk2-from-close-branch-arg t c = c .before .before .before .before .before
+abbrev other-done : (t : ℕ) → branch-lts.After-close-branch-arg (branch-told t) (branch-at t) branch.Post → BranchOther t
+other-done t c = c .before .before .before .before .before
 
-abbrev branch-after-walk2-from-known-told2 : (t : ℕ) → branch-lts.After-known-told2 (branch-told t) (branch-at t) branch.Post → branch-lts.After-walk2 (branch-told t) (branch-at t) branch.Post
-branch-after-walk2-from-known-told2 t c = c .before .before .before .before .before
+abbrev other-refused : (t : ℕ) → branch-lts.After-known-told2 (branch-told t) (branch-at t) branch.Post → BranchOther t
+other-refused t c = c .before .before .before .before .before
 
 branch-open-branch-requires : (t : ℕ) → branch-lts.Need-open-branch-requires (branch-told t) (branch-at t) branch.Post
 branch-open-branch-requires t c κs = search needs
@@ -220,7 +218,7 @@ branch-enum-told t c = search needs
 
 branch-switch-branch-requires : (t : ℕ) → branch-lts.Need-switch-branch-requires (branch-told t) (branch-at t) branch.Post
 branch-switch-branch-requires t c κs =
-    let w = branch-after-walk-from-switch-branch-arg t c in
+    let w = first-done t c in
     let g = branch-start t w in
     omega (arith, branch-opened t w .open-branch .kept .0, w .walk .kept .0, g .pre .1 .0 .room)
 
@@ -255,7 +253,7 @@ branch-enum-told-2 t c = search needs
 
 branch-close-branch-requires : (t : ℕ) → branch-lts.Need-close-branch-requires (branch-told t) (branch-at t) branch.Post
 branch-close-branch-requires t c κs =
-    let v = branch-after-walk2-from-close-branch-arg t c in
+    let v = other-done t c in
     let u = switch-of t v in
     let w = first-of t u in
     let g = branch-start t w in
@@ -272,7 +270,7 @@ branch-same-length t c = search needs
 
 branch-returns : (t : ℕ) → branch-lts.Need-returns (branch-told t) (branch-at t) branch.Post
 branch-returns t c =
-    let w = branch-after-walk-from-known-told t c in
+    let w = first-refused t c in
     let g = branch-start t w .args in
     first-branch-refused (g .p) (g .e) (g .f) (g .b) (g .s .now) (w .walk .result) (w .walk .last .0) (branch-first t w) _ (c .before .n .given .1)
 
@@ -281,7 +279,7 @@ branch-same-length-2 t c = search needs
 
 branch-returns-2 : (t : ℕ) → branch-lts.Need-returns-2 (branch-told t) (branch-at t) branch.Post
 branch-returns-2 t c =
-    let v = branch-after-walk2-from-known-told2 t c in
+    let v = other-refused t c in
     let g = branch-start t (first-of t (switch-of t v)) .args in
     other-branch-refused (g .p) (g .e) (g .f) (g .b) (g .s .now) (v .walk2 .result) (v .walk2 .last .0) (branch-other t v) _ (c .before .n2 .given .1)
 
@@ -291,7 +289,7 @@ branch-same-length-3 t c = search needs
 branch-returns-3 : (t : ℕ) → branch-lts.Need-returns-3 (branch-told t) (branch-at t) branch.Post
 branch-returns-3 t c =
     let r = c .before .before in
-    let v = branch-after-walk2-from-close-branch-arg t (r .before) in
+    let v = other-done t (r .before) in
     let g = branch-start t (first-of t (switch-of t v)) .args in
     both-joined (g .p) (g .e) (g .f) (g .b) (g .s .now) (v .walk2 .result) (v .walk2 .last .0) (branch-other t v) (r .before .before .enum-told2 .given .1)
     (r .close-branch .last .0) (r .close-branch .result) (r .close-branch .ensures)
@@ -347,20 +345,20 @@ rounds-from t c =
       table = below-table (g .args .b) (g .args .s .now) (o .last .0) (ready .behind) (omega (arith, ready .room)) (o .kept .0) (o .ensures .below);
     }
 
--- places on the way, by the place from which they are seen
-abbrev rounds-after-walk-from-close-round-arg : (t : ℕ)
+-- behind the walk of the body, where it was done and where it was refused; and behind the closing that was refused
+abbrev body-done : (t : ℕ)
     → rounds-lts.After-close-round-arg (rounds-told t) (rounds-at t) rounds.Post rounds-Inv-loop rounds-μ-loop
-    → rounds-lts.After-walk (rounds-told t) (rounds-at t) rounds.Post rounds-Inv-loop rounds-μ-loop
-rounds-after-walk-from-close-round-arg t c = c .before .before .before .before .before
+    → RoundsBody t
+body-done t c = c .before .before .before .before .before
 
-abbrev rounds-after-walk-from-known-told : (t : ℕ) → rounds-lts.After-known-told (rounds-told t) (rounds-at t) rounds.Post rounds-Inv-loop rounds-μ-loop
-    → rounds-lts.After-walk (rounds-told t) (rounds-at t) rounds.Post rounds-Inv-loop rounds-μ-loop
-rounds-after-walk-from-known-told t c = c .before .before .before .before .before
+abbrev body-stopped : (t : ℕ) → rounds-lts.After-known-told (rounds-told t) (rounds-at t) rounds.Post rounds-Inv-loop rounds-μ-loop
+    → RoundsBody t
+body-stopped t c = c .before .before .before .before .before
 
-abbrev rounds-after-close-round-from-known-told2 : (t : ℕ)
+abbrev closing-stopped : (t : ℕ)
     → rounds-lts.After-known-told2 (rounds-told t) (rounds-at t) rounds.Post rounds-Inv-loop rounds-μ-loop
-    → rounds-lts.After-close-round (rounds-told t) (rounds-at t) rounds.Post rounds-Inv-loop rounds-μ-loop
-rounds-after-close-round-from-known-told2 t c = c .before .before .before .before .before
+    → RoundsClosed t
+closing-stopped t c = c .before .before .before .before .before
 
 rounds-open-rounds-requires : (t : ℕ) → rounds-lts.Need-open-rounds-requires (rounds-told t) (rounds-at t) rounds.Post rounds-Inv-loop rounds-μ-loop
 rounds-open-rounds-requires t c κs = search needs
@@ -402,7 +400,7 @@ rounds-enum-told t c = search needs
 
 rounds-close-round-requires : (t : ℕ) → rounds-lts.Need-close-round-requires (rounds-told t) (rounds-at t) rounds.Post rounds-Inv-loop rounds-μ-loop
 rounds-close-round-requires t c κs =
-    let w = rounds-after-walk-from-close-round-arg t c in
+    let w = body-done t c in
     let h = loop-of t w in
     let o = open-of t h in
     let g = rounds-start t o in
@@ -454,7 +452,7 @@ rounds-same-length-2 t c = search needs
 
 rounds-returns-2 : (t : ℕ) → rounds-lts.Need-returns-2 (rounds-told t) (rounds-at t) rounds.Post rounds-Inv-loop rounds-μ-loop
 rounds-returns-2 t c =
-    let w = rounds-after-walk-from-known-told t c in
+    let w = body-stopped t c in
     let h = loop-of t w in
     let o = open-of t h in
     let g = rounds-start t o in
@@ -481,7 +479,7 @@ rounds-same-length-4 t c = search needs
 
 rounds-returns-4 : (t : ℕ) → rounds-lts.Need-returns-4 (rounds-told t) (rounds-at t) rounds.Post rounds-Inv-loop rounds-μ-loop
 rounds-returns-4 t c =
-    let u = rounds-after-close-round-from-known-told2 t c in
+    let u = closing-stopped t c in
     let w = body-of t u in
     let h = loop-of t w in
     let o = open-of t h in
@@ -739,18 +737,18 @@ walk-turned t c e m k =
     (f .before .before .loop-test .taken) (f .beginning .ensures) (c .turn .last .0) (c .turn .result) (c .turn .ensures) e (ready .behind)
     (omega (arith, ready .room)) (c .turn .kept .0) m k
 
--- places on the way, by the place from which they are seen
-abbrev walk-after-beginning-from-spared-plain2 : (t : ℕ) → walk-lts.After-spared-plain2 (walk-told t) (walk-at t) walk.Post walk-Inv-loop walk-μ-loop
-    → walk-lts.After-beginning (walk-told t) (walk-at t) walk.Post walk-Inv-loop walk-μ-loop
-walk-after-beginning-from-spared-plain2 t c = c .before .before .before .before .before
+-- behind the beginning of a block that is passed over; and behind a turn, where it was refused and where it was done
+abbrev begun-of-spared : (t : ℕ) → walk-lts.After-spared-plain2 (walk-told t) (walk-at t) walk.Post walk-Inv-loop walk-μ-loop
+    → WalkBegun t
+begun-of-spared t c = c .before .before .before .before .before
 
-abbrev walk-after-turn-from-known-told : (t : ℕ) → walk-lts.After-known-told (walk-told t) (walk-at t) walk.Post walk-Inv-loop walk-μ-loop
-    → walk-lts.After-turn (walk-told t) (walk-at t) walk.Post walk-Inv-loop walk-μ-loop
-walk-after-turn-from-known-told t c = c .before .before .before .before .before
+abbrev turn-stopped : (t : ℕ) → walk-lts.After-known-told (walk-told t) (walk-at t) walk.Post walk-Inv-loop walk-μ-loop
+    → WalkTurned t
+turn-stopped t c = c .before .before .before .before .before
 
-abbrev walk-after-turn-from-of-set-arg2 : (t : ℕ) → walk-lts.After-of-set-arg2 (walk-told t) (walk-at t) walk.Post walk-Inv-loop walk-μ-loop
-    → walk-lts.After-turn (walk-told t) (walk-at t) walk.Post walk-Inv-loop walk-μ-loop
-walk-after-turn-from-of-set-arg2 t c = c .before .before .before .before .before
+abbrev turn-taken : (t : ℕ) → walk-lts.After-of-set-arg2 (walk-told t) (walk-at t) walk.Post walk-Inv-loop walk-μ-loop
+    → WalkTurned t
+turn-taken t c = c .before .before .before .before .before
 
 walk-of-set-requires : (t : ℕ) → walk-lts.Need-of-set-requires (walk-told t) (walk-at t) walk.Post walk-Inv-loop walk-μ-loop
 walk-of-set-requires t c κs = let g = c .before .before in omega (arith, g .pre .1 .0 .room)
@@ -793,7 +791,7 @@ walk-spared-plain-requires-2 t c κs =
 
 walk-loop-less : (t : ℕ) → walk-lts.Need-loop-less (walk-told t) (walk-at t) walk.Post walk-Inv-loop walk-μ-loop
 walk-loop-less t c =
-    let f = walk-after-beginning-from-spared-plain2 t c in
+    let f = begun-of-spared t c in
     omega (arith, walk-bounds t f .1, c .spared-plain2 .ensures .most)
 
 walk-loop-again : (t : ℕ) → walk-lts.Need-loop-again (walk-told t) (walk-at t) walk.Post walk-Inv-loop walk-μ-loop
@@ -836,7 +834,7 @@ walk-same-length t c = search needs
 
 walk-returns : (t : ℕ) → walk-lts.Need-returns (walk-told t) (walk-at t) walk.Post walk-Inv-loop walk-μ-loop
 walk-returns t c =
-    let w = walk-after-turn-from-known-told t c in
+    let w = turn-stopped t c in
     let f = begun-of t w in
     let h = head-of t f .loop in
     let g = walk-start t (head-of t f) in
@@ -849,7 +847,7 @@ walk-enum-told t c = search needs
 
 walk-of-set-requires-2 : (t : ℕ) → walk-lts.Need-of-set-requires-2 (walk-told t) (walk-at t) walk.Post walk-Inv-loop walk-μ-loop
 walk-of-set-requires-2 t c κs =
-    let w = walk-after-turn-from-of-set-arg2 t c in
+    let w = turn-taken t c in
     let h = head-of t (begun-of t w) in
     omega (arith, walk-start t h .pre .1 .0 .room, h .loop .inv .same-length, w .turn .kept .0)
 

@@ -16,12 +16,15 @@ Inv-loop seen m w s n₀ j₀ n j = (j ≤ m) × (n ≤ j) × (s ≡ keyOf w) ×
 abbrev μ-loop : tie.MeasureT-loop
 μ-loop seen m w s n₀ j₀ n j = m - j
 
--- places on the way, by the place from which they are seen
-abbrev start-from-then1 : tie.Then1 Inv-loop μ-loop → tie.Start Inv-loop μ-loop
-start-from-then1 c = c .before .before .before .before .before .before
+-- where the function begins, and the head of the loop, from an atom that is met and past one
+abbrev entered : tie.At-loop Inv-loop μ-loop → tie.Start Inv-loop μ-loop
+entered c = c .before .before .before
 
-abbrev start-from-tick : tie.After-tick Inv-loop μ-loop → tie.Start Inv-loop μ-loop
-start-from-tick c = c .before .before .before .before .before .before .before
+abbrev head : tie.Then1 Inv-loop μ-loop → tie.At-loop Inv-loop μ-loop
+head c = c .before .before .before
+
+abbrev head-past : tie.After-tick Inv-loop μ-loop → tie.At-loop Inv-loop μ-loop
+head-past c = c .before .before .before .before
 
 source-requires : tie.Need-source-requires Inv-loop μ-loop
 source-requires c κs = search needs
@@ -42,12 +45,12 @@ shared-slice-read-k c = search needs
 
 returns : tie.Need-returns Inv-loop μ-loop
 returns c =
-    let start = start-from-then1 c in
+    let start = entered (head c) in
     let a = start .args in
     let p = start .pre in
     let h : a .m ≤ length (a .seen .now) = p .0 in
     let len : length (take (a .m) (a .seen .now)) ≡ a .m = length-take-le (a .m) (a .seen .now) (omega arith) in
-    let lp = c .before .before .before .loop in
+    let lp = head c .loop in
     let f = left-met (a .seen .now) (a .m) (a .w) (omega arith) (p .1) (p .2) (lp .j) (lp .n) (lp .inv .3) (omega arith) (c .if1 .taken) in
     record { known = f .1; number = f .0; small = omega arith }
 
@@ -65,12 +68,12 @@ loop-less c = search needs
 
 loop-again : tie.Need-loop-again Inv-loop μ-loop
 loop-again c =
-    let start = start-from-tick c in
+    let start = entered (head-past c) in
     let a = start .args in
     let p = start .pre in
     let h : a .m ≤ length (a .seen .now) = p .0 in
     let len : length (take (a .m) (a .seen .now)) ≡ a .m = length-take-le (a .m) (a .seen .now) (omega arith) in
-    let lp = c .before .before .before .before .loop in (
+    let lp = head-past c .loop in (
       omega arith,
       omega arith,
       lp .inv .2,
@@ -80,8 +83,9 @@ loop-again c =
 
 returns-2 : tie.Need-returns-2 Inv-loop μ-loop
 returns-2 c =
-    let a = c .before .before .before .before .args in
-    let p = c .before .before .before .before .pre in
+    let start = entered (c .before) in
+    let a = start .args in
+    let p = start .pre in
     let h : a .m ≤ length (a .seen .now) = p .0 in
     let len : length (take (a .m) (a .seen .now)) ≡ a .m = length-take-le (a .m) (a .seen .now) (omega arith) in
     let lp = c .before .loop in

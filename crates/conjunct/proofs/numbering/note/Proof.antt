@@ -11,12 +11,12 @@ use Rattle.conjunct.proofs.numbering.Notes.{noted-other, noted-known, n
 use Rattle.conjunct.proofs.numbering.note.Statement.{statement}
 use Rattle.conjunct.proofs.numbering.note.Tie as tie
 
--- places on the way, by the place from which they are seen
-abbrev start-from-struct-known : tie.After-struct-known → tie.Start
-start-from-struct-known c = c .before .before .before .before .before .before
+-- where the function begins, and where the word is an atom
+abbrev entered : tie.After-struct-known → tie.Start
+entered c = c .before .before .before .before .before .before
 
-abbrev else1-from-numbered : tie.After-numbered → tie.Else1
-else1-from-numbered c = c .before .before .before .before
+abbrev is-an-atom : tie.After-numbered → tie.Else1
+is-an-atom c = c .before .before .before .before
 
 is-atom-requires : tie.Need-is-atom-requires
 is-atom-requires c κs = search needs
@@ -32,7 +32,7 @@ look-up-requires c κs =
 
 add-numbered : tie.Need-add-numbered
 add-numbered c =
-    let start = start-from-struct-known c in
+    let start = entered c in
     let a = start .args in
     let p = start .pre in
     let len : length (take (a .m) (a .seen .now)) ≡ a .m = length-take-le (a .m) (a .seen .now) (omega arith) in
@@ -40,7 +40,7 @@ add-numbered c =
 
 numbered-requires : tie.Need-numbered-requires
 numbered-requires c κs =
-    let start = start-from-struct-known c in
+    let start = entered c in
     let a = start .args in
     let p = start .pre in
     let len : length (take (a .m) (a .seen .now)) ≡ a .m = length-take-le (a .m) (a .seen .now) (omega arith) in
@@ -51,7 +51,7 @@ same-length c = search needs
 
 returns-2 : tie.Need-returns-2
 returns-2 c =
-    let else1 = else1-from-numbered (c .before) in
+    let else1 = is-an-atom (c .before) in
     let after-is-atom = else1 .before in
     let start = after-is-atom .before .before in
     let a = start .args in
@@ -74,7 +74,7 @@ same-length-2 c = search needs
 
 returns-3 : tie.Need-returns-3
 returns-3 c =
-    let else1 = else1-from-numbered (c .before) in
+    let else1 = is-an-atom (c .before) in
     let after-is-atom = else1 .before in
     let start = after-is-atom .before .before in
     let a = start .args in

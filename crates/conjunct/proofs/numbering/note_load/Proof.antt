@@ -10,9 +10,9 @@ use Rattle.conjunct.proofs.numbering.LoadsBehind.{load-atom, load-other
 use Rattle.conjunct.proofs.numbering.note_load.Statement.{statement}
 use Rattle.conjunct.proofs.numbering.note_load.Tie as tie
 
--- places on the way, by the place from which they are seen
-abbrev start-from-look-up : tie.After-look-up → tie.Start
-start-from-look-up c = c .before .before .before .before .before
+-- where the function begins
+abbrev entered : tie.After-look-up → tie.Start
+entered c = c .before .before .before .before .before
 
 is-load-requires : tie.Need-is-load-requires
 is-load-requires c κs = search needs
@@ -38,7 +38,7 @@ same-length c = search needs
 
 returns-2 : tie.Need-returns-2
 returns-2 c =
-    let start = start-from-look-up (c .before) in
+    let start = entered (c .before) in
     let a = start .args in
     let r = c .before .look-up in
     let i : isLoad (a .array) (a .len) (nodeOf (a .w)) ≡ true =
@@ -59,7 +59,7 @@ same-length-2 c = search needs
 
 returns-3 : tie.Need-returns-3
 returns-3 c =
-    let start = start-from-look-up (c .before) in
+    let start = entered (c .before) in
     let a = start .args in
     let r = c .before .look-up in
     let i : isLoad (a .array) (a .len) (nodeOf (a .w)) ≡ true =

@@ -8,12 +8,12 @@ use Rattle.conjunct.proofs.numbering.Fresh.{put-none, put-one, put-two,
 use Rattle.conjunct.proofs.numbering.put.Statement.{statement}
 use Rattle.conjunct.proofs.numbering.put.Tie as tie
 
--- places on the way, by the place from which they are seen
-abbrev start-from-out3 : tie.After-out3 → tie.Start
-start-from-out3 c = c .before .before .before .before .before .before
+-- where the function begins, from the third node and from the end with two
+abbrev entered-three : tie.After-out3 → tie.Start
+entered-three c = c .before .before .before .before .before .before
 
-abbrev start-from-then3 : tie.Then3 → tie.Start
-start-from-then3 c = c .before .before .before .before .before
+abbrev entered-two : tie.Then3 → tie.Start
+entered-two c = c .before .before .before .before .before
 
 returns : tie.Need-returns
 returns c =
@@ -60,7 +60,7 @@ same-length-2 c = search needs
 
 returns-3 : tie.Need-returns-3
 returns-3 c =
-    let a = start-from-then3 c .args in
+    let a = entered-two c .args in
     let h : length (a .t3 .nodes) ≡ 3 = search needs in
     let e : a .t3 .len ≡ 2 = omega arith in
     rw e (put-two (a .out .now) (a .t3 .nodes) (a .m) h (omega arith))
@@ -76,7 +76,7 @@ mul-out-3 c = search needs
 
 slice-write-out-3 : tie.Need-slice-write-out-3
 slice-write-out-3 c =
-    let a = start-from-out3 c .args in
+    let a = entered-three c .args in
     omega (
       arith,
       length-set (a .out .now) (a .m) (getD (a .t3 .nodes) 0 0),
@@ -88,7 +88,7 @@ same-length-3 c = search needs
 
 returns-4 : tie.Need-returns-4
 returns-4 c =
-    let a = start-from-out3 c .args in
+    let a = entered-three c .args in
     let h : length (a .t3 .nodes) ≡ 3 = search needs in
     let e : a .t3 .len ≡ 3 = omega arith in
     rw e (put-three (a .out .now) (a .t3 .nodes) (a .m) h (omega arith))

@@ -20,12 +20,12 @@ Inv-loop e n x r out₀ seen k m₀ i₀ out m i =
 abbrev μ-loop : tie.MeasureT-loop
 μ-loop e n x r out₀ seen k m₀ i₀ out m i = n - i
 
--- places on the way, by the place from which they are seen
-abbrev at-loop-from-else1 : tie.Else1 Inv-loop μ-loop → tie.At-loop Inv-loop μ-loop
-at-loop-from-else1 c = c .before .before .before .before
+-- the head of the loop, from a word that is not the variable and from where the nodes are too many; and the variable found
+abbrev head : tie.Else1 Inv-loop μ-loop → tie.At-loop Inv-loop μ-loop
+head c = c .before .before .before .before
 
-abbrev at-loop-from-then2 : tie.Then2 Inv-loop μ-loop → tie.At-loop Inv-loop μ-loop
-at-loop-from-then2 c = c .before .before .before .before .before
+abbrev head-over : tie.Then2 Inv-loop μ-loop → tie.At-loop Inv-loop μ-loop
+head-over c = c .before .before .before .before .before
 
 abbrev found : tie.After-slice-known3 Inv-loop μ-loop → tie.Then1 Inv-loop μ-loop
 found c = c .before .before .before .before .before
@@ -51,7 +51,7 @@ same-length c = search needs
 
 returns : tie.Need-returns Inv-loop μ-loop
 returns c =
-    let at-loop = at-loop-from-then2 c in
+    let at-loop = head-over c in
     let start = at-loop .before .before .before .before in
     let a = start .args in
     let p = start .pre in
@@ -99,7 +99,7 @@ same-length-2 c = search needs
 
 returns-2 : tie.Need-returns-2 Inv-loop μ-loop
 returns-2 c =
-    let at-loop = at-loop-from-else1 (c .before) in
+    let at-loop = head (c .before) in
     let start = at-loop .before .before .before .before in
     let a = start .args in
     let p = start .pre in
@@ -125,7 +125,7 @@ loop-less-2 c = search needs
 
 loop-again-2 : tie.Need-loop-again-2 Inv-loop μ-loop
 loop-again-2 c =
-    let at-loop = at-loop-from-else1 (c .before) in
+    let at-loop = head (c .before) in
     let start = at-loop .before .before .before .before in
     let a = start .args in
     let lp = at-loop .loop in
