@@ -6,10 +6,11 @@ use Prim.Native.Nat.{ℕ, _≤_, _<_}
 use native.Mathlib.Omega.{arith}
 use lib.ListN.{length}
 use Rattle.model.specs.Conjunct.{Conj, Conjuncts, renumber}
+use Rattle.model.specs.Kinds.{aLoad}
 use Rattle.model.specs.Walk.{nodes, replace, before}
 use Rattle.model.specs.Sizes.{mostConjuncts, mostNodes}
 use Rattle.model.specs.Refusals.{tooManyNodes}
-use Rattle.code_table.specs.Statements.{instrOf}
+use Rattle.code_table.specs.Statements.{instrOf, numberOf}
 use Rattle.code_table.specs.declared.Decoded.{Decoded}
 use Rattle.conjunct.specs.Value.{conjOf}
 use Rattle.conjunct.specs.Behind.{rightOf, Replaced}
@@ -27,7 +28,7 @@ use Rattle.rules.specs.declared.Answer.the-variants.{Done, Refused}
 pub assigned-few : (u : Substituted) (m : ℕ) → u ≡ Nodes m → (e : Conj) (x : ℕ) (r : Right) (out : List ℕ) → Replaced u e x r out → m ≤ mostNodes
 assigned-few u m q e x r out h = subst (λ v. Replaced v e x r out) q h .0
 
-module _ (d : Decoded) (l : ℕ) (e : Conj) (small : d .kind ≤ 8) (r : Right) (right : rightOf r ≡ nodes l (d .ty) (sideOf d)) (u : Substituted)
+module _ (d : Decoded) (l : ℕ) (e : Conj) (small : d .kind ≤ numberOf aLoad) (r : Right) (right : rightOf r ≡ nodes l (d .ty) (sideOf d)) (u : Substituted)
     (out : List ℕ)
     (replaced : Replaced u e (d .a) r out) where
   abbrev whole : Conj

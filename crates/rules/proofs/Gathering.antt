@@ -10,13 +10,14 @@ use Rattle.model.specs.Conjunct.{Conj, Conjuncts, unionOf, limits, renumber}
 use Rattle.model.specs.Lists.{All}
 use Rattle.model.specs.Code.{Instr}
 use Rattle.model.specs.Refusals.{ok, refused}
+use Rattle.model.specs.Kinds.{aStore}
 use Rattle.model.specs.Walk.{before, gather, back}
 use Rattle.model.specs.Sizes.{mostConjuncts}
 use Rattle.model.proofs.Canonical.{union-length}
 use Rattle.model.proofs.Gather.{gather-canon, gather-mono}
 use Rattle.model.proofs.Lists.{all-getD}
 use Rattle.model.specs.TidySets.{Sub, Canon, Mem, Numbered}
-use Rattle.code_table.specs.Statements.{instrOf}
+use Rattle.code_table.specs.Statements.{instrOf, OfKind}
 use Rattle.code_table.specs.declared.Decoded.{Decoded}
 use Rattle.sets.proofs.Rows.{frame}
 use Rattle.sets.specs.Region.{setOf, Within, regionWords}
@@ -84,7 +85,7 @@ module _ (f : Conj → List Conj) where
 -- ---- the rule
 
 -- a store makes no conjunct longer
-pub store-premise : (d : Decoded) (l : ℕ) (s : List ℕ) (b : ℕ) → d .kind ≡ 9 → NoneLong (gather (before l (instrOf d)) (setOf s b))
+pub store-premise : (d : Decoded) (l : ℕ) (s : List ℕ) (b : ℕ) → OfKind aStore d → NoneLong (gather (before l (instrOf d)) (setOf s b))
 store-premise d l s b e =
     subst (λ i. NoneLong (gather (before l i) (setOf s b))) (sym (stores d e))
     (store-short (d .c) (d .ty) l (d .a) (d .len) (d .b) (setOf s b) (set-short s b))

@@ -5,9 +5,10 @@ use native.Mathlib.Omega.{arith}
 use borrow.Author.Tests.{not-true, not-false}
 use borrow.Author.Needs.{needs}
 use Rattle.model.specs.Conjunct.{renumber}
+use Rattle.model.specs.Kinds.{aStore}
 use Rattle.model.specs.Walk.{before}
 use Rattle.model.specs.Refusals.{tooManyConjuncts}
-use Rattle.code_table.specs.Statements.{instrOf}
+use Rattle.code_table.specs.Statements.{instrOf, OfKind}
 use Rattle.conjunct.specs.Value.{conjOf}
 use Rattle.rules.proofs.Additions.{added-store, added-in, added-full}
 use Rattle.rules.proofs.ByKind.{writes-kind}
@@ -41,7 +42,7 @@ unchanged c =
     before-none (a .label) (instrOf (a .d)) (conjOf (a .e .now) (a .n)) (sym (c .before .touched .ensures) ∙ not-true _ (c .if1 .taken)) (start .pre .numbered)
 
 -- what touches it and is no assignment is a store
-is-store : (c : tie.Else3) → entry (c .before .before) .args .d .kind ≡ 9
+is-store : (c : tie.Else3) → OfKind aStore (entry (c .before .before) .args .d)
 is-store c =
     let start = entry (c .before .before) in
     let a = start .args in
@@ -63,7 +64,7 @@ returns c =
     let start = entry (t .before) in
     let a = start .args in
     let i = c .before .before .before .insert in (
-      subst (λ R. Added (Refused tooManyConjuncts) (λ G. a .d .kind ≡ 9 → NoneLong G) R (a .room) (a .s .now) (i .last .0)) (sym (unchanged t))
+      subst (λ R. Added (Refused tooManyConjuncts) (λ G. OfKind aStore (a .d) → NoneLong G) R (a .room) (a .s .now) (i .last .0)) (sym (unchanged t))
           (added-full (conjOf (a .e .now) (a .n)) (a .room) (a .s .now) (i .last .0) (i .result) (not-true _ (c .if2 .taken)) (a .d .kind)
           (start .pre .space) (start .pre .given .room .canon) (i .ensures .0)),
       i .ensures .1,
@@ -126,7 +127,7 @@ returns-4 c =
     let else3 = stored c .before .before .before .before in
     let a = entry (else3 .before .before) .args in
     let r = stored c .store-one in (
-      added-store (r .result) (a .d .kind ≡ 9) (map renumber (before (a .label) (instrOf (a .d)) (conjOf (a .e .now) (a .n)))) (a .room) (a .s .now)
+      added-store (r .result) (OfKind aStore (a .d)) (map renumber (before (a .label) (instrOf (a .d)) (conjOf (a .e .now) (a .n)))) (a .room) (a .s .now)
           (r .last .0) (is-store else3) (r .ensures .0 (a .label)),
       r .ensures .1,
     )

@@ -1,8 +1,10 @@
 -- `rules::assign_one` meets its contract: the substitution is over 120 nodes long, or is inserted.
-use mathlib.Core.Path.{_≡_, refl}
+use mathlib.Core.Path.{refl}
 use borrow.Author.Needs.{needs}
 use native.Mathlib.Omega.{arith}
 use Rattle.model.specs.Conjunct.{Conj, Conjuncts}
+use Rattle.model.specs.Kinds.{aStore}
+use Rattle.code_table.specs.Statements.{OfKind}
 use Rattle.conjunct.specs.Value.{conjOf}
 use Rattle.conjunct.proofs.numbering.Fresh.{right-fresh}
 use Rattle.rules.proofs.Assigning.{assigned-few, assigned-over, assigned-in}
@@ -31,7 +33,7 @@ abbrev whole : tie.After-substitute → Conj
 whole c = conjOf (entry (right c) .args .e .now) (entry (right c) .args .n)
 
 abbrev Premise : tie.After-substitute → Conjuncts → Type 0
-Premise c G = entry (right c) .args .d .kind ≡ 9 → NoneLong G
+Premise c G = OfKind aStore (entry (right c) .args .d) → NoneLong G
 
 right-side-requires : tie.Need-right-side-requires
 right-side-requires c κs = search needs

@@ -6,9 +6,10 @@ use native.Mathlib.Omega.{arith}
 use lib.ListN.{length, drop}
 use borrow.Author.Needs.{needs}
 use Rattle.model.specs.Conjunct.{Conj, Conjuncts}
+use Rattle.model.specs.Kinds.{aStore}
 use Rattle.model.specs.Walk.{before, gather}
 use Rattle.model.specs.Sizes.{mostConjuncts}
-use Rattle.code_table.specs.Statements.{instrOf}
+use Rattle.code_table.specs.Statements.{instrOf, OfKind}
 use Rattle.conjunct.specs.Value.{conjOf}
 use Rattle.sets.proofs.Rows.{within-trans}
 use Rattle.sets.specs.Region.{setOf, Within}
@@ -67,7 +68,7 @@ abbrev this : Got → Conj
 this c = conjOf (c .get .last .1 .1 .1 .0) (c .get .result)
 
 abbrev Premise : Got → Conjuncts → Type 0
-Premise c G = entry c .args .d .kind ≡ 9 → NoneLong G
+Premise c G = OfKind aStore (entry c .args .d) → NoneLong G
 
 next : (c : Got) → at-loop c .loop .k - 1 + 1 ≡ at-loop c .loop .k
 next c = omega (arith, in-loop c .loop-test .taken)
