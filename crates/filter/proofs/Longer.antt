@@ -151,4 +151,5 @@ shortened c s =
     (λ q.
     let l = leb-false (length c) conditionBytes q in
     verdict-steps (conditionPart c) (inputPart s)
-    ∙ rw (condition-long (conditionPart c) (omega (arith, length-take-le (conditionBytes + 1) c (omega arith)))) (sym (verdict-steps c s ∙ rw (condition-long c l))))
+    ∙ rw (condition-long (conditionPart c) (omega (arith, length-take-le (conditionBytes + 1) c (omega arith))))
+    (sym (verdict-steps c s ∙ rw (condition-long c l))))
