@@ -7,7 +7,7 @@ use native.Mathlib.Omega.{arith}
 use lib.ListN.{length, getD}
 use borrow.Author.Tests.{lt-ltb}
 use Rattle.model.specs.Conjunct.{Conj, Conjuncts, withConjunct, unionOf, long, limits}
-use Rattle.model.specs.Refusals.{ok, refused, _>>=_}
+use Rattle.model.specs.Refusals.{ok, refused, _>>=_, tooManyConjuncts}
 use Rattle.model.specs.Sizes.{mostConjuncts}
 use Rattle.model.specs.Walk.{start}
 use Rattle.model.specs.TidySets.{Tidy}
@@ -45,7 +45,7 @@ module _ (s : List ℕ) (a b : ℕ) where
   union-fits : length both ≤ mostConjuncts → limits both ≡ ok both
   union-fits h = fine-limits both (record { short = both-short; few = h })
 
-  union-over : mostConjuncts < length both → limits both ≡ refused 10
+  union-over : mostConjuncts < length both → limits both ≡ refused tooManyConjuncts
   unfolding limits
   union-over h = rw (both-short, lt-ltb mostConjuncts (length both) h)
 
@@ -58,7 +58,7 @@ module _ (s t : List ℕ) (b : ℕ) (len : length t ≡ length s) (fits : b + re
       ap (λ o. o >>= λ Z. limits (unionOf (setOf s b) Z)) at-start
       ∙ ap (λ R. limits (unionOf R (setOf t (b + regionWords)))) (sym (region-below s t b (b + regionWords) len (omega arith) fits below))
 
-  pub joined-over : (u : List ℕ) (r : Bool) → r ≡ false → Joined r b (b + regionWords) t u → joinedTo (setOf s b) (setOf s (b + regionWords)) ≡ refused 10
+  pub joined-over : (u : List ℕ) (r : Bool) → r ≡ false → Joined r b (b + regionWords) t u → joinedTo (setOf s b) (setOf s (b + regionWords)) ≡ refused tooManyConjuncts
   joined-over u true e h = absurd (true→T (sym e))
   joined-over u false e h = started ∙ union-over t b (b + regionWords) h
 

@@ -4,7 +4,7 @@ use mathlib.Core.List.{List, [], _∷_, _++_}
 use Prim.Native.Nat.{ℕ, zero, suc}
 use native.Mathlib.Omega.{arith}
 use Rattle.arith.specs.Types.{bits}
-use Rattle.model.specs.Refusals.{refused}
+use Rattle.model.specs.Refusals.{refused, wrongInput}
 use Rattle.model.specs.Bytes.{entries, chained}
 use Rattle.model.specs.Input.{width, readInput}
 use Rattle.input.specs.FirstWrong.{RightBefore, PairsAre}
@@ -46,6 +46,6 @@ no-table : PairsAre three (24 ∷ 0 ∷ []) (FirstWrong 0)
 no-table = short-first three (24 ∷ 0 ∷ []) (omega arith)
 
 -- no fields and a stray byte: no pair is wrong, and the reader refuses by the end
-stray-byte : PairsAre [] (7 ∷ []) (AllRight 0) × (readInput [] (7 ∷ []) ≡ refused 13)
+stray-byte : PairsAre [] (7 ∷ []) (AllRight 0) × (readInput [] (7 ∷ []) ≡ refused wrongInput)
 unfolding readInput chained entries
 stray-byte = ((λ f h. absurd (omega arith), refl), refl)

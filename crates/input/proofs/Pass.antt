@@ -113,10 +113,10 @@ module _ (types s : List ℕ) where
   end-decides r = rest-whole ∙ rest-before (length types) (omega arith) r ∙ rest-none
 
   -- so what is found of the pairs gives the answer
-  pub one-wrong : (f : ℕ) → PairsAre types s (FirstWrong f) → mapped (λ I. tt {0}) (readInput types s) ≡ refused 13
+  pub one-wrong : (f : ℕ) → PairsAre types s (FirstWrong f) → mapped (λ I. tt {0}) (readInput types s) ≡ refused wrongInput
   one-wrong f w =
       read-check types s
-      ∙ case (inputRight types s) (λ z. check z wrongInput (ok tt) ≡ refused 13) (λ e. absurd (w .1 (all-right e f (w .0)))) (λ e. refl)
+      ∙ case (inputRight types s) (λ z. check z wrongInput (ok tt) ≡ refused wrongInput) (λ e. absurd (w .1 (all-right e f (w .0)))) (λ e. refl)
 
   -- where all before a field are right, the next one is to begin inside the file
   start-inside : (n : ℕ) → RightBefore types s n → startOf n s n ≤ length s
@@ -130,7 +130,7 @@ module _ (types s : List ℕ) where
     by-end : mapped (λ I. tt {0}) (readInput types s) ≡ check (eqb e (length s)) wrongInput (ok tt)
     by-end = read-check types s ∙ ap (λ z. check z wrongInput (ok tt)) (end-decides (r .0) ∙ ap (λ a. eqb a (length s)) (sym (r .1)))
 
-    pub ends-elsewhere : (e ≡ length s → ⊥) → mapped (λ I. tt {0}) (readInput types s) ≡ refused 13
+    pub ends-elsewhere : (e ≡ length s → ⊥) → mapped (λ I. tt {0}) (readInput types s) ≡ refused wrongInput
     ends-elsewhere h = by-end ∙ rw (ne-eqb e (length s) h)
 
     pub ends-the-file : e ≡ length s → mapped (λ I. tt {0}) (readInput types s) ≡ ok tt

@@ -14,6 +14,7 @@ use Rattle.model.specs.Program.{Statement, Tables, tablesAt, layoutOf, s
 use Rattle.model.specs.Program.{isVariable, isField, isArray, unused, formOf, formRight, variableType, fieldType, arrayOf, alike, cellAlike}
 use Rattle.model.specs.Program.{agreeOf, typesAgree, immediateOf, immediateRight, meaningOf, stmtOf, Program, readProgram}
 use Rattle.model.specs.Kinds.{Kind, aNumber, aCopy, anOperation, aConversion, aRead, aLoad, aStore, aSite, anIf, anElse, anEnd, aWhile, noKind, kindOf}
+use Rattle.model.specs.Sizes.{mostCells}
 use Rattle.model.specs.Typing.{AtPlain, Indexed, TypedInstr, Typed}
 use Rattle.model.proofs.Every.{every-all}
 use Rattle.model.proofs.Lists.{all-imp₃, all-map, all-getD}
@@ -83,7 +84,7 @@ module _ (T : Tables) (known : typesRight T ≡ true) where
       let right = all-getD (λ r. arrayRight r ≡ true) (T .arrays) r (record { ty = 0; pad = 0; len = 0 }) arrays-known (ltb-true r (length (T .arrays)) h) in
       let three = typeRight (A .ty) && eqb (A .pad) 0 && leb 1 (A .len) in
       let two = typeRight (A .ty) && eqb (A .pad) 0 in
-      ltb-true (A .ty) 8 (and-left (typeRight (A .ty)) (eqb (A .pad) 0) (and-left two (leb 1 (A .len)) (and-left three (leb (A .len) 256) right)))
+      ltb-true (A .ty) 8 (and-left (typeRight (A .ty)) (eqb (A .pad) 0) (and-left two (leb 1 (A .len)) (and-left three (leb (A .len) mostCells) right)))
 
   -- the parts of a form
   row-a : (p q r s : Bool) → (p && q && r && s) ≡ true → p ≡ true

@@ -18,6 +18,7 @@ use Rattle.model.specs.Condition.{Condition, conjunctsAt, nodeAt, conjun
 use Rattle.model.specs.Input.{Input}
 use Rattle.model.specs.Filter.{evaluate, valuesOf, combinations, valueIn, combinationsOf, holds}
 use Rattle.model.specs.Demands.{IsReading, Safe, Overflows}
+use Rattle.model.specs.Sizes.{countsSize, mostConjuncts, mostFields}
 use Rattle.model.proofs.Atoms.{every-imp, has-atoms, atoms-all, atom-eq}
 use Rattle.model.proofs.Combining.{values, every-combinations}
 use Rattle.model.proofs.Every.{every-mem, every-not}
@@ -54,7 +55,7 @@ read-of-fields s C e =
     let pairs = pairsAt s (8 + f) c in
     let conjuncts = map (conjunctAt s) pairs in
     let D : Condition = record { types = types; conjuncts = conjuncts } in
-    let form = leb 8 (length s) && leb c 64 && leb f 32 && chained (conjunctsAt f c) pairs (length s) && every typeRight types && every lengthRight pairs
+    let form = leb countsSize (length s) && leb c mostConjuncts && leb f mostFields && chained (conjunctsAt f c) pairs (length s) && every typeRight types && every lengthRight pairs
     && every (nodesRight types s) pairs && every whole conjuncts && every numbered conjuncts && rising conjuncts in
     subst (λ (K : Condition). All OfFields (K .conjuncts)) (ok-eq D C (check-ok form wrongCondition (ok D) C e .1))
     (all-map OfFields (conjunctAt s) pairs

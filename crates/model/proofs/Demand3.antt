@@ -17,6 +17,7 @@ use Rattle.model.specs.Filter.{fewCombinations, hasReadings, holds, pass
 use Rattle.model.specs.Run.{zeros, Line, markByte, choicesOf, Ran}
 use Rattle.model.specs.Exact.{Note}
 use Rattle.model.specs.Demands.{Record, Matches, Marks, Demand3}
+use Rattle.model.specs.Sizes.{mostFields, mostVariables, mostArrays, mostStatements}
 use Rattle.model.proofs.Checked.{fields-known, program-checked}
 use Rattle.model.proofs.Choosing.{read-of-fields, holds-safe}
 use Rattle.model.proofs.Derives.{derived-formed}
@@ -50,13 +51,13 @@ analysis-accepts program condition e =
     let q = bind-ok (derived (p .0 .code)) (write (p .0)) condition (p .2) in
     record { P = p .0; S = q .0; reads = p .1; derives = q .1; writes = ok-eq (encode (p .0 .tables .fields) (q .0)) condition (q .2) }
 
-few-fields : (T : Tables) → countsRight T ≡ true → length (T .fields) ≤ 32
+few-fields : (T : Tables) → countsRight T ≡ true → length (T .fields) ≤ mostFields
 unfolding countsRight
 few-fields T e =
-    let f = leb (length (T .fields)) 32 in
-    let v = leb (length (T .variables)) 64 in
-    let r = leb (length (T .arrays)) 16 in
-    leb-true (length (T .fields)) 32 (and-left f v (and-left (f && v) r (and-left (f && v && r) (leb (length (T .statements)) 1024) e)))
+    let f = leb (length (T .fields)) mostFields in
+    let v = leb (length (T .variables)) mostVariables in
+    let r = leb (length (T .arrays)) mostArrays in
+    leb-true (length (T .fields)) mostFields (and-left f v (and-left (f && v) r (and-left (f && v && r) (leb (length (T .statements)) mostStatements) e)))
 
 module _ (program condition : List ℕ) (a : Accepted program condition) where
   -- the condition reader gives back the derived set and the types of the program's fields

@@ -8,9 +8,10 @@ use borrow.Author.Tests.{ltb-true}
 use lib.Dec.{ltb}
 use Rattle.model.specs.Code.{Code, done, step, branch, loop, Stmt, plain, if, else, end, while, Open, top, block, other, front, openBlocks, taking, opened, closed, treeOf}
 use Rattle.model.specs.Program.{Tables, stmtOf, Program, readProgram}
-use Rattle.model.specs.Refusals.{Out, ok, refused}
+use Rattle.model.specs.Refusals.{Out, ok, refused, wrongBlocks}
 use Rattle.model.specs.Run.{append}
 use Rattle.model.specs.Nesting.{Nested}
+use Rattle.model.specs.Sizes.{mostNested}
 use Rattle.model.proofs.Checked.{program-checked}
 use Rattle.model.proofs.Results.{ok-eq, refused-ok, check-ok, bind-ok}
 
@@ -53,22 +54,22 @@ opens (suc k) s h b = (k, (tt, h))
 taking-fits : (l : ℕ) (q : Stmt) (s t : Open) → Roomy s → taking l q s ≡ ok t → Roomy t
 unfolding taking
 taking-fits l (plain x) s t r e = subst Roomy (ok-eq (front (step l x) s) t e) (r .0, front-fits (step l x) (r .0) s (λ c h. h) (r .1))
-taking-fits l (if v) (top c) t r e = absurd (refused-ok 8 t e)
-taking-fits l (if v) (block c s) t r e = absurd (refused-ok 8 t e)
+taking-fits l (if v) (top c) t r e = absurd (refused-ok wrongBlocks t e)
+taking-fits l (if v) (block c s) t r e = absurd (refused-ok wrongBlocks t e)
 taking-fits l (if v) (other n y s) t r e =
     let h = r .1 in
     subst Roomy (ok-eq (front (branch l v y n) s) t e) (suc (r .0), front-fits (branch l v y n) (suc (r .0)) s (λ c g. (h .1, h .0, g)) (h .2))
-taking-fits l else (top c) t r e = absurd (refused-ok 8 t e)
+taking-fits l else (top c) t r e = absurd (refused-ok wrongBlocks t e)
 taking-fits l else (block c s) t r e = let h = r .1 in subst Roomy (ok-eq (other c done s) t e) (r .0, (h .0, tt, h .1))
-taking-fits l else (other n y s) t r e = absurd (refused-ok 8 t e)
+taking-fits l else (other n y s) t r e = absurd (refused-ok wrongBlocks t e)
 taking-fits l end s t r e =
-    let k = check-ok (ltb (openBlocks s) 4) 8 (ok (block done s)) t e in
+    let k = check-ok (ltb (openBlocks s) mostNested) wrongBlocks (ok (block done s)) t e in
     subst Roomy (ok-eq (block done s) t (k .1)) (opens (r .0) s (r .1) (ltb-true (openBlocks s) 4 (k .0)))
-taking-fits l (while v) (top c) t r e = absurd (refused-ok 8 t e)
+taking-fits l (while v) (top c) t r e = absurd (refused-ok wrongBlocks t e)
 taking-fits l (while v) (block c s) t r e =
     let h = r .1 in
     subst Roomy (ok-eq (front (loop l v c) s) t e) (suc (r .0), front-fits (loop l v c) (suc (r .0)) s (λ b g. (h .0, g)) (h .1))
-taking-fits l (while v) (other n y s) t r e = absurd (refused-ok 8 t e)
+taking-fits l (while v) (other n y s) t r e = absurd (refused-ok wrongBlocks t e)
 
 opened-fits : (l : ℕ) (ss : List Stmt) (s : Open) → opened l ss ≡ ok s → Roomy s
 unfolding opened
@@ -77,16 +78,16 @@ opened-fits l (q ∷ ss) s e =
     let k = bind-ok (opened (suc l) ss) (taking l q) s e in
     taking-fits l q (k .0) s (opened-fits (suc l) ss (k .0) (k .1)) (k .2)
 
-closed-fits : (s : Open) (c : Code) → Roomy s → closed s ≡ ok c → Nested 4 c
-closed-fits (top d) c r e = let h = r .1 in subst (Nested 4) (ok-eq d c e) (subst (λ (k : ℕ). Nested k d) (h .0) (h .1))
-closed-fits (block d s) c r e = absurd (refused-ok 8 c e)
-closed-fits (other d b s) c r e = absurd (refused-ok 8 c e)
+closed-fits : (s : Open) (c : Code) → Roomy s → closed s ≡ ok c → Nested mostNested c
+closed-fits (top d) c r e = let h = r .1 in subst (Nested mostNested) (ok-eq d c e) (subst (λ (k : ℕ). Nested k d) (h .0) (h .1))
+closed-fits (block d s) c r e = absurd (refused-ok wrongBlocks c e)
+closed-fits (other d b s) c r e = absurd (refused-ok wrongBlocks c e)
 
-pub tree-nested : (ss : List Stmt) (c : Code) → treeOf ss ≡ ok c → Nested 4 c
+pub tree-nested : (ss : List Stmt) (c : Code) → treeOf ss ≡ ok c → Nested mostNested c
 unfolding treeOf
 tree-nested ss c e =
     let k = bind-ok (opened 0 ss) closed c e in
     closed-fits (k .0) c (opened-fits 0 ss (k .0) (k .1)) (k .2)
 
-pub program-nested : (s : List ℕ) (P : Program) → readProgram s ≡ ok P → Nested 4 (P .code)
+pub program-nested : (s : List ℕ) (P : Program) → readProgram s ≡ ok P → Nested mostNested (P .code)
 program-nested s P e = let k = program-checked s P e in tree-nested (map (stmtOf (P .tables)) (P .tables .statements)) (P .code) (k .tree)

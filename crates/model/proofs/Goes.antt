@@ -5,7 +5,8 @@ use mathlib.Core.Bool.{true, false}
 use Prim.Native.Nat.{ℕ, zero, suc}
 use Rattle.model.specs.Code.{Code, done, step, branch, loop}
 use Rattle.model.specs.Conjunct.{Conjuncts, unionOf, same, limits}
-use Rattle.model.specs.Refusals.{Out, ok, _>>=_}
+use Rattle.model.specs.Refusals.{Out, ok, _>>=_, neverSettles}
+use Rattle.model.specs.Sizes.{mostRounds}
 use Rattle.model.specs.Walk.{before, gather, back, rounds, joined, walk}
 use Rattle.model.specs.TidySets.{Mem, Sub, Fine}
 use Rattle.model.proofs.Canonical.{union-mono}
@@ -80,7 +81,7 @@ goes-mono K K′ (branch l v y n rest) S T R Q s g h =
 goes-mono K K′ (loop l v body rest) S T R Q s g h =
     let d = goes-mono K K′ rest S T (g .0) (h .0) s (g .1) (h .1) in
     rounds-lock (Goes K body) (Goes K′ body) (K l) (K′ l) Sub (g .0) (h .0)
-    (λ X Y B C e p q. union-mono (g .0) B (h .0) C d (goes-mono K K′ body X Y B C e p q)) 16 (g .0) (h .0) R Q d (g .2) (h .2)
+    (λ X Y B C e p q. union-mono (g .0) B (h .0) C d (goes-mono K K′ body X Y B C e p q)) mostRounds (g .0) (h .0) R Q d (g .2) (h .2)
 
 -- ---- the walk itself
 
@@ -114,13 +115,13 @@ module _ (K : ℕ → Conjuncts → Type 0) (fine : (l : ℕ) (X : Conjuncts) �
       ∙ ap (_>>= λ B. limits (unionOf (g .1) B)) (goes-walk n (g .0) (g .2) (g .5))
       ∙ ap limits (g .6) ∙ fine-limits R (fine l R (g .7))
   goes-walk (loop l v body rest) S R g =
-      ap (_>>= λ D. rounds 16 (walk body) D D) (goes-walk rest S (g .0) (g .1))
-      ∙ rounds-walk (walk body) (Goes K body) (K l) (fine l) (goes-walk body) (g .0) 16 (g .0) R (g .2)
+      ap (_>>= λ D. rounds mostRounds (walk body) D D) (goes-walk rest S (g .0) (g .1))
+      ∙ rounds-walk (walk body) (Goes K body) (K l) (fine l) (goes-walk body) (g .0) mostRounds (g .0) R (g .2)
 
 module _ (f : Conjuncts → Out Conjuncts) (body : Conjuncts → Conjuncts → Type 0) (done-by : (S B : Conjuncts) → f S ≡ ok B → body S B) (D : Conjuncts) where
   walk-rounds : (n : ℕ) (S R : Conjuncts) → rounds n f D S ≡ ok R → Rounds body Fine n D S R
   unfolding rounds
-  walk-rounds zero S R h = absurd (refused-ok 11 R h)
+  walk-rounds zero S R h = absurd (refused-ok neverSettles R h)
   walk-rounds (suc n) S R h =
       let more : Conjuncts → Out Conjuncts = λ S′. elim (same S S′) [ true ↦ ok S′ | false ↦ rounds n f D S′ ] in
       let r = bind-ok (f S) (λ B. limits (unionOf D B) >>= more) R h in
@@ -149,8 +150,8 @@ walk-goes (branch l v y n rest) S R h =
     let q = limits-inv (unionOf (a .0) (b .0)) R (b .2) in
     (r .0, a .0, b .0, walk-goes rest S (r .0) (r .1), walk-goes y (r .0) (a .0) (a .1), walk-goes n (r .0) (b .0) (b .1), q .0, subst Fine (q .0) (q .1))
 walk-goes (loop l v body rest) S R h =
-    let r = bind-ok (walk rest S) (λ D. rounds 16 (walk body) D D) R h in
-    (r .0, walk-goes rest S (r .0) (r .1), walk-rounds (walk body) (Goes (λ l X. Fine X) body) (walk-goes body) (r .0) 16 (r .0) R (r .2))
+    let r = bind-ok (walk rest S) (λ D. rounds mostRounds (walk body) D D) R h in
+    (r .0, walk-goes rest S (r .0) (r .1), walk-rounds (walk body) (Goes (λ l X. Fine X) body) (walk-goes body) (r .0) mostRounds (r .0) R (r .2))
 
 -- so is the walk monotone
 pub walk-mono : (c : Code) (S T R Q : Conjuncts) → walk c S ≡ ok R → walk c T ≡ ok Q → Sub S T → Sub R Q

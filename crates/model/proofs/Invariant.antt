@@ -8,6 +8,7 @@ use Rattle.model.specs.Code.{Instr, assign, store, site, Code, done, ste
 use Rattle.model.specs.Conjunct.{var, Conj, Conjuncts, unionOf, same, limits, renumber}
 use Rattle.model.specs.Lists.{All}
 use Rattle.model.specs.Refusals.{Out, ok, _>>=_}
+use Rattle.model.specs.Sizes.{mostRounds}
 use Rattle.model.specs.Walk.{before, gather, back, rounds, joined, walk, here, sites, zeroed, start, join, derived}
 use Rattle.model.specs.Typing.{Each}
 use Rattle.model.proofs.Canonical.{union-every}
@@ -63,8 +64,8 @@ module _ (K : Conjuncts → Type 0) (P : ℕ → Type 0) where
             ends-bind K K P (walk rest C) (joined (walk y) (walk n)) (walk-keeps rest (w .2) C h)
             (joined-keeps (walk y) (walk n) (walk-keeps y (w .0)) (walk-keeps n (w .1)))
         walk-keeps (loop l v body rest) w C h =
-            ends-bind K K P (walk rest C) (λ D. rounds 16 (walk body) D D) (walk-keeps rest (w .1) C h)
-            (λ D d. rounds-keep 16 (walk body) (walk-keeps body (w .0)) D D d d)
+            ends-bind K K P (walk rest C) (λ D. rounds mostRounds (walk body) D D) (walk-keeps rest (w .1) C h)
+            (λ D d. rounds-keep mostRounds (walk body) (walk-keeps body (w .0)) D D d d)
 
         module _ (first : (a ty : ℕ) → W (site a ty) → K ((var a ty ∷ []) ∷ [])) where
           here-keeps : (i : Instr) → W i → All (Ends K P) (here i)
@@ -86,7 +87,7 @@ module _ (K : Conjuncts → Type 0) (P : ℕ → Type 0) where
               (all-append (Ends K P) (sites n) m (sites-keep n (w .1))
               (bound f (joined-keeps (walk y) (walk n) (walk-keeps y (w .0)) (walk-keeps n (w .1))) (sites rest) (sites-keep rest (w .2))))
           sites-keep (loop l v body rest) w =
-              bound (λ D. rounds 16 (walk body) D D) (λ D d. rounds-keep 16 (walk body) (walk-keeps body (w .0)) D D d d) (sites body ++ sites rest)
+              bound (λ D. rounds mostRounds (walk body) D D) (λ D d. rounds-keep mostRounds (walk body) (walk-keeps body (w .0)) D D d d) (sites body ++ sites rest)
               (all-append (Ends K P) (sites body) (sites rest) (sites-keep body (w .0)) (sites-keep rest (w .1)))
 
 -- ---- a property of every conjunct

@@ -5,6 +5,7 @@ use mathlib.Core.Logic.{_⊎_}
 use Prim.Native.Nat.{ℕ, zero, suc}
 use Rattle.model.specs.Code.{Code, done, step, branch, loop}
 use Rattle.model.specs.Conjunct.{Conjuncts, unionOf}
+use Rattle.model.specs.Sizes.{mostRounds}
 use Rattle.model.specs.Walk.{before, gather}
 
 -- from S, with n rounds left, the rounds over D come to R: a round stays, or goes on with its set
@@ -18,4 +19,4 @@ abbrev pub Goes : (ℕ → Conjuncts → Type 0) → Code → Conjuncts → Conj
 Goes K done S R = S ≡ R
 Goes K (step l i rest) S R = (D : Conjuncts) × Goes K rest S D × (gather (before l i) D ≡ R) × K l R
 Goes K (branch l v yes′ no′ rest) S R = (D A B : Conjuncts) × Goes K rest S D × Goes K yes′ D A × Goes K no′ D B × (unionOf A B ≡ R) × K l R
-Goes K (loop l v body rest) S R = (D : Conjuncts) × Goes K rest S D × Rounds (λ X Y. Goes K body X Y) (K l) 16 D D R
+Goes K (loop l v body rest) S R = (D : Conjuncts) × Goes K rest S D × Rounds (λ X Y. Goes K body X Y) (K l) mostRounds D D R

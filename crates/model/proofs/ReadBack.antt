@@ -13,6 +13,7 @@ use Rattle.model.specs.Program.{typeRight}
 use Rattle.model.specs.Conjunct.{Conj, Conjuncts, orderNodes}
 use Rattle.model.specs.Condition.{conjunctsAt, encode, conditionBytes, typeNodes, whole, numbered, isBefore, rising, lengthRight, readCondition}
 use Rattle.model.specs.Formed.{size, FileNode, Formed}
+use Rattle.model.specs.Sizes.{mostNodes, mostFields, mostConjuncts}
 use Rattle.model.specs.TidySets.{Canon, Numbered, Fine, Tidy}
 use Rattle.model.proofs.Every.{all-every}
 use Rattle.model.proofs.FileBytes.{pairOf, pairs, table-chained, file-conjuncts, file-fields, file-types, file-table, file-read, file-right, length-encode}
@@ -39,21 +40,21 @@ unfolding whole typeNodes
 whole-some [] h = absurd (true→T h)
 whole-some (v ∷ e) h = omega arith
 
-short-size : (S : Conjuncts) → All (λ e. length e ≤ 120) S → size S ≤ 120 * length S
+short-size : (S : Conjuncts) → All (λ e. length e ≤ mostNodes) S → size S ≤ mostNodes * length S
 short-size [] h = omega arith
 short-size (e ∷ S) h = omega (arith, short-size S (h .1))
 
-length-test : (e : Conj) (a : ℕ) → 0 < length e → length e ≤ 120 → lengthRight (pairOf a e) ≡ true
+length-test : (e : Conj) (a : ℕ) → 0 < length e → length e ≤ mostNodes → lengthRight (pairOf a e) ≡ true
 length-test e a h k = rw (lt-ltb 0 (8 * length e) (omega arith), le-leb (8 * length e) 960 (omega arith)) (eq-eqb (8 * length e % 8) 0 (omega arith))
 
-lengths-test : (S : Conjuncts) (a : ℕ) → All (λ e. 0 < length e) S → All (λ e. length e ≤ 120) S → every lengthRight (pairs a S) ≡ true
+lengths-test : (S : Conjuncts) (a : ℕ) → All (λ e. 0 < length e) S → All (λ e. length e ≤ mostNodes) S → every lengthRight (pairs a S) ≡ true
 unfolding every
 lengths-test [] a h k = refl
 lengths-test (e ∷ S) a h k = ap₂ _&&_ (length-test e a (h .0) (k .0)) (lengths-test S (a + 8 * length e) (h .1) (k .1))
 
 -- ---- the file
 
-pub encode-reads : (types : List ℕ) (S : Conjuncts) → length types ≤ 32 → All (λ t. t < 8) types → Tidy S → All (Formed types) S
+pub encode-reads : (types : List ℕ) (S : Conjuncts) → length types ≤ mostFields → All (λ t. t < 8) types → Tidy S → All (Formed types) S
     → readCondition (encode types S) ≡ ok (record { types = types; conjuncts = S })
 unfolding readCondition
 encode-reads types S few right tidy formed =
@@ -67,8 +68,8 @@ encode-reads types S few right tidy formed =
       file-table types S,
       file-read types S nodes,
       le-leb 8 (length (encode types S)) (omega arith),
-      le-leb (length S) 64 (tidy .fine .few),
-      le-leb (length types) 32 few,
+      le-leb (length S) mostConjuncts (tidy .fine .few),
+      le-leb (length types) mostFields few,
       table-chained S begin (length (encode types S)) total,
       all-every typeRight types (all-imp (λ t. lt-ltb t 8) types right),
       lengths-test S begin (all-imp (λ e h. whole-some e (h .one)) S formed) (short-each S (tidy .fine .short)),
@@ -79,6 +80,6 @@ encode-reads types S few right tidy formed =
     )
 
 -- within the limits the file has at most 61,992 bytes
-pub encode-fits : (types : List ℕ) (S : Conjuncts) → length types ≤ 32 → Fine S → All (Formed types) S → length (encode types S) ≤ conditionBytes
+pub encode-fits : (types : List ℕ) (S : Conjuncts) → length types ≤ mostFields → Fine S → All (Formed types) S → length (encode types S) ≤ conditionBytes
 encode-fits types S few fine formed =
     omega (arith, length-encode types S (all-imp (λ e h. h .nodes) S formed), short-size S (short-each S (fine .short)))

@@ -11,6 +11,7 @@ use Rattle.model.specs.Walk.{back, joined, rounds, walk, here, sites}
 use Rattle.model.specs.Nesting.{Nested}
 use Rattle.model.specs.Placement.{IfAt, WhileAt, Laid}
 use Rattle.model.specs.Enclosing.{Enclosing, top, in-yes, in-no, in-while, walkOut, Bare, Rest, stop, past, From}
+use Rattle.model.specs.Sizes.{mostRounds, mostNested, mostInside}
 use Rattle.model.proofs.Laid.{laid-le, laid-append}
 use Rattle.model.proofs.Results.{bind-self, bind-assoc}
 use Rattle.model.proofs.Walks.{walk-append}
@@ -70,7 +71,7 @@ module _ (stmt : ℕ → Stmt) (mate : ℕ → ℕ) (n : ℕ) where
   further : (d c : Code) (f : Conjuncts → Out Conjuncts) (D : Conjuncts) → (walk (append d c) D >>= f) ≡ (walk c D >>= λ E. walk d E >>= f)
   further d c f D = ap (_>>= f) (walk-append d c D) ∙ bind-assoc (walk c D) (walk d) f
 
-  pub onward : {i q : ℕ} (w : Enclosing stmt mate n i q) (c : Code) (j : ℕ) → Laid stmt mate c i j → Nested 4 c → Onward w c j
+  pub onward : {i q : ℕ} (w : Enclosing stmt mate n i q) (c : Code) (j : ℕ) → Laid stmt mate c i j → Nested mostNested c → Onward w c j
   unfolding walkOut
   onward (top i d h k) c j l m = record { blocks = top j (append d c) (laid-append stmt mate d c 0 i j h l) (nested-join 4 d c k m); walks-out = λ D. walk-append d c D }
   onward (in-yes i r v e f q d a b g h k w) c j l m = record {
@@ -83,7 +84,7 @@ module _ (stmt : ℕ → Stmt) (mate : ℕ → ℕ) (n : ℕ) where
   }
   onward (in-while i r v f q d body a b h k g z w) c j l m = record {
     blocks = in-while j r v f q (append d c) body a b (laid-append stmt mate d c (suc r) i j h l) (nested-join 4 d c k m) g z w;
-    walks-out = further d c (λ E. rounds 16 (walk body) E E >>= walkOut stmt mate n w);
+    walks-out = further d c (λ E. rounds mostRounds (walk body) E E >>= walkOut stmt mate n w);
   }
 
   onward-all : {i q : ℕ} (w : Enclosing stmt mate n i q) (c : Code) (j : ℕ) (o : Onward w c j) (os : List (Out Conjuncts))
@@ -104,7 +105,7 @@ module _ (stmt : ℕ → Stmt) (mate : ℕ → ℕ) (n : ℕ) where
   while-bare : (s : Stmt) (v : ℕ) → s ≡ while v → Bare s
   while-bare s v e x p = let z : _≡_ {A = ℕ} 0 1 = cc in omega arith
 
-  pub from-start : (c : Code) → Laid stmt mate c 0 n → Nested 4 c → From stmt mate n 0 (sites c)
+  pub from-start : (c : Code) → Laid stmt mate c 0 n → Nested mostNested c → From stmt mate n 0 (sites c)
   unfolding walkOut walk
   from-start c h k = record {
     piece = c;
@@ -152,7 +153,7 @@ module _ (stmt : ℕ → Stmt) (mate : ℕ → ℕ) (n : ℕ) where
           subst (λ j. Next j (map (_>>= walkOut stmt mate n w) (sites c) ++ L′)) (sym e)
           (bare s (record { piece = c; q = z; tail = L′; laid = h; nested = k; blocks = w; rest = r; is = refl }))
 
-      go : (c : Code) (q : ℕ) (L : List (Out Conjuncts)) → Laid stmt mate c i q → Nested 4 c → (w : Enclosing stmt mate n i q) → Rest stmt mate n q L
+      go : (c : Code) (q : ℕ) (L : List (Out Conjuncts)) → Laid stmt mate c i q → Nested mostNested c → (w : Enclosing stmt mate n i q) → Rest stmt mate n q L
           → Next i (map (_>>= walkOut stmt mate n w) (sites c) ++ L)
       go done q L h k w r = onto q L h r
       go (step l x rest) q L h k w r =
@@ -189,7 +190,7 @@ module _ (stmt : ℕ → Stmt) (mate : ℕ → ℕ) (n : ℕ) where
           let f = h .1 .0 in
           let at : WhileAt stmt mate i v f = h .1 .1 in
           let outer : f < q = laid-le stmt mate rest (suc f) q (h .1 .3) in
-          let again : Conjuncts → Out Conjuncts = λ D. rounds 16 (walk body) D D in
+          let again : Conjuncts → Out Conjuncts = λ D. rounds mostRounds (walk body) D D in
           let o = onward w (loop l v body done) (suc f) (h .0, (f, at, h .1 .2, refl)) (k .0, tt) in
           let wb : Enclosing stmt mate n (suc i) f = in-while (suc i) i v f q done body at outer refl tt (h .1 .2) (k .0) w in
           let more = map (_>>= walkOut stmt mate n (o .blocks)) (sites rest) in
@@ -199,4 +200,4 @@ module _ (stmt : ℕ → Stmt) (mate : ℕ → ℕ) (n : ℕ) where
           ∙ ap (_++ (map (_>>= walkOut stmt mate n w) (map (_>>= again) (sites rest)) ++ L)) (bound-twice again (walkOut stmt mate n w) (sites body))
           ∙ ap (λ z. map (_>>= walkOut stmt mate n wb) (sites body) ++ (z ++ L)) (sym (onward-all w (loop l v body done) (suc f) o (sites rest))) in
           bare (while-bare (stmt i) v (at .is-while))
-          (record { piece = body; q = f; tail = more ++ L; laid = h .1 .2; nested = nested-more 3 body (k .0); blocks = wb; rest = behind; is = split })
+          (record { piece = body; q = f; tail = more ++ L; laid = h .1 .2; nested = nested-more mostInside body (k .0); blocks = wb; rest = behind; is = split })

@@ -8,6 +8,7 @@ use Rattle.model.specs.Code.{Instr, assign, store, site, Code, done, ste
 use Rattle.model.specs.Conjunct.{Atom, Node, const, atom, var, op, conv, Conj, Conjuncts, unionOf, same, limits, atoms, renumber, AtAtom}
 use Rattle.model.specs.Lists.{All}
 use Rattle.model.specs.Refusals.{Out, ok, _>>=_}
+use Rattle.model.specs.Sizes.{mostRounds}
 use Rattle.model.specs.Walk.{nodes, replace, onArray, loads, swapAll, subsets, before, gather, back, rounds, joined, walk}
 use Rattle.model.specs.TidySets.{Canon, Numbered, Tidy}
 use Rattle.model.specs.Touch.{isVar, isLoad, some, writes, touches}
@@ -90,7 +91,7 @@ walk-skip (branch l v y n rest) S w t =
 walk-skip (loop l v body rest) S w t =
     let next : Conjuncts → Out Conjuncts = λ S′. elim (same S S′) [ true ↦ ok S′ | false ↦ rounds 15 (walk body) S S′ ] in
     let last : Bool → Out Conjuncts = λ z. elim z [ true ↦ ok S | false ↦ rounds 15 (walk body) S S ] in
-    ap (_>>= λ D. rounds 16 (walk body) D D) (walk-skip rest S (or-right (touches body S) (touches rest S) w) t)
+    ap (_>>= λ D. rounds mostRounds (walk body) D D) (walk-skip rest S (or-right (touches body S) (touches rest S) w) t)
     ∙ ap (_>>= λ B. limits (unionOf S B) >>= next) (walk-skip body S (or-left (touches body S) (touches rest S) w) t)
     ∙ ap (_>>= next) (ap limits (union-idem S (t .canon)) ∙ fine-limits S (t .fine))
     ∙ ap last (same-self S)

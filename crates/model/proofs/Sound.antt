@@ -10,6 +10,7 @@ use Rattle.model.specs.Input.{Input}
 use Rattle.model.specs.Lists.{All}
 use Rattle.model.specs.Refusals.{Out, ok, refused, _>>=_}
 use Rattle.model.specs.Run.{State, zeros, exec, append, Line, logged, execute}
+use Rattle.model.specs.Sizes.{mostRounds}
 use Rattle.model.specs.Values.{Val, plain}
 use Rattle.model.specs.Walk.{before, gather, back, rounds, joined, walk, here, sites, zeroed, start, join, derived}
 use Rattle.model.proofs.Canonical.{union-all}
@@ -78,7 +79,7 @@ module _ (I : Input) where
       (all-unmap P (_>>= f) (sites rest) (all-right P (sites n) m h₁))
       (all-imp (λ o. subst P (sym (bind-assoc o (walk rest) f))) (sites d) k))))
   append-sites P (loop l v body rest) d h k =
-      let f : Conjuncts → Out Conjuncts = λ D. rounds 16 (walk body) D D in
+      let f : Conjuncts → Out Conjuncts = λ D. rounds mostRounds (walk body) D D in
       let h₁ = all-unmap P (_>>= f) (sites body ++ sites rest) h in
       all-map P (_>>= f) (sites body ++ sites (append rest d))
       (all-append (λ o. P (o >>= f)) (sites body) (sites (append rest d))
@@ -125,9 +126,9 @@ module _ (I : Input) where
       first (ok B) p k ih = second B p (limits (unionOf D B)) refl k ih
       first (refused m) p k ih = absurd k
 
-  loop-safe : (σ : State) (body : Code) (o : Out Conjuncts) → Safe σ (o >>= λ D. rounds 16 (walk body) D D)
-      → Safe σ o × Safe σ ((o >>= λ D. rounds 16 (walk body) D D) >>= walk body)
-  loop-safe σ body (ok D) h = rounds-safe σ 16 (walk body) D D h
+  loop-safe : (σ : State) (body : Code) (o : Out Conjuncts) → Safe σ (o >>= λ D. rounds mostRounds (walk body) D D)
+      → Safe σ o × Safe σ ((o >>= λ D. rounds mostRounds (walk body) D D) >>= walk body)
+  loop-safe σ body (ok D) h = rounds-safe σ mostRounds (walk body) D D h
   loop-safe σ body (refused n) h = absurd h
 
   branch-good : (σ : State) (l v : ℕ) (y n rest : Code) (b : Bool) → Good σ (branch l v y n rest) → Good σ (cond b (append y rest) (append n rest))
@@ -148,7 +149,7 @@ module _ (I : Input) where
   loop-good : (σ : State) (l v : ℕ) (body rest : Code) (b : Bool) → Good σ (loop l v body rest) → Good σ (cond b (append body (loop l v body rest)) rest)
   unfolding sites
   loop-good σ l v body rest b h =
-      let f : Conjuncts → Out Conjuncts = λ D. rounds 16 (walk body) D D in
+      let f : Conjuncts → Out Conjuncts = λ D. rounds mostRounds (walk body) D D in
       let h₁ = all-imp (loop-safe σ body) (sites body ++ sites rest) (all-unmap (Safe σ) (_>>= f) (sites body ++ sites rest) h) in
       let all₀ = all-imp (λ o k. k .0) (sites body ++ sites rest) h₁ in
       let all₁ = all-map (λ o. Safe σ (o >>= walk body)) (_>>= f) (sites body ++ sites rest) (all-imp (λ o k. k .1) (sites body ++ sites rest) h₁) in

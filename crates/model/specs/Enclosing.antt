@@ -8,7 +8,7 @@ use Rattle.model.specs.Conjunct.{Conjuncts}
 use Rattle.model.specs.Nesting.{Nested}
 use Rattle.model.specs.Placement.{IfAt, WhileAt, Laid}
 use Rattle.model.specs.Refusals.{Out, _>>=_}
-use Rattle.model.specs.Sizes.{mostNested, mostRounds}
+use Rattle.model.specs.Sizes.{mostNested, mostRounds, mostInside}
 use Rattle.model.specs.Walk.{rounds, walk, sites}
 
 -- no statement of kinds 0 to 10
@@ -23,7 +23,7 @@ module _ (stmt : ℕ → Stmt) (mate : ℕ → ℕ) (n : ℕ) where
     in-yes : (i r v e f q : ℕ) (d : Code) → IfAt stmt mate r v e f → e < f → f < q → Laid stmt mate d (suc r) i → Nested mostNested d → Enclosing r q → Enclosing i e
     in-no : (i r v e f q : ℕ) (y d : Code) → IfAt stmt mate r v e f → f < q → Laid stmt mate y (suc r) e → Laid stmt mate d (suc e) i → Nested mostNested d → Enclosing r q → Enclosing i f
     in-while : (i r v f q : ℕ) (d body : Code) → WhileAt stmt mate r v f → f < q → Laid stmt mate d (suc r) i → Nested mostNested d
-        → Laid stmt mate body (suc r) f → Nested 3 body → Enclosing r q → Enclosing i f
+        → Laid stmt mate body (suc r) f → Nested mostInside body → Enclosing r q → Enclosing i f
 
   -- the set at the program's start, from the set just before the statement with the label
   unfoldable pub walkOut : {i q : ℕ} → Enclosing i q → Conjuncts → Out Conjuncts

@@ -51,6 +51,10 @@ mostStatements = 1024
 abbrev pub mostNested : ℕ
 mostNested = 4
 
+-- those that may be open at once inside one of them
+abbrev pub mostInside : ℕ
+mostInside = 3
+
 -- ---- the condition
 
 -- the nodes of the longest conjunct

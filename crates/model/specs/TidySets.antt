@@ -7,6 +7,7 @@ use Prim.Native.Nat.{_≤_, Ordering·lt}
 use lib.ListN.{length}
 use Rattle.model.specs.Conjunct.{Conj, Conjuncts, order, long, renumber}
 use Rattle.model.specs.Lists.{All}
+use Rattle.model.specs.Sizes.{mostConjuncts}
 
 -- d stands before e
 abbrev pub Less : Conj → Conj → Type 0
@@ -33,7 +34,7 @@ Numbered e = renumber e ≡ e
 -- within the limits
 pub record Fine (S : Conjuncts) : Type 0 where
   pub short : long S ≡ false
-  pub few : length S ≤ 64
+  pub few : length S ≤ mostConjuncts
 
 -- what the sets of an analysis are
 pub record Tidy (S : Conjuncts) : Type 0 where

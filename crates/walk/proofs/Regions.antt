@@ -10,7 +10,7 @@ use borrow.Author.Tests.{lt-ltb, le-ltb}
 use Rattle.model.specs.Code.{Code, Stmt}
 use Rattle.model.specs.Conjunct.{Conjuncts, unionOf, same, long, limits}
 use Rattle.model.specs.Lists.{All}
-use Rattle.model.specs.Refusals.{Out, ok, refused}
+use Rattle.model.specs.Refusals.{Out, ok, refused, tooManyConjuncts}
 use Rattle.model.specs.Sizes.{mostNested, mostNodes}
 use Rattle.model.specs.Walk.{walk}
 use Rattle.model.specs.Placement.{Laid}
@@ -58,7 +58,7 @@ pub union-within : (R S : Conjuncts) → Tidy R → Tidy S → length (unionOf R
 unfolding limits
 union-within R S h k l = rw (union-short R S h k, le-ltb 64 (length (unionOf R S)) l)
 
-pub union-over : (R S : Conjuncts) → Tidy R → Tidy S → 64 < length (unionOf R S) → limits (unionOf R S) ≡ refused 10
+pub union-over : (R S : Conjuncts) → Tidy R → Tidy S → 64 < length (unionOf R S) → limits (unionOf R S) ≡ refused tooManyConjuncts
 unfolding limits
 union-over R S h k l = rw (union-short R S h k, lt-ltb 64 (length (unionOf R S)) l)
 

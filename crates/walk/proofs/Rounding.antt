@@ -7,7 +7,7 @@ use native.Mathlib.Omega.{arith}
 use lib.ListN.{length}
 use Rattle.model.specs.Code.{Code, Stmt}
 use Rattle.model.specs.Conjunct.{Conjuncts, unionOf, same, limits}
-use Rattle.model.specs.Refusals.{Out, ok, refused}
+use Rattle.model.specs.Refusals.{Out, ok, refused, neverSettles}
 use Rattle.model.specs.Sizes.{mostRounds}
 use Rattle.model.specs.Walk.{rounds, walk}
 use Rattle.model.specs.Placement.{Laid}
@@ -26,7 +26,7 @@ use Rattle.walk.specs.declared.Round.{Round}
 use Rattle.walk.proofs.Regions.{below-self, below-trans, below-less, below-set, below-table, walked-done, walked-refused, lies-on, walked-from}
 
 module _ (body : Conjuncts → Out Conjuncts) (D : Conjuncts) (k : ℕ) where
-  pub rounds-over : 16 ≤ k → (S : Conjuncts) → rounds (16 - k) body D S ≡ refused 11
+  pub rounds-over : 16 ≤ k → (S : Conjuncts) → rounds (16 - k) body D S ≡ refused neverSettles
   unfolding rounds
   rounds-over h S = let e : 16 - k ≡ 0 = omega arith in rw e
 
@@ -92,8 +92,8 @@ module _ (stmt : ℕ → Stmt) (mate : ℕ → ℕ) (p q b : ℕ) where
       to-s : Below b e s
       to-s = below-trans b e s₀ s (opened .below) (g .below)
 
-      pub goes-over : 16 ≤ k → Rounded e (refused 11) × Below b e s
-      goes-over h = (from-first (refused 11) (λ c z. g .same-rounds c z ∙ rounds-over (walk c) (setOf s₀ b) k h (setOf s (b + regionWords))), to-s)
+      pub goes-over : 16 ≤ k → Rounded e (refused neverSettles) × Below b e s
+      goes-over h = (from-first (refused neverSettles) (λ c z. g .same-rounds c z ∙ rounds-over (walk c) (setOf s₀ b) k h (setOf s (b + regionWords))), to-s)
 
       pub start-tidy : Tidy (setOf s (b + 2 * regionWords))
       start-tidy = subst Tidy (sym (g .copied)) (g .tidy)
