@@ -190,6 +190,13 @@ unfolding withConjunct
 insert-least e [] h = refl
 insert-least e (d ∷ S) h = ap (λ o. place o e d S (withConjunct e S)) (h .0 .0)
 
+-- two and two
+pub union-swap : (A B C D : Conjuncts) → Canon B → Canon C → Canon D → unionOf (unionOf A B) (unionOf C D) ≡ unionOf (unionOf A C) (unionOf B D)
+union-swap A B C D b c d =
+    union-assoc A B (unionOf C D) (union-canon C D d)
+    ∙ ap (unionOf A) (sym (union-assoc B C D d) ∙ ap (λ X. unionOf X D) (union-comm B C b c) ∙ union-assoc C B D d)
+    ∙ sym (union-assoc A C (unionOf B D) (union-canon B D d))
+
 -- ---- sizes
 
 placed-length : (o : Ordering) (e d : Conj) (S rest : Conjuncts) → length rest ≤ suc (length S) → length (place o e d S rest) ≤ suc (suc (length S))

@@ -21,7 +21,7 @@ use Rattle.model.proofs.Tests.{case, true→T}
 
 module _ (body : Conjuncts → Conjuncts → Type 0) (K : Conjuncts → Type 0) (D : Conjuncts) where
   -- one that stays may stay for longer
-  rounds-stay : (n : ℕ) (S B R : Conjuncts) → body S B → K (unionOf D B) → S ≡ unionOf D B → R ≡ unionOf D B → Rounds body K (suc n) D (unionOf D B) R
+  pub rounds-stay : (n : ℕ) (S B R : Conjuncts) → body S B → K (unionOf D B) → S ≡ unionOf D B → R ≡ unionOf D B → Rounds body K (suc n) D (unionOf D B) R
   rounds-stay n S B R h k p q = (B, subst (λ X. body X B) p h, k, inl (refl, q))
 
 module _ (body : Conjuncts → Conjuncts → Type 0) (K : Conjuncts → Type 0) (D : Conjuncts) (one : (S B C : Conjuncts) → body S B → body S C → B ≡ C) where
@@ -46,7 +46,7 @@ module _ (body : Conjuncts → Conjuncts → Type 0) (K : Conjuncts → Type 0) 
 
 module _ (body body′ : Conjuncts → Conjuncts → Type 0) (K K′ : Conjuncts → Type 0) where
   -- lock step: two runs of rounds whose sets are related come to related sets
-  rounds-lock : (E : Conjuncts → Conjuncts → Type 0) (D D′ : Conjuncts)
+  pub rounds-lock : (E : Conjuncts → Conjuncts → Type 0) (D D′ : Conjuncts)
       → ((S T B C : Conjuncts) → E S T → body S B → body′ T C → E (unionOf D B) (unionOf D′ C))
       → (n : ℕ) (S T R Q : Conjuncts) → E S T → Rounds body K n D S R → Rounds body′ K′ n D′ T Q → E R Q
   rounds-lock E D D′ f zero S T R Q s g h = absurd g
@@ -90,7 +90,7 @@ module _ (f : Conjuncts → Out Conjuncts) (body : Conjuncts → Conjuncts → T
   one : (S B C : Conjuncts) → body S B → body S C → B ≡ C
   one S B C g h = ok-eq B C (sym (does S B g) ∙ does S C h)
 
-  rounds-walk : (n : ℕ) (S R : Conjuncts) → Rounds body K n D S R → rounds n f D S ≡ ok R
+  pub rounds-walk : (n : ℕ) (S R : Conjuncts) → Rounds body K n D S R → rounds n f D S ≡ ok R
   unfolding rounds
   rounds-walk zero S R g = absurd g
   rounds-walk (suc n) S R g =

@@ -22,6 +22,13 @@ pub mod Walks
 pub mod Skip
 pub mod Paths
 pub mod Goes
+pub mod OneResult
+pub mod Distributes
+pub mod PartWalks
+pub mod PartRefuses
+pub mod Unlimited
+pub mod Remains
+pub mod DeltaRounds
 -- positions
 pub mod Laid
 pub mod Positions

@@ -3,14 +3,16 @@ use mathlib.Core.Path.{_≡_, refl}
 use mathlib.Core.Bool.{Bool, true, false, cond}
 use mathlib.Core.List.{[], _∷_}
 use Prim.Native.Nat.{_≤_}
+use native.Mathlib.Omega.{arith}
 use lib.Dec.{ltb}
 use lib.ListN.{length}
 use borrow.Author.Tests.{ltb-false, le-ltb}
-use Rattle.model.specs.Conjunct.{Conjuncts, long, limits}
+use Rattle.model.specs.Conjunct.{Conjuncts, long, limits, Conj}
 use Rattle.model.specs.Lists.{All}
 use Rattle.model.specs.Refusals.{Out, ok, refused, tooManyNodes, tooManyConjuncts}
 use Rattle.model.specs.Sizes.{mostConjuncts, mostNodes}
-use Rattle.model.specs.TidySets.{Fine}
+use Rattle.model.specs.TidySets.{Fine, Canon, Sub}
+use Rattle.model.proofs.Canonical.{all-mem, mem-all, sub-length}
 use Rattle.model.proofs.Results.{ok-eq, refused-ok}
 use Rattle.model.proofs.Tests.{or-left, or-right}
 
@@ -39,3 +41,14 @@ pub short-each : (S : Conjuncts) → long S ≡ false → All (λ e. length e �
 unfolding long
 short-each [] h = tt
 short-each (e ∷ S) h = (ltb-false mostNodes (length e) (or-left (ltb mostNodes (length e)) (long S) h), short-each S (or-right (ltb mostNodes (length e)) (long S) h))
+
+each-short : (S : Conjuncts) → All (λ e. length e ≤ mostNodes) S → long S ≡ false
+unfolding long
+each-short [] h = refl
+each-short (e ∷ S) h = rw (le-ltb mostNodes (length e) (h .0)) (each-short S (h .1))
+
+-- a part of a set within the limits is within the limits
+pub sub-fine : (R S : Conjuncts) → Canon R → Canon S → Sub R S → Fine S → Fine R
+sub-fine R S c d f h =
+    let P : Conj → Type 0 = λ e. length e ≤ mostNodes in
+    record { short = each-short R (mem-all P R (λ x m. all-mem P S (short-each S (h .short)) x (f x m))); few = omega (arith, sub-length R S c d f, h .few) }

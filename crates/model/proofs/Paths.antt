@@ -14,6 +14,10 @@ Rounds body K zero D S R = ⊥
 Rounds body K (suc n) D S R =
     (B : Conjuncts) × body S B × K (unionOf D B) × (((S ≡ unionOf D B) × (R ≡ unionOf D B)) ⊎ Rounds body K n D (unionOf D B) R)
 
+-- a round from S that comes to U: it stays there, or the rounds go on from U
+abbrev pub After : (Conjuncts → Conjuncts → Type 0) → (Conjuncts → Type 0) → ℕ → Conjuncts → Conjuncts → Conjuncts → Conjuncts → Type 0
+After body K n D S U R = ((S ≡ U) × (R ≡ U)) ⊎ Rounds body K n D U R
+
 -- the walk, rule by rule
 abbrev pub Goes : (ℕ → Conjuncts → Type 0) → Code → Conjuncts → Conjuncts → Type 0
 Goes K done S R = S ≡ R
