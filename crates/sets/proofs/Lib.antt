@@ -5,3 +5,4 @@ pub mod Places
 pub mod Placed
 pub mod Inserting
 pub mod Copied
+pub mod Differing

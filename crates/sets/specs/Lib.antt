@@ -1,1 +1,2 @@
 pub mod Region
+pub mod Minus

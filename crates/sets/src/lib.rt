@@ -8,11 +8,13 @@ ghost use lib.Dec.{isEq};
 ghost use lib.ListN.{length, getD, take, drop};
 ghost use Rattle.model.specs.Conjunct.{order, orderNodes, same};
 ghost use Rattle.model.specs.Sizes.{mostConjuncts, mostNodes};
+ghost use Rattle.model.specs.TidySets.{Canon};
 ghost use Rattle.bytes_le.specs.Overlay.{overlay};
 ghost use Rattle.conjunct.specs.Word.{nodesOf};
 ghost use Rattle.conjunct.specs.Value.{conjOf, orderingOf};
 ghost use Rattle.sets.specs.Region.{few, slotAt, rowsFrom, firstOf, setOf, Outside, Within, TwoRegions, Spotted, Inserted, Joined};
 ghost use Rattle.sets.specs.Region.{regionWords, slotWords};
+ghost use Rattle.sets.specs.Minus.{has, minus};
 use conjunct::MOST_NODES;
 use conjunct::Order;
 
@@ -273,4 +275,76 @@ pub fn equal(s: &[u64], a: usize, b: usize) -> bool
         i += 1;
     }
     true
+}
+
+// ---- the difference of two sets
+
+// are the first m words a conjunct of the region?
+fn holds(s: &[u64], base: usize, w: &[u64], m: usize) -> bool
+    requires { ⌜ (base + regionWords ≤ length (now s)) × (m ≤ length (now w)) × Canon (setOf (now s) base) ⌝ }
+    ensures { λ r. ⌜ r ≡ has (conjOf (now (w .entry)) m) (setOf (now (s .entry)) base) ⌝ }
+{
+    let n = at_most(s[base]);
+    let spot = find(s, base, n, w, m);
+    match spot {
+        Spot::Here => true,
+        Spot::Before(i) => false,
+    }
+}
+
+// the first m words put behind the last conjunct of a region
+fn append(s: &mut [u64], base: usize, w: &[u64], m: usize)
+    requires { ⌜ (length (setOf (now s) base) < mostConjuncts) × (base + regionWords ≤ length (now s)) × (m ≤ mostNodes) × (m ≤ length (now w)) ⌝ }
+    ensures { λ _. ⌜
+        (setOf (now (s .exit)) base ≡ setOf (now (s .entry)) base ++ (conjOf (now (w .entry)) m ∷ [])) × Within base (now (s .entry)) (now (s .exit))
+        ⌝ }
+{
+    let n = at_most(s[base]);
+    place_at(s, base, n, n, w, m);
+}
+
+// the first m words put behind the last conjunct of the region at `to`, unless that at `known` has them
+fn keep(s: &mut [u64], to: usize, known: usize, w: &[u64], m: usize)
+    requires { ⌜
+        (length (setOf (now s) to) < mostConjuncts) × TwoRegions (now s) to known × Canon (setOf (now s) known) × (m ≤ mostNodes) × (m ≤ length (now w))
+        ⌝ }
+    ensures { λ _. ⌜
+        (setOf (now (s .exit)) to ≡ setOf (now (s .entry)) to ++ minus (conjOf (now (w .entry)) m ∷ []) (setOf (now (s .entry)) known))
+        × Within to (now (s .entry)) (now (s .exit))
+        ⌝ }
+{
+    if holds(s, known, w, m) {
+        return;
+    }
+    append(s, to, w, m);
+}
+
+// to the region at `to`, what that at `from` has and that at `known` has not. `words` is room to work in.
+fn sift(s: &mut [u64], to: usize, from: usize, known: usize, words: &mut [u64])
+    requires { ⌜
+        TwoRegions (now s) to from × TwoRegions (now s) to known × Canon (setOf (now s) known) × (mostNodes ≤ length (now words))
+        ⌝ }
+    ensures { λ _. ⌜
+        (setOf (now (s .exit)) to ≡ minus (setOf (now (s .entry)) from) (setOf (now (s .entry)) known)) × Within to (now (s .entry)) (now (s .exit))
+        ⌝ }
+{
+    clear(s, to);
+    let n = size(s, from);
+    let mut k: usize = 0;
+    while k < n {
+        let m = get(s, from, k, words);
+        keep(s, to, known, words, m);
+        k += 1;
+    }
+}
+
+// to the region at `to`, what that at `from` has and that at `known` has not
+pub fn subtract(s: &mut [u64], to: usize, from: usize, known: usize)
+    requires { ⌜ TwoRegions (now s) to from × TwoRegions (now s) to known × Canon (setOf (now s) known) ⌝ }
+    ensures { λ _. ⌜
+        (setOf (now (s .exit)) to ≡ minus (setOf (now (s .entry)) from) (setOf (now (s .entry)) known)) × Within to (now (s .entry)) (now (s .exit))
+        ⌝ }
+{
+    let mut words: [u64; MOST_NODES] = [0; MOST_NODES];
+    sift(s, to, from, known, &mut words);
 }
