@@ -142,3 +142,12 @@ minus-remains (e ∷ I) T c =
         or-new : (x : Conj) → Mem x (e ∷ I) → Mem x (e ∷ minus I T) ⊎ Mem x T
         or-new x (inl p) = inl (inl p)
         or-new x (inr m) = keep x (r .no-less x m)
+
+-- nothing remains of a part
+minus-part : (I S : Conjuncts) → Sub I S → minus I S ≡ []
+unfolding minus
+minus-part [] S f = refl
+minus-part (e ∷ I) S f = rw (mem-has e S (f e (inl refl))) (minus-part I S (λ x m. f x (inr m)))
+
+pub minus-self : (S : Conjuncts) → minus S S ≡ []
+minus-self S = minus-part S S (λ x m. m)

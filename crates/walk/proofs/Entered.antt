@@ -1,17 +1,18 @@
 -- A single statement or block by the statement at its first label: the parts that a walk goes into, and its own walk.
+use mathlib.Core.Bool.{Bool}
 use mathlib.Core.Path.{_≡_, sym, ap, subst, _∙_}
 use Prim.Native.Nat.{ℕ, zero, suc, _+_, _-_, _≤_, _<_}
 use native.Mathlib.Omega.{arith}
 use native.Mathlib.Numerals.{add-one}
 use Rattle.model.specs.Code.{Instr, Code, done, step, branch, loop, Stmt, plain, if, else, end, while}
 use Rattle.model.specs.Conjunct.{Conjuncts}
-use Rattle.model.specs.Sizes.{mostRounds}
-use Rattle.model.specs.Walk.{back, joined, rounds, walk}
+use Rattle.model.specs.Walk.{back, joined}
 use Rattle.model.specs.Nesting.{Nested}
 use Rattle.model.specs.Placement.{Laid}
 use Rattle.model.proofs.Laid.{laid-le}
-use Rattle.model.proofs.Walks.{back-piece, joined-piece, rounds-piece}
+use Rattle.walk.specs.Light.{walkBy, loopBy}
 use Rattle.walk.specs.Turn.{Sole}
+use Rattle.walk.proofs.Ways.{by-step, by-branch, by-loop}
 use Rattle.walk.proofs.Unique.{laid-unique, plain-if, plain-while, if-while, same-plain, plain-else, plain-end, if-else, if-end, while-else, while-end}
 
 module _ (stmt : ℕ → Stmt) (mate : ℕ → ℕ) where
@@ -25,7 +26,8 @@ module _ (stmt : ℕ → Stmt) (mate : ℕ → ℕ) where
     pub other-nested : Nested (depth - 1) other
     pub deep : 1 ≤ depth
     pub some : p < q
-    pub walked : (d : Code) (S : Conjuncts) → Laid stmt mate d p q → walk d S ≡ joined (walk first) (walk other) S
+    pub walked : (light : Bool) (d : Code) (S : Conjuncts) → Laid stmt mate d p q
+        → walkBy light d S ≡ joined (walkBy light first) (walkBy light other) S
 
   -- a while on the labels from p up to q: its body
   pub record Looping (depth p q : ℕ) : Type 0 where
@@ -34,7 +36,7 @@ module _ (stmt : ℕ → Stmt) (mate : ℕ → ℕ) where
     pub nested : Nested (depth - 1) body
     pub deep : 1 ≤ depth
     pub some : p < q
-    pub walked : (d : Code) (S : Conjuncts) → Laid stmt mate d p q → walk d S ≡ rounds mostRounds (walk body) S S
+    pub walked : (light : Bool) (d : Code) (S : Conjuncts) → Laid stmt mate d p q → walkBy light d S ≡ loopBy light body S
 
   -- the statement at the first label of a piece is an if, a while or plain
   pub begins : (c : Code) (p q : ℕ) → Laid stmt mate c p q → Sole c → (stmt p ≡ else → ⊥) × (stmt p ≡ end → ⊥)
@@ -57,14 +59,15 @@ module _ (stmt : ℕ → Stmt) (mate : ℕ → ℕ) where
       let k = h .1 in
       omega (arith, laid-le stmt mate body (suc p) (k .0) (k .2), laid-le stmt mate rest (suc (k .0)) q (k .3))
 
-  pub single-step : (c : Code) (p q : ℕ) → Laid stmt mate c p q → Sole c → (x : Instr) → stmt p ≡ plain x → (d : Code) (S : Conjuncts) → Laid stmt mate d p q → walk d S ≡ back p x S
-  single-step done p q h s x e d S k = absurd s
-  single-step (step l y rest) p q h s x e d S k =
+  pub single-step : (c : Code) (p q : ℕ) → Laid stmt mate c p q → Sole c → (x : Instr) → stmt p ≡ plain x → (light : Bool) (d : Code) (S : Conjuncts)
+      → Laid stmt mate d p q → walkBy light d S ≡ back p x S
+  single-step done p q h s x e light d S k = absurd s
+  single-step (step l y rest) p q h s x e light d S k =
       let a = laid-unique stmt mate d (step l y rest) p q k h in
       let b : step l y rest ≡ step p x done = λ i. step (sym (h .0) i) (same-plain (stmt p) y x (h .1) e i) (s i) in
-      ap (λ z. walk z S) (a ∙ b) ∙ back-piece p x S
-  single-step (branch l v y n rest) p q h s x e d S k = absurd (plain-if (stmt p) x v e (h .1 .2 .is-if))
-  single-step (loop l v body rest) p q h s x e d S k = absurd (plain-while (stmt p) x v e (h .1 .1 .is-while))
+      ap (λ z. walkBy light z S) (a ∙ b) ∙ by-step light p x S
+  single-step (branch l v y n rest) p q h s x e light d S k = absurd (plain-if (stmt p) x v e (h .1 .2 .is-if))
+  single-step (loop l v body rest) p q h s x e light d S k = absurd (plain-while (stmt p) x v e (h .1 .1 .is-while))
 
   pub single-if : (depth : ℕ) (c : Code) (p q : ℕ) → Laid stmt mate c p q → Nested depth c → Sole c → (v : ℕ) → stmt p ≡ if v → Branching depth p q
   single-if depth done p q h n s v e = absurd s
@@ -87,8 +90,8 @@ module _ (stmt : ℕ → Stmt) (mate : ℕ → ℕ) where
         other-nested = subst (λ z. Nested z o) (sym below) (n .1);
         deep = omega arith;
         some = single-some (branch l w y o rest) p q h s;
-        walked = λ g S z.
-            ap (λ a. walk a S) (laid-unique stmt mate g (branch l w y o rest) p q z h ∙ ap (branch l w y o) s) ∙ joined-piece l w y o S;
+        walked = λ light g S z.
+            ap (λ a. walkBy light a S) (laid-unique stmt mate g (branch l w y o rest) p q z h ∙ ap (branch l w y o) s) ∙ by-branch light l w y o S;
       }
   single-if depth (loop l w body rest) p q h n s v e = absurd (if-while (stmt p) v w e (h .1 .1 .is-while))
 
@@ -108,6 +111,6 @@ module _ (stmt : ℕ → Stmt) (mate : ℕ → ℕ) where
         nested = subst (λ z. Nested z body) (sym below) (n .0);
         deep = omega arith;
         some = single-some (loop l w body rest) p q h s;
-        walked = λ g S z.
-            ap (λ a. walk a S) (laid-unique stmt mate g (loop l w body rest) p q z h ∙ ap (loop l w body) s) ∙ rounds-piece l w body S;
+        walked = λ light g S z.
+            ap (λ a. walkBy light a S) (laid-unique stmt mate g (loop l w body rest) p q z h ∙ ap (loop l w body) s) ∙ by-loop light l w body S;
       }

@@ -1,8 +1,12 @@
 pub mod Unique
 pub mod ByKind
+pub mod Ways
+pub mod Quick
 pub mod Entered
 pub mod Turns
 pub mod Joining
 pub mod Regions
+pub mod Closings
 pub mod Rounding
+pub mod Settling
 pub mod Walking

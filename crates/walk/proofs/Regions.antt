@@ -1,6 +1,6 @@
 -- Regions of one slice: what is left below a change, and what a union within the limits gives.
 use mathlib.Core.Path.{_≡_, refl, sym, ap, ap₂, subst, _∙_}
-use mathlib.Core.Bool.{true, false}
+use mathlib.Core.Bool.{Bool, false}
 use mathlib.Core.List.{List, [], _∷_}
 use mathlib.Core.Logic.{inl, inr}
 use Prim.Native.Nat.{ℕ, _+_, _-_, _*_, _≤_, _<_}
@@ -8,11 +8,10 @@ use native.Mathlib.Omega.{arith}
 use lib.ListN.{length, getD}
 use borrow.Author.Tests.{lt-ltb, le-ltb}
 use Rattle.model.specs.Code.{Code, Stmt}
-use Rattle.model.specs.Conjunct.{Conjuncts, unionOf, same, long, limits}
+use Rattle.model.specs.Conjunct.{Conjuncts, unionOf, long, limits}
 use Rattle.model.specs.Lists.{All}
 use Rattle.model.specs.Refusals.{Out, ok, refused, tooManyConjuncts}
-use Rattle.model.specs.Sizes.{mostNested, mostNodes}
-use Rattle.model.specs.Walk.{walk}
+use Rattle.model.specs.Sizes.{mostConjuncts, mostNested, mostNodes}
 use Rattle.model.specs.Placement.{Laid}
 use Rattle.model.specs.TidySets.{Tidy}
 use Rattle.model.proofs.Canonical.{union-every}
@@ -25,10 +24,9 @@ use Rattle.sets.proofs.Rows.{few-most, set-length, set-same, frame}
 use Rattle.sets.specs.Region.{regionWords, setOf, Within}
 use Rattle.code_table.proofs.Packs.{table-kept}
 use Rattle.code_table.specs.Table.{tableWords, tableOf, stmtIn, mateIn, KnownBelow, stmts, mates, Knows}
-use Rattle.walk.specs.Piece.{Lies, Piece, Ready, Walked}
-use Rattle.walk.specs.Turn.{BranchOpened, BranchSwitched, RoundsOpened, Closed}
-use Rattle.walk.specs.declared.Round.{Round}
-use Rattle.walk.specs.declared.Round.the-variants.{Settled, Again}
+use Rattle.walk.specs.Light.{walkBy}
+use Rattle.walk.specs.Piece.{Lies, Piece, Ready, WalkedBy}
+use Rattle.walk.specs.Turn.{BranchOpened, BranchSwitched, RoundsOpened}
 
 -- ---- what lies below
 
@@ -54,13 +52,13 @@ union-short : (R S : Conjuncts) → Tidy R → Tidy S → long (unionOf R S) ≡
 union-short R S h k =
     all-short (unionOf R S) (union-every (λ e. length e ≤ mostNodes) R S (short-each R (h .fine .short)) (short-each S (k .fine .short)))
 
-pub union-within : (R S : Conjuncts) → Tidy R → Tidy S → length (unionOf R S) ≤ 64 → limits (unionOf R S) ≡ ok (unionOf R S)
+pub union-within : (R S : Conjuncts) → Tidy R → Tidy S → length (unionOf R S) ≤ mostConjuncts → limits (unionOf R S) ≡ ok (unionOf R S)
 unfolding limits
-union-within R S h k l = rw (union-short R S h k, le-ltb 64 (length (unionOf R S)) l)
+union-within R S h k l = rw (union-short R S h k, le-ltb mostConjuncts (length (unionOf R S)) l)
 
-pub union-over : (R S : Conjuncts) → Tidy R → Tidy S → 64 < length (unionOf R S) → limits (unionOf R S) ≡ refused tooManyConjuncts
+pub union-over : (R S : Conjuncts) → Tidy R → Tidy S → mostConjuncts < length (unionOf R S) → limits (unionOf R S) ≡ refused tooManyConjuncts
 unfolding limits
-union-over R S h k l = rw (union-short R S h k, lt-ltb 64 (length (unionOf R S)) l)
+union-over R S h k l = rw (union-short R S h k, lt-ltb mostConjuncts (length (unionOf R S)) l)
 
 -- ---- answers
 
@@ -70,12 +68,12 @@ answer-done r o S h e = subst (λ x. o ≡ answered x S) e h
 pub answer-refused : (r : Answer) (o : Out Conjuncts) (S : Conjuncts) (n : ℕ) → o ≡ answered r S → r ≡ Refused n → o ≡ refused n
 answer-refused r o S n h e = subst (λ x. o ≡ answered x S) e h
 
-module _ (stmt : ℕ → Stmt) (mate : ℕ → ℕ) (r : Answer) (p q b : ℕ) (s t : List ℕ) (w : Walked stmt mate r p q b s t) where
-  pub walked-done : r ≡ Done → (c : Code) → Laid stmt mate c p q → walk c (setOf s b) ≡ ok (setOf t b)
-  walked-done e c h = answer-done r (walk c (setOf s b)) (setOf t b) (w .0 c h) e
+module _ (light : Bool) (stmt : ℕ → Stmt) (mate : ℕ → ℕ) (r : Answer) (p q b : ℕ) (s t : List ℕ) (w : WalkedBy light stmt mate r p q b s t) where
+  pub walked-done : r ≡ Done → (c : Code) → Laid stmt mate c p q → walkBy light c (setOf s b) ≡ ok (setOf t b)
+  walked-done e c h = answer-done r (walkBy light c (setOf s b)) (setOf t b) (w .0 c h) e
 
-  pub walked-refused : (n : ℕ) → r ≡ Refused n → (c : Code) → Laid stmt mate c p q → walk c (setOf s b) ≡ refused n
-  walked-refused n e c h = answer-refused r (walk c (setOf s b)) (setOf t b) n (w .0 c h) e
+  pub walked-refused : (n : ℕ) → r ≡ Refused n → (c : Code) → Laid stmt mate c p q → walkBy light c (setOf s b) ≡ refused n
+  walked-refused n e c h = answer-refused r (walkBy light c (setOf s b)) (setOf t b) n (w .0 c h) e
 
 -- ---- the table
 
@@ -95,8 +93,8 @@ module _ (s t : List ℕ) (e : tableOf 0 t ≡ tableOf 0 s) where
   knows-on q h = subst (KnownBelow q) (sym e) h
 
   -- a walk by the words after is one by the words before
-  pub walked-from : (r : Answer) (p q b : ℕ) (u : List ℕ) → Walked (stmts t) (mates t) r p q b t u → Walked (stmts s) (mates s) r p q b t u
-  walked-from r p q b u w = subst (λ k. Walked (stmtIn k) (mateIn k) r p q b t u) e w
+  pub walked-from : (light : Bool) (r : Answer) (p q b : ℕ) (u : List ℕ) → WalkedBy light (stmts t) (mates t) r p q b t u → WalkedBy light (stmts s) (mates s) r p q b t u
+  walked-from light r p q b u w = subst (λ k. WalkedBy light (stmtIn k) (mateIn k) r p q b t u) e w
 
 -- the statements before a label are those before a later one too
 pub knows-less : (p q : ℕ) (s : List ℕ) → p ≤ q → Knows q s → Knows p s
@@ -157,32 +155,3 @@ module _ (s t : List ℕ) (b : ℕ) (room : b + 3 * regionWords ≤ length s) (s
           second = f ∙ k;
           below = below-trans b s t u (within-below b (b + regionWords) s t (omega arith) w) (within-below b (b + 2 * regionWords) t u (omega arith) v);
         }
-
-    module _ (w : Within (b + 2 * regionWords) s t) (united : limits (unionOf (setOf s b) (setOf s (b + 2 * regionWords))) ≡ ok (setOf t (b + 2 * regionWords))) where
-      before : setOf t (b + regionWords) ≡ setOf s (b + regionWords)
-      before = frame s t (b + 2 * regionWords) (b + regionWords) same-length (omega arith) (inr (omega arith)) w
-
-      -- the set that a round starts from, that of the last round, and what the body gave
-      abbrev pub ClosedAs : Round → Type 0
-      ClosedAs r = Closed r (setOf s b) (setOf s (b + regionWords)) (setOf s (b + 2 * regionWords)) b u × Below b s u
-
-      pub closed-settled : same (setOf t (b + regionWords)) (setOf t (b + 2 * regionWords)) ≡ true → setOf u b ≡ setOf t (b + 2 * regionWords) → Within b t u
-          → ClosedAs Settled
-      closed-settled q f v = (
-        (united ∙ ap ok (sym f), ap₂ same (sym before) f ∙ q),
-        below-trans b s t u (within-below b (b + 2 * regionWords) s t (omega arith) w) (within-below b b t u (omega arith) v),
-      )
-
-      pub closed-again : same (setOf t (b + regionWords)) (setOf t (b + 2 * regionWords)) ≡ false → setOf u (b + regionWords) ≡ setOf t (b + 2 * regionWords)
-          → Within (b + regionWords) t u → ClosedAs Again
-      closed-again q f v = (
-        record {
-          next = united ∙ ap ok (sym f);
-          differs = ap₂ same (sym before) f ∙ q;
-          same-start =
-              frame t u (b + regionWords) b same-length′ (omega arith) (inr (omega arith)) v
-              ∙ frame s t (b + 2 * regionWords) b same-length (omega arith) (inr (omega arith)) w;
-          copied = frame t u (b + regionWords) (b + 2 * regionWords) same-length′ (omega arith) (inl (omega arith)) v ∙ sym f;
-        },
-        below-trans b s t u (within-below b (b + 2 * regionWords) s t (omega arith) w) (within-below b (b + regionWords) t u (omega arith) v),
-      )

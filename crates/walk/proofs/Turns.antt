@@ -1,4 +1,5 @@
 -- One statement or block of a piece of program, walked from its end: the laws of each kind of turn.
+use mathlib.Core.Bool.{Bool}
 use mathlib.Core.Path.{_≡_, refl, sym, ap, subst, _∙_}
 use Prim.Native.Nat.{ℕ, zero, suc, _+_, _-_, _≤_, _<_}
 use native.Mathlib.Omega.{arith}
@@ -6,24 +7,22 @@ use Rattle.model.specs.Code.{Instr, Code, done, step, branch, loop, Stmt, plain
 use Rattle.model.specs.Conjunct.{Conjuncts}
 use Rattle.model.specs.Refusals.{ok, refused, _>>=_}
 use Rattle.model.specs.Run.{append}
-use Rattle.model.specs.Walk.{walk}
 use Rattle.model.specs.Nesting.{Nested}
 use Rattle.model.specs.Placement.{IfAt, WhileAt, Laid}
 use Rattle.model.specs.TidySets.{Tidy}
 use Rattle.model.proofs.Depth.{nested-append}
 use Rattle.model.proofs.Laid.{laid-le, Last, last-plain, last-if, last-while, laid-last}
 use Rattle.model.proofs.Results.{gives-ok}
-use Rattle.model.proofs.Skip.{walk-skip}
-use Rattle.model.proofs.Tidied.{walk-tidy}
-use Rattle.model.proofs.Walks.{walk-append}
 use Rattle.footprint.specs.Footprints.{CoversSet, SparedAll, PlainAndSpared}
 use Rattle.footprint.specs.declared.Footprint.{Footprint}
 use Rattle.footprint.proofs.Skipped.{quiet-touches}
+use Rattle.walk.specs.Light.{walkBy}
 use Rattle.walk.specs.Turn.{firstOf, Sole}
 use Rattle.walk.proofs.Entered.{single-some}
 use Rattle.walk.proofs.Unique.{laid-unique}
+use Rattle.walk.proofs.Ways.{by-done, by-append, by-skip, by-tidy}
 
-module _ (stmt : ℕ → Stmt) (mate : ℕ → ℕ) where
+module _ (light : Bool) (stmt : ℕ → Stmt) (mate : ℕ → ℕ) where
   -- ---- the last statement or block
 
   -- what stands before the last statement or block of a piece, and that one, from l on
@@ -86,7 +85,7 @@ module _ (stmt : ℕ → Stmt) (mate : ℕ → ℕ) where
     pub left : Code
     pub lies : Laid stmt mate left p r
     pub nested : Nested depth left
-    pub same : (c : Code) → Laid stmt mate c p q → walk c S₀ ≡ walk left S
+    pub same : (c : Code) → Laid stmt mate c p q → walkBy light c S₀ ≡ walkBy light left S
     pub tidy : Tidy S
 
   pub stands-first : (depth p q : ℕ) (S : Conjuncts) (c : Code) → Laid stmt mate c p q → Nested depth c → Tidy S → Stands depth p q q S S
@@ -94,15 +93,14 @@ module _ (stmt : ℕ → Stmt) (mate : ℕ → ℕ) where
     left = c;
     lies = h;
     nested = n;
-    same = λ d k. ap (λ x. walk x S) (laid-unique stmt mate d c p q k h);
+    same = λ d k. ap (λ x. walkBy light x S) (laid-unique stmt mate d c p q k h);
     tidy = t;
   }
 
-  pub stands-done : (depth p q r : ℕ) (S₀ S : Conjuncts) → Stands depth p q r S₀ S → r ≤ p → (c : Code) → Laid stmt mate c p q → walk c S₀ ≡ ok S
-  unfolding walk
+  pub stands-done : (depth p q r : ℕ) (S₀ S : Conjuncts) → Stands depth p q r S₀ S → r ≤ p → (c : Code) → Laid stmt mate c p q → walkBy light c S₀ ≡ ok S
   stands-done depth p q r S₀ S h b c k =
       let e : p ≡ r = omega (arith, laid-le stmt mate (h .left) p r (h .lies)) in
-      h .same c k ∙ ap (λ x. walk x S) (laid-unique stmt mate (h .left) done p r (h .lies) e)
+      h .same c k ∙ ap (λ x. walkBy light x S) (laid-unique stmt mate (h .left) done p r (h .lies) e) ∙ by-done light S
 
   module _ (depth p q l r : ℕ) (S₀ S : Conjuncts) (h : Stands depth p q r S₀ S) (b : p < r) (first : l ≡ firstOf (stmt (r - 1)) mate (r - 1)) where
     parts : Parted (h .left) p l r
@@ -118,26 +116,26 @@ module _ (stmt : ℕ → Stmt) (mate : ℕ → ℕ) where
     pub stands-bounds : (p ≤ l) × (l < r)
     stands-bounds = (laid-le stmt mate (parts .front) p l (parts .front-lies), single-some stmt mate (parts .last) l r (parts .last-lies) (parts .sole))
 
-    left-walk : walk (h .left) S ≡ (walk (parts .last) S >>= walk (parts .front))
-    left-walk = ap (λ x. walk x S) (parts .whole) ∙ walk-append (parts .front) (parts .last) S
+    left-walk : walkBy light (h .left) S ≡ (walkBy light (parts .last) S >>= walkBy light (parts .front))
+    left-walk = ap (λ x. walkBy light x S) (parts .whole) ∙ by-append light (parts .front) (parts .last) S
 
-    pub stands-turned : (S′ : Conjuncts) → ((w : Code) → Laid stmt mate w l r → walk w S ≡ ok S′) → Stands depth p q l S₀ S′
+    pub stands-turned : (S′ : Conjuncts) → ((w : Code) → Laid stmt mate w l r → walkBy light w S ≡ ok S′) → Stands depth p q l S₀ S′
     stands-turned S′ k =
         let e = k (parts .last) (parts .last-lies) in
         record {
           left = parts .front;
           lies = parts .front-lies;
           nested = nested-parts .0;
-          same = λ c g. h .same c g ∙ left-walk ∙ ap (_>>= walk (parts .front)) e;
-          tidy = gives-ok Tidy (walk (parts .last) S) S′ e (walk-tidy (parts .last) S (h .tidy));
+          same = λ c g. h .same c g ∙ left-walk ∙ ap (_>>= walkBy light (parts .front)) e;
+          tidy = gives-ok Tidy (walkBy light (parts .last) S) S′ e (by-tidy light (parts .last) S (h .tidy));
         }
 
-    pub stands-refused : (n : ℕ) → ((w : Code) → Laid stmt mate w l r → walk w S ≡ refused n) → (c : Code) → Laid stmt mate c p q → walk c S₀ ≡ refused n
-    stands-refused n k c g = h .same c g ∙ left-walk ∙ ap (_>>= walk (parts .front)) (k (parts .last) (parts .last-lies))
+    pub stands-refused : (n : ℕ) → ((w : Code) → Laid stmt mate w l r → walkBy light w S ≡ refused n) → (c : Code) → Laid stmt mate c p q → walkBy light c S₀ ≡ refused n
+    stands-refused n k c g = h .same c g ∙ left-walk ∙ ap (_>>= walkBy light (parts .front)) (k (parts .last) (parts .last-lies))
 
     -- it changes nothing that the set speaks of
     pub stands-passed : (m : Footprint) → CoversSet m S → SparedAll m stmt l r → Stands depth p q l S₀ S
-    stands-passed m s k = stands-turned S (λ w g. walk-skip w S (quiet-touches m S s stmt mate w l r g k) (h .tidy))
+    stands-passed m s k = stands-turned S (λ w g. by-skip light w S (quiet-touches m S s stmt mate w l r g k) (h .tidy))
 
   -- the statements from l on, one by one from the last
   pub stands-over : (depth p q l r : ℕ) (S₀ S : Conjuncts) → Stands depth p q r S₀ S → (m : Footprint) → CoversSet m S → p ≤ l → l ≤ r → PlainAndSpared m stmt l r → Stands depth p q l S₀ S

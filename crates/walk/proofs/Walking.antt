@@ -1,5 +1,6 @@
 -- The walk of a piece so far: from the last label back to r, with the set of the region at b and its footprint. Each turn of the loop
 -- is one law; what the table says is carried from the words before to those after, since nothing before the region changes.
+use mathlib.Core.Bool.{Bool}
 use mathlib.Core.List.{List}
 use mathlib.Core.Path.{_≡_, refl, sym, subst, _∙_}
 use Prim.Native.Nat.{ℕ, _-_, _≤_, _<_}
@@ -13,19 +14,19 @@ use Rattle.rules.specs.Answers.{Below}
 use Rattle.rules.specs.declared.Answer.{Answer}
 use Rattle.rules.specs.declared.Answer.the-variants.{Done, Refused}
 use Rattle.sets.specs.Region.{setOf}
-use Rattle.walk.specs.Piece.{Piece, Ready, Walked}
+use Rattle.walk.specs.Piece.{Piece, Ready, WalkedBy}
 use Rattle.walk.specs.Turn.{firstOf, Single}
 use Rattle.walk.proofs.Regions.{below-self, below-trans, below-table, lies-on, knows-on, knows-less, walked-done, walked-refused}
 use Rattle.walk.proofs.Turns.{Stands, stands-first, stands-done, stands-due, stands-bounds, stands-turned, stands-refused, stands-passed, stands-over}
 
-module _ (s₀ : List ℕ) (depth b p q : ℕ) where
+module _ (light : Bool) (s₀ : List ℕ) (depth b p q : ℕ) where
   pub record Walking (s : List ℕ) (m : Footprint) (r : ℕ) : Type 0 where
     pub most : r ≤ q
     pub same-length : length s ≡ length s₀
     pub below : Below b s₀ s
     pub table : tableOf 0 s ≡ tableOf 0 s₀
     pub covers : CoversSet m (setOf s b)
-    pub stands : Stands (stmts s₀) (mates s₀) depth p q r (setOf s₀ b) (setOf s b)
+    pub stands : Stands light (stmts s₀) (mates s₀) depth p q r (setOf s₀ b) (setOf s b)
 
   pub walking-first : Ready mostNested 2 s₀ depth b q → Piece s₀ depth p q → (m : Footprint) → CoversSet m (setOf s₀ b) → Walking s₀ m q
   walking-first g c m k = record {
@@ -34,7 +35,7 @@ module _ (s₀ : List ℕ) (depth b p q : ℕ) where
     below = below-self b s₀;
     table = refl;
     covers = k;
-    stands = stands-first (stmts s₀) (mates s₀) depth p q (setOf s₀ b) (c .code) (c .lies) (c .nested) (g .tidy);
+    stands = stands-first light (stmts s₀) (mates s₀) depth p q (setOf s₀ b) (c .code) (c .lies) (c .nested) (g .tidy);
   }
 
   module _ (s : List ℕ) (m : Footprint) (r : ℕ) (w : Walking s m r) where
@@ -50,13 +51,13 @@ module _ (s₀ : List ℕ) (depth b p q : ℕ) where
       table = w .table;
       covers = w .covers;
       stands =
-          stands-over (stmts s₀) (mates s₀) depth p q l r (setOf s₀ b) (setOf s b) (w .stands) m (w .covers) (k .least) (k .most)
+          stands-over light (stmts s₀) (mates s₀) depth p q l r (setOf s₀ b) (setOf s b) (w .stands) m (w .covers) (k .least) (k .most)
           (subst (λ t. BackTo m (stmtIn t) p r l) (w .table) k .passed);
     }
 
     -- nothing is left
-    pub finished : r ≤ p → Walked (stmts s₀) (mates s₀) Done p q b s₀ s
-    finished h = (stands-done (stmts s₀) (mates s₀) depth p q r (setOf s₀ b) (setOf s b) (w .stands) h, w .below)
+    pub finished : r ≤ p → WalkedBy light (stmts s₀) (mates s₀) Done p q b s₀ s
+    finished h = (stands-done light (stmts s₀) (mates s₀) depth p q r (setOf s₀ b) (setOf s b) (w .stands) h, w .below)
 
     -- the last statement or block, from the label l on, is due
     module _ (l : ℕ) (more : p < r) (first : l ≡ firstOf (stmts s (r - 1)) (mates s) (r - 1)) where
@@ -64,11 +65,11 @@ module _ (s₀ : List ℕ) (depth b p q : ℕ) where
       first-here = subst (λ t. l ≡ firstOf (stmtIn t (r - 1)) (mateIn t) (r - 1)) (w .table) first
 
       pub bounds : (p ≤ l) × (l < r)
-      bounds = stands-bounds (stmts s₀) (mates s₀) depth p q l r (setOf s₀ b) (setOf s b) (w .stands) more first-here
+      bounds = stands-bounds light (stmts s₀) (mates s₀) depth p q l r (setOf s₀ b) (setOf s b) (w .stands) more first-here
 
       pub due : Single s depth l r
       due =
-          let d = stands-due (stmts s₀) (mates s₀) depth p q l r (setOf s₀ b) (setOf s b) (w .stands) more first-here in
+          let d = stands-due light (stmts s₀) (mates s₀) depth p q l r (setOf s₀ b) (setOf s b) (w .stands) more first-here in
           record { code = d .0; lies = lies-on s₀ s (w .table) (d .0) l r (d .1); nested = d .2; sole = d .3 }
 
       -- it is passed over as a whole
@@ -80,22 +81,22 @@ module _ (s₀ : List ℕ) (depth b p q : ℕ) where
         table = w .table;
         covers = w .covers;
         stands =
-            stands-passed (stmts s₀) (mates s₀) depth p q l r (setOf s₀ b) (setOf s b) (w .stands) more first-here m (w .covers)
+            stands-passed light (stmts s₀) (mates s₀) depth p q l r (setOf s₀ b) (setOf s b) (w .stands) more first-here m (w .covers)
             (subst (λ t. SparedAll m (stmtIn t) l r) (w .table) k);
       }
 
       -- its walk answered a and took s to t
-      module _ (t : List ℕ) (a : Answer) (turned : Walked (stmts s) (mates s) a l r b s t) where
-        here : Walked (stmts s₀) (mates s₀) a l r b s t
-        here = subst (λ k. Walked (stmtIn k) (mateIn k) a l r b s t) (w .table) turned
+      module _ (t : List ℕ) (a : Answer) (turned : WalkedBy light (stmts s) (mates s) a l r b s t) where
+        here : WalkedBy light (stmts s₀) (mates s₀) a l r b s t
+        here = subst (λ k. WalkedBy light (stmtIn k) (mateIn k) a l r b s t) (w .table) turned
 
         to-t : Below b s₀ t
         to-t = below-trans b s₀ s t (w .below) (turned .1)
 
-        pub turn-refused : (n : ℕ) → a ≡ Refused n → Walked (stmts s₀) (mates s₀) (Refused n) p q b s₀ t
+        pub turn-refused : (n : ℕ) → a ≡ Refused n → WalkedBy light (stmts s₀) (mates s₀) (Refused n) p q b s₀ t
         turn-refused n e = (
-          stands-refused (stmts s₀) (mates s₀) depth p q l r (setOf s₀ b) (setOf s b) (w .stands) more first-here n
-              (walked-refused (stmts s₀) (mates s₀) a l r b s t here n e),
+          stands-refused light (stmts s₀) (mates s₀) depth p q l r (setOf s₀ b) (setOf s b) (w .stands) more first-here n
+              (walked-refused light (stmts s₀) (mates s₀) a l r b s t here n e),
           to-t,
         )
 
@@ -107,6 +108,6 @@ module _ (s₀ : List ℕ) (depth b p q : ℕ) where
           table = below-table b s₀ t h k (same-t ∙ w .same-length) to-t;
           covers = c;
           stands =
-              stands-turned (stmts s₀) (mates s₀) depth p q l r (setOf s₀ b) (setOf s b) (w .stands) more first-here (setOf t b)
-              (walked-done (stmts s₀) (mates s₀) a l r b s t here e);
+              stands-turned light (stmts s₀) (mates s₀) depth p q l r (setOf s₀ b) (setOf s b) (w .stands) more first-here (setOf t b)
+              (walked-done light (stmts s₀) (mates s₀) a l r b s t here e);
         }

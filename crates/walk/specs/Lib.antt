@@ -1,2 +1,3 @@
+pub mod Light
 pub mod Piece
 pub mod Turn

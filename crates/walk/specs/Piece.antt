@@ -1,4 +1,5 @@
 -- A piece of program by its labels, in words that begin with the code table: what a walk is given, and what it leaves.
+use mathlib.Core.Bool.{Bool}
 use mathlib.Core.List.{List}
 use mathlib.Core.Path.{_≡_}
 use Prim.Native.Nat.{ℕ, _+_, _*_, _≤_}
@@ -12,6 +13,7 @@ use Rattle.code_table.specs.Table.{tableWords, stmts, mates, Knows}
 use Rattle.sets.specs.Region.{regionWords, setOf}
 use Rattle.rules.specs.Answers.{answered, Below}
 use Rattle.rules.specs.declared.Answer.{Answer}
+use Rattle.walk.specs.Light.{walkBy}
 
 -- the piece c lies on the labels from p up to q
 abbrev pub Lies : List ℕ → Code → ℕ → ℕ → Type 0
@@ -32,6 +34,10 @@ pub record Ready (most regions : ℕ) (s : List ℕ) (depth b q : ℕ) : Type 0 
   pub room : b + (2 * depth + regions) * regionWords ≤ length s
   pub tidy : Tidy (setOf s b)
 
--- the walk of the piece on the labels from p up to q, on the region at b, that answered r and took s to t
+-- the walk, light or not, of the piece on the labels from p up to q, on the region at b, that answered r and took s to t
+abbrev pub WalkedBy : (light : Bool) → (ℕ → Stmt) → (ℕ → ℕ) → Answer → (p q b : ℕ) → (s t : List ℕ) → Type 0
+WalkedBy light stmt mate r p q b s t = ((c : Code) → Laid stmt mate c p q → walkBy light c (setOf s b) ≡ answered r (setOf t b)) × Below b s t
+
+-- the walk by the definition
 abbrev pub Walked : (ℕ → Stmt) → (ℕ → ℕ) → Answer → (p q b : ℕ) → (s t : List ℕ) → Type 0
 Walked stmt mate r p q b s t = ((c : Code) → Laid stmt mate c p q → walk c (setOf s b) ≡ answered r (setOf t b)) × Below b s t

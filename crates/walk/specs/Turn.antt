@@ -1,18 +1,20 @@
 -- One statement or block of a piece of program, and what the working functions of a walk leave in the regions: the set D of the
 -- region at b, and two regions after it.
 use mathlib.Core.Path.{_≡_}
-use mathlib.Core.Bool.{true, false}
+use mathlib.Core.Bool.{Bool}
 use mathlib.Core.List.{List}
-use Prim.Native.Nat.{ℕ, _+_, _*_}
+use Prim.Native.Nat.{ℕ, _+_, _*_, _≤_}
+use lib.ListN.{length}
 use Rattle.model.specs.Code.{Code, done, step, branch, loop, Stmt, plain, if, else, end, while}
-use Rattle.model.specs.Conjunct.{Conjuncts, unionOf, same, limits}
-use Rattle.model.specs.Refusals.{ok, refused}
+use Rattle.model.specs.Conjunct.{Conjuncts}
+use Rattle.model.specs.Refusals.{Out, ok, refused}
 use Rattle.model.specs.Nesting.{Nested}
-use Rattle.model.specs.Sizes.{mostRounds}
-use Rattle.model.specs.Walk.{joined, rounds, walk}
+use Rattle.model.specs.TidySets.{Tidy}
+use Rattle.model.specs.Walk.{joined}
 use Rattle.sets.specs.Region.{regionWords, setOf}
 use Rattle.rules.specs.Answers.{answered, Below}
 use Rattle.rules.specs.declared.Answer.{Answer}
+use Rattle.walk.specs.Light.{Next, settled, again, nextOf, walkBy, loopBy}
 use Rattle.walk.specs.Piece.{Lies}
 use Rattle.walk.specs.declared.Round.the-variants.{Settled, Again, Refused}
 use Rattle.walk.specs.declared.Round.{Round}
@@ -40,13 +42,19 @@ pub record Single (s : List ℕ) (depth p q : ℕ) : Type 0 where
   pub sole : Sole code
 
 -- the branches of an if on the labels from p up to e and from e + 1 up to f, on the region at b, that answered r and took s to t
-abbrev pub Branches : Answer → (p e f b : ℕ) → (s t : List ℕ) → Type 0
-Branches r p e f b s t =
-    ((y n : Code) → Lies s y p e → Lies s n (e + 1) f → joined (walk y) (walk n) (setOf s b) ≡ answered r (setOf t b)) × Below b s t
+abbrev pub Branches : (light : Bool) → Answer → (p e f b : ℕ) → (s t : List ℕ) → Type 0
+Branches light r p e f b s t =
+    ((y n : Code) → Lies s y p e → Lies s n (e + 1) f → joined (walkBy light y) (walkBy light n) (setOf s b) ≡ answered r (setOf t b)) × Below b s t
 
--- the rounds of a while whose body lies on the labels from p up to q
-abbrev pub Loops : Answer → (p q b : ℕ) → (s t : List ℕ) → Type 0
-Loops r p q b s t = ((c : Code) → Lies s c p q → rounds mostRounds (walk c) (setOf s b) (setOf s b) ≡ answered r (setOf t b)) × Below b s t
+-- the rounds of a while whose body lies on the labels from p up to q: what they come to is in the region after that at b, which stays
+pub record Rounded (light : Bool) (r : Answer) (p q b : ℕ) (s t : List ℕ) : Type 0 where
+  pub given : (c : Code) → Lies s c p q → loopBy light c (setOf s b) ≡ answered r (setOf t (b + regionWords))
+  pub same : setOf t b ≡ setOf s b
+  pub below : Below b s t
+
+-- the same, where it is in the region at b
+abbrev pub Loops : (light : Bool) → Answer → (p q b : ℕ) → (s t : List ℕ) → Type 0
+Loops light r p q b s t = ((c : Code) → Lies s c p q → loopBy light c (setOf s b) ≡ answered r (setOf t b)) × Below b s t
 
 -- ---- what the working functions leave: s became t
 
@@ -69,16 +77,27 @@ pub record RoundsOpened (b : ℕ) (s t : List ℕ) : Type 0 where
   pub second : setOf t (b + 2 * regionWords) ≡ setOf s b
   pub below : Below b s t
 
--- another round is due from the set of both regions after that at b
-pub record NextRound (D S B : Conjuncts) (b : ℕ) (t : List ℕ) : Type 0 where
-  pub next : limits (unionOf D B) ≡ ok (setOf t (b + regionWords))
-  pub differs : same S (setOf t (b + regionWords)) ≡ false
-  pub same-start : setOf t b ≡ D
-  pub copied : setOf t (b + 2 * regionWords) ≡ setOf t (b + regionWords)
+-- before the end of a round: the set that the while began with, that of the round, and what the body gave
+pub record Closing (b : ℕ) (s : List ℕ) : Type 0 where
+  pub room : b + 4 * regionWords ≤ length s
+  pub start : Tidy (setOf s b)
+  pub round : Tidy (setOf s (b + regionWords))
+  pub given : Tidy (setOf s (b + 2 * regionWords))
 
--- the end of a round from S, with the body's walk B: the settled set in the region at b, or the next one in both regions after it,
--- or a refusal
-abbrev pub Closed : Round → Conjuncts → Conjuncts → Conjuncts → ℕ → List ℕ → Type 0
-Closed Settled D S B b t = (limits (unionOf D B) ≡ ok (setOf t b)) × (same S (setOf t b) ≡ true)
-Closed Again D S B b t = NextRound D S B b t
-Closed (Refused n) D S B b t = limits (unionOf D B) ≡ refused n
+-- what the end of a round says of the sets in the two regions after that at b
+abbrev pub closedAs : Round → (S X : Conjuncts) → Out Next
+closedAs Settled S X = ok (settled S)
+closedAs Again S X = ok (again S X)
+closedAs (Refused n) S X = refused n
+
+-- the end of a round, light or not
+pub record Closed (light : Bool) (r : Round) (b : ℕ) (s t : List ℕ) : Type 0 where
+  pub next : nextOf light (setOf s b) (setOf s (b + regionWords)) (setOf s (b + 2 * regionWords))
+      ≡ closedAs r (setOf t (b + regionWords)) (setOf t (b + 2 * regionWords))
+  pub same : setOf t b ≡ setOf s b
+  pub below : Below b s t
+
+-- after the rounds: what they gave in the region after that at b is in that at b
+pub record TakenOver (given r : Answer) (b : ℕ) (s t : List ℕ) : Type 0 where
+  pub taken : (o : Out Conjuncts) → o ≡ answered given (setOf s (b + regionWords)) → o ≡ answered r (setOf t b)
+  pub below : Below b s t

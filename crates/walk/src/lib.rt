@@ -2,8 +2,10 @@
 // and, behind it, sets in regions of words. A block is walked with the two regions after its own: an
 // if keeps what its first branch gave in the first of them, a while the set of its last round; the
 // second and all after it are the inner walk's. Nothing before a walk's own region changes, so the
-// table stays as it is.
+// table stays as it is. A while is first closed by light rounds, which walk only what is new, and then
+// confirmed by one round on all of it (specs/Light.antt).
 ghost use mathlib.Core.Path.{_≡_};
+ghost use mathlib.Core.Bool.{true, false};
 ghost use Prim.Native.Nat.{_+_, _*_, _≤_, _<_};
 ghost use lib.ListN.{length};
 ghost use Rattle.model.specs.Conjunct.{unionOf, limits};
@@ -12,9 +14,12 @@ ghost use Rattle.model.specs.TidySets.{Tidy};
 ghost use Rattle.code_table.specs.Table.{tableWords, stmts, mates};
 ghost use Rattle.sets.specs.Region.{setOf, Within, TwoRegions, regionWords};
 ghost use Rattle.rules.specs.Answers.{answered, Below};
-ghost use Rattle.walk.specs.Piece.{Piece, Ready, Walked};
-ghost use Rattle.walk.specs.Turn.{firstOf, Single, Branches, Loops, BranchOpened, BranchSwitched, RoundsOpened, Closed};
+ghost use Rattle.walk.specs.Piece.{Piece, Ready, Walked, WalkedBy};
+ghost use Rattle.walk.specs.Turn.{firstOf, Single, Branches, Rounded, Loops, BranchOpened, BranchSwitched, RoundsOpened, Closing, Closed, TakenOver};
 use rules::Answer;
+
+// The rounds of a while in which its set has to settle.
+const MOST_ROUNDS: usize = 16;
 
 // How a round of a while ends: the set is settled, or another round is due, or a refusal.
 enum Round {
@@ -88,12 +93,9 @@ fn open_rounds(s: &mut [u64], b: usize)
 
 // At the end of a round from the set of the first region after that at b, where the second has what
 // the body gave: the set that it is joined with is that of the region at b.
-fn close_round(s: &mut [u64], b: usize) -> Round
+fn join_start(s: &mut [u64], b: usize) -> Round
     requires { ⌜ (b + 3 * regionWords ≤ length (now s)) × Tidy (setOf (now s) b) × Tidy (setOf (now s) (b + 2 * regionWords)) ⌝ }
-    ensures { λ r. ⌜
-        Closed r (setOf (now (s .entry)) b) (setOf (now (s .entry)) (b + regionWords)) (setOf (now (s .entry)) (b + 2 * regionWords)) b (now (s .exit))
-        × Below b (now (s .entry)) (now (s .exit))
-        ⌝ }
+    ensures { λ r. ⌜ Closed false r b (now (s .entry)) (now (s .exit)) ⌝ }
 {
     let last = b + sets::REGION;
     let next = b + 2 * sets::REGION;
@@ -101,12 +103,62 @@ fn close_round(s: &mut [u64], b: usize) -> Round
     match united {
         Answer::Refused(n) => Round::Refused(n),
         Answer::Done => {
-            if sets::equal(s, last, next) {
-                sets::copy(s, b, next);
+            let settled = sets::equal(s, last, next);
+            sets::copy(s, last, next);
+            if settled {
                 return Round::Settled;
             }
-            sets::copy(s, last, next);
             Round::Again
+        }
+    }
+}
+
+// At the end of a light round, where the second region after that at b has what the body gave: what of
+// it the first has not is new there, and is walked next. The third is room to work in.
+fn join_new(s: &mut [u64], b: usize) -> Round
+    requires { ⌜
+        (b + 4 * regionWords ≤ length (now s)) × Tidy (setOf (now s) (b + regionWords)) × Tidy (setOf (now s) (b + 2 * regionWords))
+        ⌝ }
+    ensures { λ r. ⌜ Closed true r b (now (s .entry)) (now (s .exit)) ⌝ }
+{
+    let all = b + sets::REGION;
+    let given = b + 2 * sets::REGION;
+    let new = b + 3 * sets::REGION;
+    sets::subtract(s, new, given, all);
+    if sets::size(s, new) == 0 {
+        return Round::Settled;
+    }
+    let united = unite(s, all, new);
+    match united {
+        Answer::Refused(n) => Round::Refused(n),
+        Answer::Done => {
+            sets::copy(s, given, new);
+            Round::Again
+        }
+    }
+}
+
+// At the end of a round, light or not.
+fn close_round(s: &mut [u64], light: bool, b: usize) -> Round
+    requires { ⌜ Closing b (now s) ⌝ }
+    ensures { λ r. ⌜ Closed light r b (now (s .entry)) (now (s .exit)) ⌝ }
+{
+    if light {
+        return join_new(s, b);
+    }
+    join_start(s, b)
+}
+
+// After the rounds of a while: what they came to, from the region after that at b.
+fn take_settled(s: &mut [u64], b: usize, given: Answer) -> Answer
+    requires { ⌜ b + 2 * regionWords ≤ length (now s) ⌝ }
+    ensures { λ r. ⌜ TakenOver given r b (now (s .entry)) (now (s .exit)) ⌝ }
+{
+    match given {
+        Answer::Refused(n) => Answer::Refused(n),
+        Answer::Done => {
+            sets::copy(s, b, b + sets::REGION);
+            Answer::Done
         }
     }
 }
@@ -127,17 +179,25 @@ fn beginning(s: &[u64], i: usize) -> usize
 // ---- the walk
 
 // The two branches of an if on the labels from p up to e and from e + 1 up to f.
-fn branch(s: &mut [u64], depth: usize, b: usize, p: usize, e: usize, f: usize) -> Answer
+fn branch(
+    s: &mut [u64],
+    depth: usize,
+    light: bool,
+    b: usize,
+    p: usize,
+    e: usize,
+    f: usize,
+) -> Answer
     requires { ⌜ Ready 3 4 (now s) depth b f × Piece (now s) depth p e × Piece (now s) depth (e + 1) f ⌝ }
-    ensures { λ r. ⌜ Branches r p e f b (now (s .entry)) (now (s .exit)) ⌝ }
+    ensures { λ r. ⌜ Branches light r p e f b (now (s .entry)) (now (s .exit)) ⌝ }
 {
     open_branch(s, b);
     let inner = b + 2 * sets::REGION;
-    match walk(s, depth, inner, p, e) {
+    match walk_in(s, depth, light, inner, p, e) {
         Answer::Refused(n) => Answer::Refused(n),
         Answer::Done => {
             switch_branch(s, b);
-            match walk(s, depth, inner, e + 1, f) {
+            match walk_in(s, depth, light, inner, e + 1, f) {
                 Answer::Refused(n) => Answer::Refused(n),
                 Answer::Done => close_branch(s, b),
             }
@@ -145,23 +205,24 @@ fn branch(s: &mut [u64], depth: usize, b: usize, p: usize, e: usize, f: usize) -
     }
 }
 
-// The rounds of a while whose body lies on the labels from p up to q.
-fn rounds(s: &mut [u64], depth: usize, b: usize, p: usize, q: usize) -> Answer
+// The rounds of a while whose body lies on the labels from p up to q, all light or none. The set that
+// they come to is in the region after that at b, whose own stays.
+fn rounds(s: &mut [u64], depth: usize, light: bool, b: usize, p: usize, q: usize) -> Answer
     requires { ⌜ Ready 3 4 (now s) depth b q × Piece (now s) depth p q ⌝ }
-    ensures { λ r. ⌜ Loops r p q b (now (s .entry)) (now (s .exit)) ⌝ }
+    ensures { λ r. ⌜ Rounded light r p q b (now (s .entry)) (now (s .exit)) ⌝ }
 {
     open_rounds(s, b);
     let inner = b + 2 * sets::REGION;
     let mut k: usize = 0;
     loop {
-        if 16 <= k {
+        if MOST_ROUNDS <= k {
             break Answer::Refused(11);
         }
-        match walk(s, depth, inner, p, q) {
+        match walk_in(s, depth, light, inner, p, q) {
             Answer::Refused(n) => {
                 break Answer::Refused(n);
             }
-            Answer::Done => match close_round(s, b) {
+            Answer::Done => match close_round(s, light, b) {
                 Round::Settled => {
                     break Answer::Done;
                 }
@@ -176,28 +237,60 @@ fn rounds(s: &mut [u64], depth: usize, b: usize, p: usize, q: usize) -> Answer
     }
 }
 
+// The rounds as the definition has them: light ones first, and one round on all that they come to. Where
+// either refuses, the definition's own rounds decide.
+fn settle(s: &mut [u64], depth: usize, b: usize, p: usize, q: usize) -> Answer
+    requires { ⌜ Ready 3 4 (now s) depth b q × Piece (now s) depth p q ⌝ }
+    ensures { λ r. ⌜ Rounded false r p q b (now (s .entry)) (now (s .exit)) ⌝ }
+{
+    match rounds(s, depth, true, b, p, q) {
+        Answer::Refused(n) => rounds(s, depth, false, b, p, q),
+        Answer::Done => {
+            let inner = b + 2 * sets::REGION;
+            sets::copy(s, inner, b + sets::REGION);
+            match walk_in(s, depth, false, inner, p, q) {
+                Answer::Refused(n) => rounds(s, depth, false, b, p, q),
+                Answer::Done => Answer::Done,
+            }
+        }
+    }
+}
+
+// A while whose body lies on the labels from p up to q.
+fn repeat(s: &mut [u64], depth: usize, light: bool, b: usize, p: usize, q: usize) -> Answer
+    requires { ⌜ Ready 3 4 (now s) depth b q × Piece (now s) depth p q ⌝ }
+    ensures { λ r. ⌜ Loops light r p q b (now (s .entry)) (now (s .exit)) ⌝ }
+{
+    if light {
+        let given = rounds(s, depth, true, b, p, q);
+        return take_settled(s, b, given);
+    }
+    let given = settle(s, depth, b, p, q);
+    take_settled(s, b, given)
+}
+
 // One statement or block, on the labels from p up to q.
-fn turn(s: &mut [u64], depth: usize, b: usize, p: usize, q: usize) -> Answer
+fn turn(s: &mut [u64], depth: usize, light: bool, b: usize, p: usize, q: usize) -> Answer
     requires { ⌜ Ready mostNested 2 (now s) depth b q × Single (now s) depth p q ⌝ }
-    ensures { λ r. ⌜ Walked (stmts (now (s .entry))) (mates (now (s .entry))) r p q b (now (s .entry)) (now (s .exit)) ⌝ }
+    ensures { λ r. ⌜ WalkedBy light (stmts (now (s .entry))) (mates (now (s .entry))) r p q b (now (s .entry)) (now (s .exit)) ⌝ }
 {
     let d = code_table::fetch(s, 0, p);
     let kind = d.kind;
     match kind {
         11 => {
             let other = code_table::mate(s, 0, p);
-            branch(s, depth - 1, b, p + 1, other, q - 1)
+            branch(s, depth - 1, light, b, p + 1, other, q - 1)
         }
-        14 => rounds(s, depth - 1, b, p + 1, q - 1),
+        14 => repeat(s, depth - 1, light, b, p + 1, q - 1),
         _ => rules::rule(s, b, p as u64, d),
     }
 }
 
-// The walk of the piece on the labels from p up to q on the set of the region at b. From that region
-// on, 2 * depth + 2 regions are its own.
-pub fn walk(s: &mut [u64], depth: usize, b: usize, p: usize, q: usize) -> Answer
+// The walk, light or not, of the piece on the labels from p up to q on the set of the region at b. From
+// that region on, 2 * depth + 2 regions are its own.
+fn walk_in(s: &mut [u64], depth: usize, light: bool, b: usize, p: usize, q: usize) -> Answer
     requires { ⌜ Ready mostNested 2 (now s) depth b q × Piece (now s) depth p q ⌝ }
-    ensures { λ r. ⌜ Walked (stmts (now (s .entry))) (mates (now (s .entry))) r p q b (now (s .entry)) (now (s .exit)) ⌝ }
+    ensures { λ r. ⌜ WalkedBy light (stmts (now (s .entry))) (mates (now (s .entry))) r p q b (now (s .entry)) (now (s .exit)) ⌝ }
 {
     let mut m = footprint::of_set(s, b);
     let mut r = footprint::spared_plain(s, m, p, q);
@@ -206,7 +299,7 @@ pub fn walk(s: &mut [u64], depth: usize, b: usize, p: usize, q: usize) -> Answer
         if footprint::spares_all(s, m, l, r) {
             r = footprint::spared_plain(s, m, p, l);
         } else {
-            match turn(s, depth, b, l, r) {
+            match turn(s, depth, light, b, l, r) {
                 Answer::Refused(n) => {
                     return Answer::Refused(n);
                 }
@@ -218,4 +311,13 @@ pub fn walk(s: &mut [u64], depth: usize, b: usize, p: usize, q: usize) -> Answer
         }
     }
     Answer::Done
+}
+
+// The walk of the piece on the labels from p up to q on the set of the region at b. From that region
+// on, 2 * depth + 2 regions are its own.
+pub fn walk(s: &mut [u64], depth: usize, b: usize, p: usize, q: usize) -> Answer
+    requires { ⌜ Ready mostNested 2 (now s) depth b q × Piece (now s) depth p q ⌝ }
+    ensures { λ r. ⌜ Walked (stmts (now (s .entry))) (mates (now (s .entry))) r p q b (now (s .entry)) (now (s .exit)) ⌝ }
+{
+    walk_in(s, depth, false, b, p, q)
 }

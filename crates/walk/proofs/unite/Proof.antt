@@ -4,6 +4,7 @@ use Prim.Native.Nat.{_≤_}
 use lib.ListN.{length}
 use Rattle.model.specs.Conjunct.{unionOf}
 use Rattle.model.specs.Refusals.{ok}
+use Rattle.model.specs.Sizes.{mostConjuncts}
 use Rattle.sets.proofs.Rows.{set-few}
 use Rattle.sets.specs.Region.{setOf, Joined}
 use Rattle.walk.proofs.Regions.{union-within, union-over}
@@ -28,7 +29,7 @@ returns c =
     let R = setOf (g .args .s .now) (g .args .from) in
     let S = setOf (g .args .s .now) (g .args .to) in
     let e = subst (λ r. Joined r (g .args .from) (g .args .to) (g .args .s .now) (u .last .0)) (c .if1 .taken) (u .ensures .0) in
-    let few : length (unionOf R S) ≤ 64 = subst (λ x. length x ≤ 64) e (set-few (u .last .0) (g .args .to)) in
+    let few : length (unionOf R S) ≤ mostConjuncts = subst (λ x. length x ≤ mostConjuncts) e (set-few (u .last .0) (g .args .to)) in
     (union-within R S (g .pre .1) (g .pre .2) few ∙ ap ok (sym e), u .ensures .1)
 
 same-length-2 : tie.Need-same-length-2
