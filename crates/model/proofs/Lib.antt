@@ -70,3 +70,4 @@ pub mod Depth
 pub mod Guarding
 pub mod Lent
 pub mod Rising
+pub mod Backward

@@ -73,17 +73,17 @@ module _ (stmt : ℕ → Stmt) (mate : ℕ → ℕ) (n : ℕ) where
 
   pub onward : {i q : ℕ} (w : Enclosing stmt mate n i q) (c : Code) (j : ℕ) → Laid stmt mate c i j → Nested mostNested c → Onward w c j
   unfolding walkOut
-  onward (top i d h k) c j l m = record { blocks = top j (append d c) (laid-append stmt mate d c 0 i j h l) (nested-join 4 d c k m); walks-out = λ D. walk-append d c D }
+  onward (top i d h k) c j l m = record { blocks = top j (append d c) (laid-append stmt mate d c 0 i j h l) (nested-join mostNested d c k m); walks-out = λ D. walk-append d c D }
   onward (in-yes i r v e f q d a b g h k w) c j l m = record {
-    blocks = in-yes j r v e f q (append d c) a b g (laid-append stmt mate d c (suc r) i j h l) (nested-join 4 d c k m) w;
+    blocks = in-yes j r v e f q (append d c) a b g (laid-append stmt mate d c (suc r) i j h l) (nested-join mostNested d c k m) w;
     walks-out = further d c (walkOut stmt mate n w);
   }
   onward (in-no i r v e f q y d a b g h k w) c j l m = record {
-    blocks = in-no j r v e f q y (append d c) a b g (laid-append stmt mate d c (suc e) i j h l) (nested-join 4 d c k m) w;
+    blocks = in-no j r v e f q y (append d c) a b g (laid-append stmt mate d c (suc e) i j h l) (nested-join mostNested d c k m) w;
     walks-out = further d c (walkOut stmt mate n w);
   }
   onward (in-while i r v f q d body a b h k g z w) c j l m = record {
-    blocks = in-while j r v f q (append d c) body a b (laid-append stmt mate d c (suc r) i j h l) (nested-join 4 d c k m) g z w;
+    blocks = in-while j r v f q (append d c) body a b (laid-append stmt mate d c (suc r) i j h l) (nested-join mostNested d c k m) g z w;
     walks-out = further d c (λ E. rounds mostRounds (walk body) E E >>= walkOut stmt mate n w);
   }
 
@@ -93,16 +93,16 @@ module _ (stmt : ℕ → Stmt) (mate : ℕ → ℕ) (n : ℕ) where
 
   -- ---- the sites by rising label
 
-  else-bare : (s : Stmt) → s ≡ else → Bare s
+  pub else-bare : (s : Stmt) → s ≡ else → Bare s
   else-bare s e x p = let z : _≡_ {A = ℕ} 0 1 = cc in omega arith
 
-  end-bare : (s : Stmt) → s ≡ end → Bare s
+  pub end-bare : (s : Stmt) → s ≡ end → Bare s
   end-bare s e x p = let z : _≡_ {A = ℕ} 0 1 = cc in omega arith
 
-  if-bare : (s : Stmt) (v : ℕ) → s ≡ if v → Bare s
+  pub if-bare : (s : Stmt) (v : ℕ) → s ≡ if v → Bare s
   if-bare s v e x p = let z : _≡_ {A = ℕ} 0 1 = cc in omega arith
 
-  while-bare : (s : Stmt) (v : ℕ) → s ≡ while v → Bare s
+  pub while-bare : (s : Stmt) (v : ℕ) → s ≡ while v → Bare s
   while-bare s v e x p = let z : _≡_ {A = ℕ} 0 1 = cc in omega arith
 
   pub from-start : (c : Code) → Laid stmt mate c 0 n → Nested mostNested c → From stmt mate n 0 (sites c)
@@ -179,13 +179,13 @@ module _ (stmt : ℕ → Stmt) (mate : ℕ → ℕ) (n : ℕ) where
           let more = map (_>>= walkOut stmt mate n (o .blocks)) (sites rest) in
           let behind : Rest stmt mate n f (more ++ L) = past f q rest L (end-bare (stmt f) (at .is-end)) (h .1 .5) (k .2) (o .blocks) r in
           let others : Rest stmt mate n e (map (_>>= walkOut stmt mate n wm) (sites m) ++ (more ++ L)) =
-          past e f m (more ++ L) (else-bare (stmt e) (at .is-else)) (h .1 .4) (nested-more 3 m (k .1)) wm behind in
+          past e f m (more ++ L) (else-bare (stmt e) (at .is-else)) (h .1 .4) (nested-more mostInside m (k .1)) wm behind in
           let split : map (_>>= walkOut stmt mate n w) (sites y ++ (sites m ++ map (_>>= joined (walk y) (walk m)) (sites rest))) ++ L
           ≡ map (_>>= walkOut stmt mate n wy) (sites y) ++ (map (_>>= walkOut stmt mate n wm) (sites m) ++ (more ++ L)) =
           three (_>>= walkOut stmt mate n w) (sites y) (sites m) (map (_>>= joined (walk y) (walk m)) (sites rest)) L
           ∙ ap (λ z. map (_>>= walkOut stmt mate n w) (sites y) ++ (map (_>>= walkOut stmt mate n w) (sites m) ++ (z ++ L))) (sym (onward-all w (branch l v y m done) (suc f) o (sites rest))) in
           bare (if-bare (stmt i) v (at .is-if))
-          (record { piece = y; q = e; tail = map (_>>= walkOut stmt mate n wm) (sites m) ++ (more ++ L); laid = h .1 .3; nested = nested-more 3 y (k .0); blocks = wy; rest = others; is = split })
+          (record { piece = y; q = e; tail = map (_>>= walkOut stmt mate n wm) (sites m) ++ (more ++ L); laid = h .1 .3; nested = nested-more mostInside y (k .0); blocks = wy; rest = others; is = split })
       go (loop l v body rest) q L h k w r =
           let f = h .1 .0 in
           let at : WhileAt stmt mate i v f = h .1 .1 in

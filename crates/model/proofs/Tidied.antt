@@ -45,7 +45,7 @@ empty-tidy : Tidy []
 unfolding long
 empty-tidy = record { canon = tt; numbered = tt; fine = record { short = refl; few = zero-le } }
 
-site-tidy : (a ty : ℕ) → Tidy ((var a ty ∷ []) ∷ [])
+pub site-tidy : (a ty : ℕ) → Tidy ((var a ty ∷ []) ∷ [])
 unfolding long renumber atoms
 site-tidy a ty = record { canon = (tt, tt); numbered = (refl, tt); fine = record { short = refl; few = omega arith } }
 
