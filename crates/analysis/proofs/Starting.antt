@@ -16,11 +16,11 @@ use Rattle.model.specs.Walk.{zeroed, gather, start}
 use Rattle.model.specs.TidySets.{Fine}
 use Rattle.model.proofs.Canonical.{insert-length}
 use Rattle.model.proofs.Gather.{gather-every}
-use Rattle.model.proofs.Limits.{fine-limits}
+use Rattle.model.proofs.Limits.{fine-limits, all-short}
 use Rattle.conjunct.specs.Word.{nodeOf, nodesOf}
 use Rattle.sets.specs.Region.{regionWords, few, slotAt, rowsFrom, rowsOf, setOf, Within, Inserted}
 use Rattle.sets.proofs.Rows.{set-few, frame}
-use Rattle.rules.proofs.Limiting.{all-short, set-short}
+use Rattle.rules.proofs.Limiting.{set-short}
 
 -- ---- sets within the limits
 

@@ -12,14 +12,14 @@ use Rattle.model.specs.Sizes.{mostConjuncts}
 use Rattle.model.specs.Walk.{start}
 use Rattle.model.specs.TidySets.{Tidy}
 use Rattle.model.proofs.Canonical.{union-every}
-use Rattle.model.proofs.Limits.{fine-limits}
+use Rattle.model.proofs.Limits.{fine-limits, all-short}
 use Rattle.model.proofs.Results.{gives-ok}
 use Rattle.model.proofs.Tests.{true→T}
 use Rattle.model.proofs.Tidied.{start-tidy, union-tidy}
 use Rattle.sets.specs.Region.{regionWords, few, setOf, Inserted, Joined}
 use Rattle.sets.proofs.Rows.{few-most, set-few, set-same}
 use Rattle.rules.specs.Answers.{Below}
-use Rattle.rules.proofs.Limiting.{all-short, set-short}
+use Rattle.rules.proofs.Limiting.{set-short}
 use Rattle.analysis.specs.Joining.{joinedTo}
 use Rattle.analysis.proofs.Starting.{Short}
 

@@ -42,13 +42,13 @@ unfolding long
 short-each [] h = tt
 short-each (e ∷ S) h = (ltb-false mostNodes (length e) (or-left (ltb mostNodes (length e)) (long S) h), short-each S (or-right (ltb mostNodes (length e)) (long S) h))
 
-each-short : (S : Conjuncts) → All (λ e. length e ≤ mostNodes) S → long S ≡ false
+pub all-short : (S : Conjuncts) → All (λ e. length e ≤ mostNodes) S → long S ≡ false
 unfolding long
-each-short [] h = refl
-each-short (e ∷ S) h = rw (le-ltb mostNodes (length e) (h .0)) (each-short S (h .1))
+all-short [] h = refl
+all-short (e ∷ S) h = rw (le-ltb mostNodes (length e) (h .0)) (all-short S (h .1))
 
 -- a part of a set within the limits is within the limits
 pub sub-fine : (R S : Conjuncts) → Canon R → Canon S → Sub R S → Fine S → Fine R
 sub-fine R S c d f h =
     let P : Conj → Type 0 = λ e. length e ≤ mostNodes in
-    record { short = each-short R (mem-all P R (λ x m. all-mem P S (short-each S (h .short)) x (f x m))); few = omega (arith, sub-length R S c d f, h .few) }
+    record { short = all-short R (mem-all P R (λ x m. all-mem P S (short-each S (h .short)) x (f x m))); few = omega (arith, sub-length R S c d f, h .few) }

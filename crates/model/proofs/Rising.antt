@@ -185,7 +185,16 @@ module _ (stmt : ℕ → Stmt) (mate : ℕ → ℕ) (n : ℕ) where
           three (_>>= walkOut stmt mate n w) (sites y) (sites m) (map (_>>= joined (walk y) (walk m)) (sites rest)) L
           ∙ ap (λ z. map (_>>= walkOut stmt mate n w) (sites y) ++ (map (_>>= walkOut stmt mate n w) (sites m) ++ (z ++ L))) (sym (onward-all w (branch l v y m done) (suc f) o (sites rest))) in
           bare (if-bare (stmt i) v (at .is-if))
-          (record { piece = y; q = e; tail = map (_>>= walkOut stmt mate n wm) (sites m) ++ (more ++ L); laid = h .1 .3; nested = nested-more mostInside y (k .0); blocks = wy; rest = others; is = split })
+          (record {
+            piece = y;
+            q = e;
+            tail = map (_>>= walkOut stmt mate n wm) (sites m) ++ (more ++ L);
+            laid = h .1 .3;
+            nested = nested-more mostInside y (k .0);
+            blocks = wy;
+            rest = others;
+            is = split;
+          })
       go (loop l v body rest) q L h k w r =
           let f = h .1 .0 in
           let at : WhileAt stmt mate i v f = h .1 .1 in

@@ -7,14 +7,14 @@ use Prim.Native.Nat.{ℕ, zero, suc, _+_, _≤_, _<_}
 use native.Mathlib.Omega.{arith}
 use lib.Dec.{ltb, eqb}
 use lib.ListN.{length, getD, take, drop, length-map}
-use borrow.Author.Tests.{lt-ltb, le-ltb}
+use borrow.Author.Tests.{lt-ltb}
 use Rattle.model.specs.Code.{store}
 use Rattle.model.specs.Conjunct.{Atom, atom, var, Conj, Conjuncts, long, limits, sameAtom, atoms, renamed, onAtom, renumber}
 use Rattle.model.specs.Lists.{All}
 use Rattle.model.specs.Refusals.{ok, refused, tooManyConjuncts, tooManyNodes}
 use Rattle.model.specs.Walk.{onArray, loads, swap, swapAll, subsets, before, gather}
 use Rattle.model.specs.Sizes.{mostConjuncts, mostNodes}
-use Rattle.model.proofs.Limits.{fine-limits}
+use Rattle.model.proofs.Limits.{fine-limits, all-short}
 use Rattle.model.proofs.Lists.{all-append, all-map, all-imp}
 use Rattle.model.proofs.Gather.{gather-every}
 use Rattle.model.proofs.Tests.{case}
@@ -46,11 +46,6 @@ unfolding limits
 limits-ten G h k = rw (h, lt-ltb mostConjuncts (length G) k)
 
 -- ---- short conjuncts
-
-pub all-short : (S : Conjuncts) → All (λ e. length e ≤ mostNodes) S → long S ≡ false
-unfolding long
-all-short [] h = refl
-all-short (e ∷ S) h = rw (le-ltb mostNodes (length e) (h .0)) (all-short S (h .1))
 
 pub renumber-length : (e : Conj) → length (renumber e) ≡ length e
 unfolding renumber

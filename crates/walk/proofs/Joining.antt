@@ -38,7 +38,8 @@ module _ (light : Bool) (stmt : ℕ → Stmt) (mate : ℕ → ℕ) (p e f b : �
       pub first-refused : (k : ℕ) → r ≡ Refused k → Branched (refused k) × Below b s₀ t
       first-refused k a = (
         λ y n h g.
-            ap (_>>= λ A. walkBy light n (setOf s₀ b) >>= λ B. limits (unionOf A B)) (ap (walkBy light y) (sym (opened .second)) ∙ walked-refused light stmt mate r p e (b + 2 * regionWords) s t first k a y h),
+            ap (_>>= λ A. walkBy light n (setOf s₀ b) >>= λ B. limits (unionOf A B))
+            (ap (walkBy light y) (sym (opened .second)) ∙ walked-refused light stmt mate r p e (b + 2 * regionWords) s t first k a y h),
         to-t,
       )
 
@@ -63,7 +64,8 @@ module _ (light : Bool) (stmt : ℕ → Stmt) (mate : ℕ → ℕ) (p e f b : �
             other-refused k a = (
               λ y n h g.
                   ap (_>>= λ A. walkBy light n (setOf s₀ b) >>= λ B. limits (unionOf A B)) (first-walk y h)
-                  ∙ ap (_>>= λ B. limits (unionOf (setOf t (b + 2 * regionWords)) B)) (ap (walkBy light n) (sym other-start) ∙ walked-refused light stmt mate r′ (e + 1) f (b + 2 * regionWords) u v other k a n g),
+                  ∙ ap (_>>= λ B. limits (unionOf (setOf t (b + 2 * regionWords)) B))
+                  (ap (walkBy light n) (sym other-start) ∙ walked-refused light stmt mate r′ (e + 1) f (b + 2 * regionWords) u v other k a n g),
               to-v,
             )
 

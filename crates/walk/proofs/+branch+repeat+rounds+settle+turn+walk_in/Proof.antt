@@ -122,7 +122,16 @@ walk-in-below t = and 1 walk-in-kinds.ps (falls 1 walk-in-kinds.ps _<_ μ-walk-i
 
 -- what `branch` may ask of its callees, and what it learns
 abbrev branch-told : ℕ → branch-lts.Claims
-branch-told t = (open-branch-reads.Asked, open-branch-reads.Learnt, walk-in-below t, walk-in.Post, switch-branch-reads.Asked, switch-branch-reads.Learnt, close-branch-reads.Asked, close-branch-reads.Learnt)
+branch-told t = (
+  open-branch-reads.Asked,
+  open-branch-reads.Learnt,
+  walk-in-below t,
+  walk-in.Post,
+  switch-branch-reads.Asked,
+  switch-branch-reads.Learnt,
+  close-branch-reads.Asked,
+  close-branch-reads.Learnt,
+)
 
 -- the places of `branch`: where it begins
 abbrev BranchStart : ℕ → Type 0
@@ -996,7 +1005,8 @@ walk-in-loop-holds t c =
     let f = c .before .before in
     let g = f .before .before .before in
     let first = walking-first (g .args .light) (g .args .s .now) (g .args .depth) (g .args .b) (g .args .p) (g .args .q) (g .pre .1 .0) (g .pre .1 .1) (f .of-set .result) (f .of-set .ensures) in
-    passes-over (g .args .light) (g .args .s .now) (g .args .depth) (g .args .b) (g .args .p) (g .args .q) (g .args .s .now) (f .of-set .result) (g .args .q) first (c .spared-plain .result) (c .spared-plain .ensures)
+    passes-over (g .args .light) (g .args .s .now) (g .args .depth) (g .args .b) (g .args .p) (g .args .q) (g .args .s .now) (f .of-set .result) (g .args .q) first
+    (c .spared-plain .result) (c .spared-plain .ensures)
 
 walk-in-sub-beginning : (t : ℕ) → walk-in-lts.Need-sub-beginning (walk-in-told t) (walk-in-at t) walk-in.Post walk-in-Inv-loop walk-in-μ-loop
 walk-in-sub-beginning t c = search needs
@@ -1032,7 +1042,8 @@ walk-in-loop-again t c =
     passes-block (g .args .light) (g .args .s .now) (g .args .depth) (g .args .b) (g .args .p) (g .args .q) (h .s) (h .m) (h .r) (h .inv) (f .beginning .result)
     (f .before .before .loop-test .taken) (f .beginning .ensures)
     (i .before .spares-all .ensures (i .if1 .taken)) in
-    passes-over (g .args .light) (g .args .s .now) (g .args .depth) (g .args .b) (g .args .p) (g .args .q) (h .s) (h .m) (f .beginning .result) passed (c .spared-plain2 .result) (c .spared-plain2 .ensures)
+    passes-over (g .args .light) (g .args .s .now) (g .args .depth) (g .args .b) (g .args .p) (g .args .q) (h .s) (h .m) (f .beginning .result) passed
+    (c .spared-plain2 .result) (c .spared-plain2 .ensures)
 
 walk-in-turn-requires : (t : ℕ) → walk-in-lts.Need-turn-requires (walk-in-told t) (walk-in-at t) walk-in.Post walk-in-Inv-loop walk-in-μ-loop
 walk-in-turn-requires t c κs =
