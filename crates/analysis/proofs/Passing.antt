@@ -1,4 +1,5 @@
 -- The sites by rising label: each label is a site, or leaves what the sites come to as it was.
+use mathlib.Core.Bool.{true, false, true≢false}
 use mathlib.Core.List.{List, [], _∷_, _++_, map}
 use mathlib.Core.Path.{_≡_, refl, sym, ap, subst, _∙_}
 use Prim.Native.Nat.{ℕ, suc, _+_, _≤_, _<_}
@@ -27,8 +28,9 @@ use Rattle.rules.specs.Answers.{answered, Below}
 use Rattle.rules.specs.declared.Answer.{Answer}
 use Rattle.rules.specs.declared.Answer.the-variants.{Done, Refused}
 use Rattle.enclosing.specs.Enclosing.{walkedOut, Enclosed}
+use Rattle.analysis.proofs.Repeating.{repeated, joined-site, joined-other, site-row}
 use Rattle.analysis.specs.Deriving.{unionAt, analysisWords}
-use Rattle.analysis.specs.Joining.{SitesFrom, Sited, PassedLabel}
+use Rattle.analysis.specs.Joining.{SitesFrom, Sited, Repeats, AllJoined, GoesOn, PassedLabel}
 
 -- ---- which statements are sites
 
@@ -41,10 +43,6 @@ begins end = []
 begins (while v) = []
 
 module _ (d : Decoded) where
-  is-site : d .kind ≡ 10 → stmtFrom d ≡ plain (site (d .a) (d .ty))
-  unfolding stmtFrom kindOf
-  is-site e = rw e
-
   no-site : (d .kind ≡ 10 → ⊥) → begins (stmtFrom d) ≡ []
   unfolding stmtFrom here
   no-site other = go (kindOf (d .kind)) (kind-number (d .kind))
@@ -63,6 +61,11 @@ module _ (d : Decoded) where
       go anEnd n = refl
       go aWhile n = refl
       go noKind n = refl
+
+-- a site adds something
+some-site : (x ty : ℕ) → [] ≡ begins (plain (site x ty)) → ⊥
+unfolding here
+some-site x ty e = let z : true ≡ false = cc in true≢false z
 
 -- ---- one label
 
@@ -90,29 +93,48 @@ module _ (k : List ℕ) (n i : ℕ) where
         where
           go : Next (stmtIn k) (mateIn k) n i L → Enclosed k n i
           go (statement x q w M p c e g) = record { known = h; end = q; blocks = w; inside = c }
-          go (bare p g) = absurd (p (site (row .a) (row .ty)) (is-site row kind))
+          go (bare p g) = absurd (p (site (row .a) (row .ty)) (site-row row kind))
 
       pub pass-site : (a : Answer) (Q : Conjuncts) → Sited k n i (row .a) (row .ty) R a Q → PassedLabel k n i R a Q
       unfolding here join
-      pass-site a Q h L f = go (next b L f)
+      pass-site a Q h all L f = go (next b L f)
         where
-          go : Next (stmtIn k) (mateIn k) n i L → (M : List (Out Conjuncts)) × SitesFrom k n (i + 1) M × (join R L ≡ (answered a Q >>= λ U. join U M))
+          go : Next (stmtIn k) (mateIn k) n i L → GoesOn k n i R a Q L
           go (statement y q w M p c e g) =
-              let same : here y ≡ here (site (row .a) (row .ty)) = ap begins (sym p ∙ is-site row kind) in
+              let same : here y ≡ here (site (row .a) (row .ty)) = ap begins (sym p ∙ site-row row kind) in
               let o = walkedOut k n i q w ((var (row .a) (row .ty) ∷ []) ∷ []) in
               let first : L ≡ o ∷ M = e ∙ ap (λ os. map (_>>= walkOut (stmtIn k) (mateIn k) n w) os ++ M) same in
-              (M, onto M g, ap (join R) first ∙ regroup o start (λ Z. limits (unionOf R Z)) (λ U. join U M) ∙ ap (_>>= λ U. join U M) (h q w c))
-          go (bare p g) = absurd (p (site (row .a) (row .ty)) (is-site row kind))
+              record {
+                later = M;
+                sites = onto M g;
+                same = ap (join R) first ∙ regroup o start (λ Z. limits (unionOf R Z)) (λ U. join U M) ∙ ap (_>>= λ U. join U M) (h q w c);
+                joined = λ done. joined-site k n i R all Q (row .a) (row .ty) (site-row row kind) (subst (λ z. Sited k n i (row .a) (row .ty) R z Q) done h) q w c;
+              }
+          go (bare p g) = absurd (p (site (row .a) (row .ty)) (site-row row kind))
+
+      -- one that repeats an earlier one, by its row as it was fetched
+      pub pass-repeated : (d : Decoded) → d ≡ row → {j : ℕ} → Repeats k j i (d .a) (d .ty) → Tidy R → PassedLabel k n i R Done R
+      pass-repeated d e {j} r t all =
+          let again = subst (λ (x : Decoded). Repeats k j i (x .a) (x .ty)) e r in
+          pass-site Done R (repeated k n i j (row .a) (row .ty) again R all t) all
 
     -- any other statement
     pub pass-other : (row .kind ≡ 10 → ⊥) → PassedLabel k n i R Done R
-    pass-other other L f = go (next b L f)
+    pass-other other all L f = go (next b L f)
       where
-        go : Next (stmtIn k) (mateIn k) n i L → (M : List (Out Conjuncts)) × SitesFrom k n (i + 1) M × (join R L ≡ join R M)
+        joined : AllJoined k n (i + 1) R
+        joined = joined-other k n i R all (λ x ty p. some-site x ty (sym (no-site row other) ∙ ap begins p))
+
+        go : Next (stmtIn k) (mateIn k) n i L → GoesOn k n i R Done R L
         go (statement x q w M p c e g) =
             let none : here x ≡ [] = ap begins (sym p) ∙ no-site row other in
-            (M, onto M g, ap (join R) (e ∙ ap (λ o. map (_>>= walkOut (stmtIn k) (mateIn k) n w) o ++ M) none))
-        go (bare p g) = (L, onto L g, refl)
+            record {
+              later = M;
+              sites = onto M g;
+              same = ap (join R) (e ∙ ap (λ o. map (_>>= walkOut (stmtIn k) (mateIn k) n w) o ++ M) none);
+              joined = λ done. joined;
+            }
+        go (bare p g) = record { later = L; sites = onto L g; same = refl; joined = λ done. joined }
 
 -- ---- all labels
 
@@ -136,18 +158,21 @@ module _ (k : List ℕ) (n : ℕ) where
       let at-end = subst (λ z. SitesFrom k n z (g .0)) e (g .1) in
       g .2 ∙ ap (join R) (from-end (stmtIn k) (mateIn k) n (g .0) at-end)
 
-  module _ (i : ℕ) (R Q : Conjuncts) (a : Answer) (f : Left i R) (h : PassedLabel k n i R a Q) where
+  module _ (i : ℕ) (R Q : Conjuncts) (a : Answer) (f : Left i R) (all : AllJoined k n i R) (h : PassedLabel k n i R a Q) where
     pub left-refused : (m : ℕ) → a ≡ Refused m → (c : Code) → Laid (stmtIn k) (mateIn k) c 0 n → Nested mostNested c → derived c ≡ refused m
     left-refused m e c l d =
         let g = f c l d in
-        let p = h (g .0) (g .1) in
-        g .2 ∙ p .2 ∙ ap (λ x. answered x Q >>= λ U. join U (p .0)) e
+        let p = h all (g .0) (g .1) in
+        g .2 ∙ p .same ∙ ap (λ x. answered x Q >>= λ U. join U (p .later)) e
 
     pub left-next : a ≡ Done → Left (i + 1) Q
     left-next e c l d =
         let g = f c l d in
-        let p = h (g .0) (g .1) in
-        (p .0, p .1, g .2 ∙ p .2 ∙ ap (λ x. answered x Q >>= λ U. join U (p .0)) e)
+        let p = h all (g .0) (g .1) in
+        (p .later, p .sites, g .2 ∙ p .same ∙ ap (λ x. answered x Q >>= λ U. join U (p .later)) e)
+
+    pub all-next : a ≡ Done → (c : Code) → Laid (stmtIn k) (mateIn k) c 0 n → Nested mostNested c → AllJoined k n (i + 1) Q
+    all-next e c l d = let g = f c l d in h all (g .0) (g .1) .joined e
 
 -- ---- the words
 
@@ -159,6 +184,7 @@ module _ (s₀ : List ℕ) (n : ℕ) where
     pub tidy : Tidy (setOf s unionAt)
     pub table : tableOf 0 s ≡ tableOf 0 s₀
     pub left : Left (tableOf 0 s₀) n i (setOf s unionAt)
+    pub all : AllJoined (tableOf 0 s₀) n i (setOf s unionAt)
 
   -- the label i is passed with the answer a, from s to t
   module _ (s : List ℕ) (i : ℕ) (g : Passed s i) (t : List ℕ) (a : Answer) (more : i < n)
@@ -168,13 +194,15 @@ module _ (s₀ : List ℕ) (n : ℕ) where
 
     pub passed-refused : (m : ℕ) → a ≡ Refused m → (c : Code) → Laid (stmtIn (tableOf 0 s₀)) (mateIn (tableOf 0 s₀)) c 0 n → Nested mostNested c
         → derived c ≡ refused m
-    passed-refused = left-refused (tableOf 0 s₀) n i (setOf s unionAt) (setOf t unionAt) a (g .left) here-passed
+    passed-refused = left-refused (tableOf 0 s₀) n i (setOf s unionAt) (setOf t unionAt) a (g .left) (g .all) here-passed
 
-    pub passed-next : a ≡ Done → analysisWords ≤ length s₀ → length t ≡ length s → Tidy (setOf t unionAt) → Below unionAt s t → Passed t (i + 1)
-    passed-next e room same-t tidy below = record {
+    pub passed-next : a ≡ Done → analysisWords ≤ length s₀ → length t ≡ length s → Tidy (setOf t unionAt) → Below unionAt s t
+        → (c : Code) → Laid (stmtIn (tableOf 0 s₀)) (mateIn (tableOf 0 s₀)) c 0 n → Nested mostNested c → Passed t (i + 1)
+    passed-next e room same-t tidy below c l d = record {
       same-length = same-t ∙ g .same-length;
       most = omega arith;
       tidy = tidy;
       table = below-table unionAt s t (omega arith) (omega (arith, g .same-length)) same-t below ∙ g .table;
-      left = left-next (tableOf 0 s₀) n i (setOf s unionAt) (setOf t unionAt) a (g .left) here-passed e;
+      left = left-next (tableOf 0 s₀) n i (setOf s unionAt) (setOf t unionAt) a (g .left) (g .all) here-passed e;
+      all = all-next (tableOf 0 s₀) n i (setOf s unionAt) (setOf t unionAt) a (g .left) (g .all) here-passed e c l d;
     }

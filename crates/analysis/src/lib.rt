@@ -1,5 +1,6 @@
 // The analysis: from a program's bytes to the condition file that it needs, or a numbered refusal.
 ghost use mathlib.Core.Path.{_≡_};
+ghost use mathlib.Core.Bool.{true};
 ghost use mathlib.Core.List.{List, [], _∷_};
 ghost use Prim.Native.Nat.{ℕ, _+_, _*_, _≤_, _<_};
 ghost use lib.ListN.{length};
@@ -10,12 +11,12 @@ ghost use Rattle.model.specs.Formed.{Formed};
 ghost use Rattle.model.specs.Lists.{All};
 ghost use Rattle.model.specs.Nesting.{Nested};
 ghost use Rattle.model.specs.Refusals.{Out, ok};
-ghost use Rattle.model.specs.Sizes.{mostNodes, mostNested};
+ghost use Rattle.model.specs.Sizes.{mostNodes, mostNested, mostStatements};
 ghost use Rattle.model.specs.TidySets.{Tidy};
 ghost use Rattle.model.specs.Walk.{start, derived};
 ghost use Rattle.program.specs.Reading.{ProgramIsRead, tablesOf};
 ghost use Rattle.code_table.specs.Statements.{variableNumbers};
-ghost use Rattle.code_table.specs.Table.{tableOf, KnownBelow};
+ghost use Rattle.code_table.specs.Table.{tableWords, tableOf, stmtIn, KnownBelow};
 ghost use Rattle.conjunct.specs.Word.{nodeOf};
 ghost use Rattle.sets.specs.Region.{setOf, Within, regionWords};
 ghost use Rattle.rules.specs.Answers.{answered, Below};
@@ -23,7 +24,8 @@ ghost use Rattle.rules.specs.declared.Answer.the-variants.{Done};
 ghost use Rattle.walk.specs.Piece.{Lies, Piece};
 ghost use Rattle.enclosing.specs.Enclosing.{Enclosed, Moved};
 ghost use Rattle.analysis.specs.Deriving.{unionAt, siteAt, analysisWords, derivation, Filed, FileGiven, Derives};
-ghost use Rattle.analysis.specs.Joining.{joinedTo, SitesFrom, Sited, PassedLabel, Uniting};
+ghost use Rattle.analysis.specs.Joining.{joinedTo, SitesFrom, Sited, Keeps, KeptFrom, Repeats, PassedLabel, Uniting};
+use code_table::Decoded;
 use conjunct::MOST_NODES;
 use program::Layout;
 use program::ProgramRead;
@@ -34,6 +36,9 @@ const UNION: usize = code_table::WORDS;
 
 // Where a site's set stands: the region after it.
 const SITE: usize = UNION + sets::REGION;
+
+// The variables of a program at the most.
+const VARIABLES: usize = 64;
 
 // ---- one site
 
@@ -113,10 +118,68 @@ fn site(s: &mut [u64], i: usize, x: usize, ty: u8) -> Answer
 
 // ---- the sites by rising label
 
-// The statement with the label i, if it is a site.
-fn pass(s: &mut [u64], i: usize) -> Answer
+// Whether the statement with the label l is plain and does not write the variable x.
+fn keeps(s: &[u64], l: usize, x: usize) -> bool
+    requires { ⌜ (tableWords ≤ length (now s)) × (l < mostStatements) ⌝ }
+    ensures { λ r. ⌜ (r ≡ true → Keeps x (stmtIn (tableOf 0 (now (s .entry))) l)) ⌝ }
+{
+    let d = code_table::fetch(s, 0, l);
+    let kind = d.kind;
+    if 11 <= kind {
+        return false;
+    }
+    if 9 <= kind {
+        return true;
+    }
+    if d.a == x {
+        return false;
+    }
+    true
+}
+
+// Whether the statements on the labels from p up to q are plain and do not write the variable x.
+fn keep_all(s: &[u64], p: usize, q: usize, x: usize) -> bool
+    requires { ⌜ (tableWords ≤ length (now s)) × (q ≤ mostStatements) ⌝ }
+    ensures { λ r. ⌜ (r ≡ true → KeptFrom (tableOf 0 (now (s .entry))) p q x) ⌝ }
+{
+    let mut l = q;
+    while p < l {
+        l -= 1;
+        if !keeps(s, l, x) {
+            return false;
+        }
+    }
+    true
+}
+
+// Whether the site d with the label i repeats the statement with the label j: that one is a site on
+// the same variable, and nothing between them leaves the block or writes it.
+fn repeats(s: &[u64], j: usize, i: usize, d: Decoded) -> bool
+    requires { ⌜ (tableWords ≤ length (now s)) × (i ≤ mostStatements) ⌝ }
+    ensures { λ r. ⌜ (r ≡ true → Repeats (tableOf 0 (now (s .entry))) j i (d .a) (d .ty)) ⌝ }
+{
+    if i <= j {
+        return false;
+    }
+    let e = code_table::fetch(s, 0, j);
+    let earlier = e.kind;
+    if earlier != 10 {
+        return false;
+    }
+    if e.a != d.a {
+        return false;
+    }
+    if e.ty != d.ty {
+        return false;
+    }
+    keep_all(s, j + 1, i, d.a)
+}
+
+// The statement with the label i, if it is a site. One that repeats an earlier one adds nothing; for
+// each variable `last` has the label where to look for that one.
+fn pass(s: &mut [u64], i: usize, last: &mut [usize]) -> Answer
     requires { ⌜
-        Uniting (now s)
+        Uniting (now s) × (variableNumbers ≤ length (now last))
         × ((n : ℕ) × KnownBelow n (tableOf 0 (now s)) × (i < n) × ((L : List (Out Conjuncts)) × SitesFrom (tableOf 0 (now s)) n i L))
         ⌝ }
     ensures { λ a. ⌜
@@ -129,18 +192,25 @@ fn pass(s: &mut [u64], i: usize) -> Answer
     if kind != 10 {
         return Answer::Done;
     }
-    site(s, i, d.a, d.ty)
+    let x = d.a;
+    let j = last[x];
+    last[x] = i;
+    if repeats(s, j, i, d) {
+        return Answer::Done;
+    }
+    site(s, i, x, d.ty)
 }
 
-// The set that the analysis derives from the n statements of the table, in the first region.
-fn sites(s: &mut [u64], n: usize) -> Answer
-    requires { ⌜ (analysisWords ≤ length (now s)) × KnownBelow n (tableOf 0 (now s)) × Piece (now s) mostNested 0 n ⌝ }
+// The set that the analysis derives from the n statements of the table, in the first region. `last` is
+// room to work in, whatever it has.
+fn join_sites(s: &mut [u64], n: usize, last: &mut [usize]) -> Answer
+    requires { ⌜ (analysisWords ≤ length (now s)) × (variableNumbers ≤ length (now last)) × KnownBelow n (tableOf 0 (now s)) × Piece (now s) mostNested 0 n ⌝ }
     ensures { λ a. ⌜ ((c : Code) → Lies (now (s .entry)) c 0 n → Nested mostNested c → derived c ≡ answered a (setOf (now (s .exit)) unionAt)) ⌝ }
 {
     sets::clear(s, UNION);
     let mut i: usize = 0;
     while i < n {
-        let a = pass(s, i);
+        let a = pass(s, i, last);
         match a {
             Answer::Refused(k) => return Answer::Refused(k),
             Answer::Done => {}
@@ -148,6 +218,15 @@ fn sites(s: &mut [u64], n: usize) -> Answer
         i += 1;
     }
     Answer::Done
+}
+
+// The same.
+fn sites(s: &mut [u64], n: usize) -> Answer
+    requires { ⌜ (analysisWords ≤ length (now s)) × KnownBelow n (tableOf 0 (now s)) × Piece (now s) mostNested 0 n ⌝ }
+    ensures { λ a. ⌜ ((c : Code) → Lies (now (s .entry)) c 0 n → Nested mostNested c → derived c ≡ answered a (setOf (now (s .exit)) unionAt)) ⌝ }
+{
+    let mut last: [usize; VARIABLES] = [0; VARIABLES];
+    join_sites(s, n, &mut last)
 }
 
 // ---- the whole

@@ -1,7 +1,8 @@
--- `analysis::sites` meets its contract. The invariant: the sites before the label are joined.
+-- `analysis::join_sites` meets its contract. The invariant: the sites before the label are joined.
 use mathlib.Core.Path.{_≡_, refl, subst, sym, _∙_}
 use Prim.Native.Nat.{_-_}
 use native.Mathlib.Omega.{arith}
+use lib.ListN.{length}
 use Rattle.code_table.specs.Table.{tableOf, KnownBelow}
 use Rattle.sets.specs.Region.{setOf}
 use Rattle.walk.proofs.Regions.{within-below, below-table, lies-on}
@@ -9,28 +10,28 @@ use Rattle.analysis.specs.Deriving.{unionAt}
 use Rattle.analysis.specs.Joining.{SitesFrom}
 use Rattle.analysis.proofs.Passing.{empty-tidy, left-all, left-none, Passed, passed-refused, passed-next}
 use borrow.Author.Needs.{needs}
-use Rattle.analysis.proofs.sites.Statement.{statement}
-use Rattle.analysis.proofs.sites.Tie as tie
+use Rattle.analysis.proofs.join_sites.Statement.{statement}
+use Rattle.analysis.proofs.join_sites.Tie as tie
 
 abbrev Inv-loop : tie.InvT-loop
-Inv-loop s₀ n i₀ s i = Passed s₀ n s i
+Inv-loop s₀ n last₀ i₀ s last i = Passed s₀ n s i × (length last ≡ length last₀)
 
 abbrev μ-loop : tie.MeasureT-loop
-μ-loop s₀ n i₀ s i = n - i
+μ-loop s₀ n last₀ i₀ s last i = n - i
 
 -- the places: where the function begins, behind the first set, and the head of the loop
 abbrev entered : tie.After-clear Inv-loop μ-loop → tie.Start Inv-loop μ-loop
-entered c = c .before .before .before
+entered c = c .before .before .before .before
 
 abbrev cleared : tie.At-loop Inv-loop μ-loop → tie.After-clear Inv-loop μ-loop
 cleared c = c .before .before .before
 
 abbrev head : tie.After-pass Inv-loop μ-loop → tie.At-loop Inv-loop μ-loop
-head c = c .before .before .before
+head c = c .before .before .before .before
 
 -- behind the label that was refused
 abbrev refused-at : tie.After-known-told Inv-loop μ-loop → tie.After-pass Inv-loop μ-loop
-refused-at c = c .before .before .before .before .before
+refused-at c = c .before .before .before .before .before .before .before
 
 -- the table is as it was
 clear-table : (c : tie.After-clear Inv-loop μ-loop) → tableOf 0 (c .clear .last .0) ≡ tableOf 0 (entered c .args .s .now)
@@ -45,28 +46,33 @@ clear-requires c κs = search needs
 loop-holds : tie.Need-loop-holds Inv-loop μ-loop
 loop-holds c =
     let v = c .before .before .clear in
-    let g = entered (c .before .before) in
-    record {
-      same-length = refl;
-      most = omega arith;
-      tidy = empty-tidy (setOf (v .last .0) unionAt) (v .ensures .0);
-      table = refl;
-      left = left-all (tableOf 0 (v .last .0)) (g .args .n) (setOf (v .last .0) unionAt) (v .ensures .0);
-    }
+    let g = entered (c .before .before) in (
+      record {
+        same-length = refl;
+        most = omega arith;
+        tidy = empty-tidy (setOf (v .last .0) unionAt) (v .ensures .0);
+        table = refl;
+        left = left-all (tableOf 0 (v .last .0)) (g .args .n) (setOf (v .last .0) unionAt) (v .ensures .0);
+        all = λ j q x ty w h. absurd (omega (arith, h));
+      },
+      refl,
+    )
 
 pass-requires : tie.Need-pass-requires Inv-loop μ-loop
 pass-requires c κs =
-    let lp = c .before .before .loop in
-    let v = cleared (c .before .before) in
+    let h = c .before .before .before in
+    let lp = h .loop in
+    let v = cleared h in
     let g = entered v in
-    let piece = g .pre .2 in
-    let l = lp .inv .left (piece .code) (lies-on (g .args .s .now) (v .clear .last .0) (clear-table v) (piece .code) 0 (g .args .n) (piece .lies)) (piece .nested) in (
-      record { room = omega (arith, g .pre .0, v .clear .kept .0, lp .inv .same-length); tidy = lp .inv .tidy },
+    let piece = g .pre .3 in
+    let l = lp .inv .0 .left (piece .code) (lies-on (g .args .s .now) (v .clear .last .0) (clear-table v) (piece .code) 0 (g .args .n) (piece .lies)) (piece .nested) in (
+      record { room = omega (arith, g .pre .0, v .clear .kept .0, lp .inv .0 .same-length); tidy = lp .inv .0 .tidy },
+      omega (arith, lp .inv .1, g .pre .1),
       (
         g .args .n,
-        subst (KnownBelow (g .args .n)) (sym (lp .inv .table ∙ clear-table v)) (g .pre .1),
-        c .before .loop-test .taken,
-        (l .0, subst (λ k. SitesFrom k (g .args .n) (lp .i) (l .0)) (sym (lp .inv .table)) (l .1)),
+        subst (KnownBelow (g .args .n)) (sym (lp .inv .0 .table ∙ clear-table v)) (g .pre .2),
+        c .before .before .loop-test .taken,
+        (l .0, subst (λ k. SitesFrom k (g .args .n) (lp .i) (l .0)) (sym (lp .inv .0 .table)) (l .1)),
       ),
     )
 
@@ -77,7 +83,10 @@ same-length : tie.Need-same-length Inv-loop μ-loop
 same-length c =
     let after-pass = refused-at c in
     let h = head (after-pass) in
-    after-pass .pass .kept .0 ∙ h .loop .inv .same-length ∙ cleared h .clear .kept .0
+    after-pass .pass .kept .0 ∙ h .loop .inv .0 .same-length ∙ cleared h .clear .kept .0
+
+same-length-2 : tie.Need-same-length-2 Inv-loop μ-loop
+same-length-2 c = search needs
 
 returns : tie.Need-returns Inv-loop μ-loop
 returns c =
@@ -86,7 +95,7 @@ returns c =
     let v = cleared (head t) in
     let g = entered v in
     λ x h k.
-    passed-refused (v .clear .last .0) (g .args .n) (lp .s) (lp .i) (lp .inv) (t .pass .last .0) (t .pass .result) (t .before .before .loop-test .taken)
+    passed-refused (v .clear .last .0) (g .args .n) (lp .s) (lp .i) (lp .inv .0) (t .pass .last .0) (t .pass .result) (t .before .before .before .loop-test .taken)
     (t .pass .ensures .does) _ (c .before .a .given .1) x (lies-on (g .args .s .now) (v .clear .last .0) (clear-table v) x 0 (g .args .n) h) k
 
 enum-told : tie.Need-enum-told Inv-loop μ-loop
@@ -100,16 +109,23 @@ loop-less c = search needs
 
 loop-again : tie.Need-loop-again Inv-loop μ-loop
 loop-again c =
-    let t = c .before .before .before .before in
+    let t = c .before .before .before .before .before .before in
     let lp = head t .loop in
     let v = cleared (head t) in
     let g = entered v in
-    passed-next (v .clear .last .0) (g .args .n) (lp .s) (lp .i) (lp .inv) (t .pass .last .0) (t .pass .result) (t .before .before .loop-test .taken)
-    (t .pass .ensures .does) (c .enum-told .given .1) (omega (arith, g .pre .0, v .clear .kept .0)) (t .pass .kept .0)
-    (t .pass .ensures .tidy (c .enum-told .given .1)) (t .pass .ensures .below)
+    let piece = g .pre .3 in (
+      passed-next (v .clear .last .0) (g .args .n) (lp .s) (lp .i) (lp .inv .0) (t .pass .last .0) (t .pass .result) (t .before .before .before .loop-test .taken)
+          (t .pass .ensures .does) (c .enum-told .given .1) (omega (arith, g .pre .0, v .clear .kept .0)) (t .pass .kept .0)
+          (t .pass .ensures .tidy (c .enum-told .given .1)) (t .pass .ensures .below) (piece .code)
+          (lies-on (g .args .s .now) (v .clear .last .0) (clear-table v) (piece .code) 0 (g .args .n) (piece .lies)) (piece .nested),
+      t .pass .kept .1 .1 .0 ∙ lp .inv .1,
+    )
 
-same-length-2 : tie.Need-same-length-2 Inv-loop μ-loop
-same-length-2 c = c .before .loop .inv .same-length ∙ cleared (c .before) .clear .kept .0
+same-length-3 : tie.Need-same-length-3 Inv-loop μ-loop
+same-length-3 c = c .before .loop .inv .0 .same-length ∙ cleared (c .before) .clear .kept .0
+
+same-length-4 : tie.Need-same-length-4 Inv-loop μ-loop
+same-length-4 c = search needs
 
 returns-2 : tie.Need-returns-2 Inv-loop μ-loop
 returns-2 c =
@@ -117,11 +133,11 @@ returns-2 c =
     let v = cleared (c .before) in
     let g = entered v in
     λ x h k.
-    left-none (tableOf 0 (v .clear .last .0)) (g .args .n) (lp .i) (omega (arith, lp .inv .most)) (setOf (lp .s) unionAt) (lp .inv .left) x
+    left-none (tableOf 0 (v .clear .last .0)) (g .args .n) (lp .i) (omega (arith, lp .inv .0 .most)) (setOf (lp .s) unionAt) (lp .inv .0 .left) x
     (lies-on (g .args .s .now) (v .clear .last .0) (clear-table v) x 0 (g .args .n) h) k
 
-pub sites-spec : {M : Type 1} → statement M
-sites-spec =
+pub join-sites-spec : {M : Type 1} → statement M
+join-sites-spec =
     tie.close
     (tie.spec
     Inv-loop
@@ -131,10 +147,12 @@ sites-spec =
     pass-requires
     enum-known-a
     same-length
+    same-length-2
     returns
     enum-told
     add-i
     loop-less
     loop-again
-    same-length-2
+    same-length-3
+    same-length-4
     returns-2)
