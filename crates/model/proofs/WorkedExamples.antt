@@ -10,13 +10,15 @@ use Rattle.arith.specs.declared.Cause.the-variants.{Above, Below, NoDivisor}
 use Rattle.arith.specs.Step.{Outcome, value, overflow}
 use Rattle.arith.specs.Types
 use Rattle.arith.specs.Words
-use Rattle.model.specs.Refusals.{Out, ok, refused, _>>=_, wrongBlocks, tooManyConjuncts, neverSettles, tooManyCombinations, blankField}
+use Rattle.model.specs.Refusals.{Out, ok, refused, _>>=_, mapped, wrongBlocks, tooManyConjuncts, neverSettles, tooManyCombinations, blankField}
 use Rattle.model.specs.Bytes.{bytes4}
 use Rattle.model.specs.Values.{Operation, add, sub, mul, div}
-use Rattle.model.specs.Code.{plain, site, done, step, branch, loop, if, else, end, while, treeOf}
-use Rattle.model.specs.Conjunct.{field, Node, const, atom, op, conv, Conjuncts, atoms}
+use Rattle.model.specs.Code.{plain, site, assign, copy, Code, done, step, branch, loop, if, else, end, while, treeOf}
+use Rattle.model.specs.Conjunct.{field, Node, const, atom, var, op, conv, Conjuncts, atoms}
 use Rattle.model.specs.Condition.{Condition, encode, readCondition, analysis}
 use Rattle.model.specs.Input.{readInput}
+use Rattle.model.specs.Sizes.{mostRounds}
+use Rattle.model.specs.Walk.{rounds, walk}
 use Rattle.model.specs.Filter.{evaluate, combinationsOf, valueIn}
 use Rattle.model.specs.Failure.{Found, nothing, found, verdict}
 use Rattle.model.specs.Bytes
@@ -226,6 +228,25 @@ settles = refl
 one-more : derive (program [] (zeros 17) [] (statement 14 0 0 0 0 ∷ links 0 16)) ≡ refused neverSettles
 unfolding derive program links zeros
 one-more = refl
+
+-- v0 = v1; v1 = v2; … ; v16 = v17 as the body of a while
+chain : ℕ → ℕ → Code
+chain v zero = done
+chain v (suc n) = step v (assign v 0 (copy (suc v))) (chain (suc v) n)
+
+-- how many conjuncts the while comes to, from these variables
+closed : List ℕ → Out ℕ
+unfolding definitions
+closed vs = mapped length (rounds mostRounds (walk (chain 0 17)) (map (λ v. var v 0 ∷ []) vs) (map (λ v. var v 0 ∷ []) vs))
+
+-- v0 alone does not settle in 16 rounds, v0 and v9 together do: of two sites each is walked by itself
+part-alone : closed (0 ∷ []) ≡ refused neverSettles
+unfolding closed chain
+part-alone = refl
+
+both-together : closed (0 ∷ 9 ∷ []) ≡ ok 18
+unfolding closed chain
+both-together = refl
 
 -- array 0 at v0 = v0; v1 to v7 = array 0 at v0; v1 = v1 + v2; … ; site v1: seven loads of a long array in one conjunct
 seven-loads : derive (program [] (zeros 8) (0 ∷ 0 ∷ 2 ∷ 0 ∷ [])
