@@ -11,7 +11,7 @@ use Rattle.model.specs.Code.{Code, Stmt}
 use Rattle.model.specs.Conjunct.{Conjuncts, unionOf, long, limits}
 use Rattle.model.specs.Lists.{All}
 use Rattle.model.specs.Refusals.{Out, ok, refused, tooManyConjuncts}
-use Rattle.model.specs.Sizes.{mostConjuncts, mostNested, mostNodes}
+use Rattle.model.specs.Sizes.{mostConjuncts, mostNested, mostNodes, mostInside}
 use Rattle.model.specs.Placement.{Laid}
 use Rattle.model.specs.TidySets.{Tidy}
 use Rattle.model.proofs.Canonical.{union-every}
@@ -100,7 +100,7 @@ pub knows-less : (p q : ℕ) (s : List ℕ) → p ≤ q → Knows q s → Knows 
 knows-less p q s h k = record { few = omega (arith, k .few); known = λ i l. k .known i (omega arith) }
 
 -- the words are ready for the walk of a part of a block that they are ready for, in the second region after the block's own
-pub inner-ready : (s₀ s : List ℕ) (depth b f q : ℕ) → Ready 3 4 s₀ depth b f → tableOf 0 s ≡ tableOf 0 s₀ → length s ≡ length s₀ → q ≤ f
+pub inner-ready : (s₀ s : List ℕ) (depth b f q : ℕ) → Ready mostInside 4 s₀ depth b f → tableOf 0 s ≡ tableOf 0 s₀ → length s ≡ length s₀ → q ≤ f
     → Tidy (setOf s (b + 2 * regionWords)) → Ready mostNested 2 s depth (b + 2 * regionWords) q
 inner-ready s₀ s depth b f q g e same h d = record {
   knows = knows-on s₀ s e q (knows-less q f s₀ h (g .knows));
@@ -111,7 +111,7 @@ inner-ready s₀ s depth b f q g e same h d = record {
 }
 
 -- the words are ready for a block in the piece that they are ready for
-pub block-ready : (s : List ℕ) (depth b q f : ℕ) → Ready mostNested 2 s depth b q → 1 ≤ depth → f ≤ q → Ready 3 4 s (depth - 1) b f
+pub block-ready : (s : List ℕ) (depth b q f : ℕ) → Ready mostNested 2 s depth b q → 1 ≤ depth → f ≤ q → Ready mostInside 4 s (depth - 1) b f
 block-ready s depth b q f g d h = record {
   knows = knows-less f q s h (g .knows);
   shallow = omega (arith, g .shallow);

@@ -8,6 +8,7 @@ use native.Mathlib.Omega.{arith}
 use lib.ListN.{length}
 use Rattle.model.specs.Code.{Code}
 use Rattle.model.specs.Refusals.{ok}
+use Rattle.model.specs.Sizes.{mostInside}
 use Rattle.model.specs.TidySets.{Tidy}
 use Rattle.model.specs.Walk.{walk}
 use Rattle.code_table.specs.Table.{tableWords, tableOf, stmts, mates}
@@ -30,7 +31,7 @@ module _ (p q b : ℕ) (e : List ℕ) where
     pub same : setOf u b ≡ setOf e b
     pub below : Below b e u
 
-  pub afresh-ready : (u : List ℕ) (depth : ℕ) → Afresh u → Ready 3 4 e depth b q → Ready 3 4 u depth b q
+  pub afresh-ready : (u : List ℕ) (depth : ℕ) → Afresh u → Ready mostInside 4 e depth b q → Ready mostInside 4 u depth b q
   afresh-ready u depth a g = record {
     knows = knows-on e u (a .table) q (g .knows);
     shallow = g .shallow;

@@ -9,7 +9,7 @@ ghost use mathlib.Core.Bool.{true, false};
 ghost use Prim.Native.Nat.{_+_, _*_, _≤_, _<_};
 ghost use lib.ListN.{length};
 ghost use Rattle.model.specs.Conjunct.{unionOf, limits};
-ghost use Rattle.model.specs.Sizes.{mostStatements, mostNested};
+ghost use Rattle.model.specs.Sizes.{mostStatements, mostNested, mostInside};
 ghost use Rattle.model.specs.TidySets.{Tidy};
 ghost use Rattle.code_table.specs.Table.{tableWords, stmts, mates};
 ghost use Rattle.sets.specs.Region.{setOf, Within, TwoRegions, regionWords};
@@ -188,7 +188,7 @@ fn branch(
     e: usize,
     f: usize,
 ) -> Answer
-    requires { ⌜ Ready 3 4 (now s) depth b f × Piece (now s) depth p e × Piece (now s) depth (e + 1) f ⌝ }
+    requires { ⌜ Ready mostInside 4 (now s) depth b f × Piece (now s) depth p e × Piece (now s) depth (e + 1) f ⌝ }
     ensures { λ r. ⌜ Branches light r p e f b (now (s .entry)) (now (s .exit)) ⌝ }
 {
     open_branch(s, b);
@@ -208,7 +208,7 @@ fn branch(
 // The rounds of a while whose body lies on the labels from p up to q, all light or none. The set that
 // they come to is in the region after that at b, whose own stays.
 fn rounds(s: &mut [u64], depth: usize, light: bool, b: usize, p: usize, q: usize) -> Answer
-    requires { ⌜ Ready 3 4 (now s) depth b q × Piece (now s) depth p q ⌝ }
+    requires { ⌜ Ready mostInside 4 (now s) depth b q × Piece (now s) depth p q ⌝ }
     ensures { λ r. ⌜ Rounded light r p q b (now (s .entry)) (now (s .exit)) ⌝ }
 {
     open_rounds(s, b);
@@ -240,7 +240,7 @@ fn rounds(s: &mut [u64], depth: usize, light: bool, b: usize, p: usize, q: usize
 // The rounds as the definition has them: light ones first, and one round on all that they come to. Where
 // either refuses, the definition's own rounds decide.
 fn settle(s: &mut [u64], depth: usize, b: usize, p: usize, q: usize) -> Answer
-    requires { ⌜ Ready 3 4 (now s) depth b q × Piece (now s) depth p q ⌝ }
+    requires { ⌜ Ready mostInside 4 (now s) depth b q × Piece (now s) depth p q ⌝ }
     ensures { λ r. ⌜ Rounded false r p q b (now (s .entry)) (now (s .exit)) ⌝ }
 {
     match rounds(s, depth, true, b, p, q) {
@@ -258,7 +258,7 @@ fn settle(s: &mut [u64], depth: usize, b: usize, p: usize, q: usize) -> Answer
 
 // A while whose body lies on the labels from p up to q.
 fn repeat(s: &mut [u64], depth: usize, light: bool, b: usize, p: usize, q: usize) -> Answer
-    requires { ⌜ Ready 3 4 (now s) depth b q × Piece (now s) depth p q ⌝ }
+    requires { ⌜ Ready mostInside 4 (now s) depth b q × Piece (now s) depth p q ⌝ }
     ensures { λ r. ⌜ Loops light r p q b (now (s .entry)) (now (s .exit)) ⌝ }
 {
     if light {
