@@ -8,6 +8,7 @@ ghost use lib.ListN.{length, take};
 ghost use Rattle.model.specs.Conjunct.{atom, renumber, atoms};
 ghost use Rattle.model.specs.Walk.{loads};
 ghost use Rattle.model.specs.Sizes.{mostNodes};
+ghost use Rattle.model.specs.Touch.{some};
 ghost use Rattle.conjunct.specs.Word.{isAtom, keyOf};
 ghost use Rattle.conjunct.specs.Value.{conjOf};
 ghost use Rattle.conjunct.specs.Behind.{Atoms, Ranked, Behind, LoadBehind, rightWords, Substitutable, Replaced};
@@ -115,8 +116,21 @@ fn put(out: &mut [u64], m: usize, p: Right)
     out[m + 2] = p.nodes[2];
 }
 
+// is one of its three words an atom's?
+fn has_atom(p: Right) -> bool
+    ensures { λ b. ⌜ b ≡ some isAtom (p .nodes) ⌝ }
+{
+    if node::is_atom(p.nodes[0]) {
+        return true;
+    }
+    if node::is_atom(p.nodes[1]) {
+        return true;
+    }
+    node::is_atom(p.nodes[2])
+}
+
 // the right side r for the variable x in the first n words of e, numbered anew, to `out`; `seen` is
-// room to work in
+// room to work in. Without an atom in r the numbers are those of e.
 pub fn substitute(
     e: &[u64],
     n: usize,
@@ -148,6 +162,9 @@ pub fn substitute(
         out[m] = w;
         m += 1;
         i += 1;
+    }
+    if !has_atom(r) {
+        return Substituted::Nodes(m);
     }
     renumber(out, m, seen);
     Substituted::Nodes(m)

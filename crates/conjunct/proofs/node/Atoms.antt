@@ -6,7 +6,7 @@ use native.Mathlib.Omega.{arith}
 use lib.Dec.{ltb, eqb}
 use Rattle.model.proofs.Atoms.{source-eq, source-self, atom-eq, atom-self}
 use borrow.Author.Tests.{eq-eqb, eqb-true}
-use Rattle.model.specs.Conjunct.{Source, Atom, Node, const, atom, var, op, conv, sameSource, sameAtom, onAtom}
+use Rattle.model.specs.Conjunct.{Source, Atom, Node, const, atom, var, op, conv, sameSource, sameAtom, onAtom, AtAtom}
 use Rattle.conjunct.proofs.node.Lists.{node-word}
 use Rattle.conjunct.proofs.node.Made.{made-numbered}
 use Rattle.conjunct.specs.Word.{low4, isAtom, sourceOf, keyOf, atomOf, plainOf, nodeOf, firstConversion, firstDifference}
@@ -55,6 +55,20 @@ plain-kept f w =
 -- a change of atoms leaves any other word's node
 pub other-kept : (f : Atom → Node) (w : ℕ) → isAtom w ≡ false → onAtom f (nodeOf w) ≡ nodeOf w
 other-kept f w h = rw (no-atom w h) (plain-kept f w)
+
+-- and is no atom
+pub other-plain : (w : ℕ) → isAtom w ≡ false → AtAtom (λ a. ⊥) (nodeOf w)
+other-plain w h = go (nodeOf w) (λ f. other-kept f w h)
+  where
+    no : (a : Atom) → const 0 0 ≡ atom a → ⊥
+    no a e = let z : _≡_ {A = ℕ} 0 1 = cc in omega arith
+
+    go : (v : Node) → ((f : Atom → Node) → onAtom f v ≡ v) → AtAtom (λ a. ⊥) v
+    go (const ty i) k = tt
+    go (atom a) k = no a (k (λ b. const 0 0))
+    go (var x ty) k = tt
+    go (op o ty) k = tt
+    go (conv ty) k = tt
 
 pub atom-changed : (f : Atom → Node) (w : ℕ) → isAtom w ≡ true → onAtom f (nodeOf w) ≡ f (atomOf w)
 atom-changed f w h = rw (is-atom w h)

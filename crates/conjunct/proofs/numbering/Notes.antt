@@ -8,21 +8,17 @@ use native.Mathlib.Omega.{arith}
 use lib.ListN.{length, take, set}
 use lib.Seq.{take-suc-set}
 use Rattle.model.proofs.Every.{every-of-append}
-use Rattle.model.specs.Conjunct.{Atom, Node, const, atom, var, op, conv, rank, renamed, onAtom, has}
+use Rattle.model.specs.Conjunct.{Atom, Node, const, atom, var, op, conv, rank, renamed, onAtom, has, AtAtom}
 use Rattle.model.specs.Lists.{every}
-use Rattle.conjunct.proofs.node.Atoms.{is-atom, other-kept, atom-changed}
+use Rattle.conjunct.proofs.node.Atoms.{is-atom, other-kept, other-plain, atom-changed}
 use Rattle.conjunct.specs.Word.{isAtom, sourceOf, atomOf, nodeOf}
 use Rattle.conjunct.proofs.numbering.Snoc.{rank-behind}
 use Rattle.conjunct.specs.Behind.{behind, atomsOf, Atoms, Behind}
 
--- a node that no change of atoms changes is no atom
-behind-other : (v : Node) (ks : List Atom) → ((f : Atom → Node) → onAtom f v ≡ v) → behind v ks ≡ ks
+behind-other : (v : Node) (ks : List Atom) → AtAtom (λ a. ⊥) v → behind v ks ≡ ks
 unfolding behind
 behind-other (const ty i) ks h = refl
-behind-other (atom a) ks h = absurd (no (h (λ b. const 0 0)))
-  where
-    no : const 0 0 ≡ atom a → ⊥
-    no e = let z : _≡_ {A = ℕ} 0 1 = cc in omega arith
+behind-other (atom a) ks h = absurd h
 behind-other (var x ty) ks h = refl
 behind-other (op o ty) ks h = refl
 behind-other (conv ty) ks h = refl
@@ -40,7 +36,7 @@ module _ (l : List ℕ) (m w : ℕ) (all : Atoms (take m l)) where
   noted-other h =
       record {
         count = omega arith;
-        atoms = sym (behind-other (nodeOf w) (atomsOf (take m l)) (λ f. other-kept f w h));
+        atoms = sym (behind-other (nodeOf w) (atomsOf (take m l)) (other-plain w h));
         all = all;
         word = sym (other-kept (λ a. atom (renamed (behind (nodeOf w) (atomsOf (take m l))) a)) w h);
       }

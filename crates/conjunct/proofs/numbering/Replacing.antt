@@ -11,11 +11,12 @@ use Rattle.model.specs.Conjunct.{renumber, AtAtom}
 use Rattle.model.specs.Lists.{All}
 use Rattle.model.specs.Walk.{replace}
 use Rattle.model.specs.Sizes.{mostNodes}
-use Rattle.model.specs.Touch.{isVar}
+use Rattle.model.specs.Touch.{isVar, some}
 use Rattle.model.specs.TidySets.{Numbered}
-use Rattle.conjunct.specs.Word.{nodeOf, nodesOf}
+use Rattle.conjunct.specs.Word.{isAtom, nodeOf, nodesOf}
 use Rattle.conjunct.specs.Value.{conjOf}
 use Rattle.conjunct.proofs.numbering.Fresh.{flat-snoc, flat-part, fresh-length, fresh-renumber}
+use Rattle.conjunct.proofs.numbering.Plain.{none-taken, still-numbered}
 use Rattle.conjunct.specs.Behind.{rightWords, rightOf, pieceOf}
 use Rattle.conjunct.specs.declared.numbering.Right.{Right}
 
@@ -58,3 +59,10 @@ module _ (l : List ℕ) (n x : ℕ) (r : Right) (inside : n ≤ length l) (numbe
       → conjOf after m ≡ renumber (conjOf out m)
       → conjOf after m ≡ renumber (flatMap (replace x (rightOf r)) (conjOf l n))
   replaced-done m out after t c = c ∙ ap (λ ws. renumber (nodesOf ws)) t ∙ fresh-renumber x (rightWords r) fresh (take n l) numbered
+
+  -- all words put together, where the right side has no atom
+  pub replaced-plain : (m : ℕ) (out : List ℕ) → take m out ≡ flatMap (pieceOf x (rightWords r)) (take n l) → some isAtom (r .nodes) ≡ false
+      → conjOf out m ≡ renumber (flatMap (replace x (rightOf r)) (conjOf l n))
+  replaced-plain m out t none =
+      let kept = still-numbered x (rightWords r) (none-taken (r .len) (r .nodes) none) (take n l) numbered in
+      ap nodesOf t ∙ sym kept ∙ fresh-renumber x (rightWords r) fresh (take n l) numbered

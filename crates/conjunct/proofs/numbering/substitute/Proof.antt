@@ -1,4 +1,5 @@
 -- `conjunct::numbering::substitute` meets its contract.
+use mathlib.Core.Bool.{false}
 use mathlib.Core.List.{flatMap}
 use mathlib.Core.Path.{_≡_, refl, sym, ap, _∙_}
 use Prim.Native.Nat.{_-_, _≤_}
@@ -6,8 +7,9 @@ use native.Mathlib.Omega.{arith}
 use lib.ListN.{length, take, getD, length-set}
 use lib.Seq.{length-take-le}
 use borrow.Author.Needs.{needs}
+use borrow.Author.Tests.{not-true}
 use Rattle.model.specs.Sizes.{mostNodes}
-use Rattle.conjunct.proofs.numbering.Replacing.{piece-there, piece-other, more-there, more-other, replaced-over, replaced-done}
+use Rattle.conjunct.proofs.numbering.Replacing.{piece-there, piece-other, more-there, more-other, replaced-over, replaced-done, replaced-plain}
 use Rattle.conjunct.specs.Behind.{rightWords, pieceOf}
 use Rattle.conjunct.proofs.numbering.substitute.Statement.{statement}
 use Rattle.conjunct.proofs.numbering.substitute.Tie as tie
@@ -138,23 +140,45 @@ loop-again-2 c =
       more-other (a .x) (rightWords (a .r)) (a .e .now) (lp .i) (omega arith) (lp .out) (lp .m) (omega arith) (lp .inv .5) v,
     )
 
-renumber-requires : tie.Need-renumber-requires Inv-loop μ-loop
-renumber-requires c κs = search needs
+has-atom-requires : tie.Need-has-atom-requires Inv-loop μ-loop
+has-atom-requires c κs = search needs
 
 same-length-3 : tie.Need-same-length-3 Inv-loop μ-loop
 same-length-3 c = search needs
 
-same-length-4 : tie.Need-same-length-4 Inv-loop μ-loop
-same-length-4 c = search needs
-
 returns-3 : tie.Need-returns-3 Inv-loop μ-loop
 returns-3 c =
-    let at-loop = c .before .before .before .before .before .before .before .before in
+    let at-loop = c .before .before .before in
     let start = at-loop .before .before .before .before in
     let a = start .args in
     let p = start .pre in
     let lp = at-loop .loop in
-    let q = c .before .before .before .before .renumber in
+    let none : c .before .has-atom .result ≡ false = search (not-true, c .if4 .taken) in
+    let plain = sym (c .before .has-atom .ensures) ∙ none in
+    let e : lp .i ≡ a .n = omega arith in (
+      lp .inv .2,
+      replaced-plain (a .e .now) (a .n) (a .x) (a .r) (p .there) (p .numbered) (p .fresh) (lp .m) (lp .out) (rw e at (lp .inv .5)) plain,
+    )
+
+renumber-requires : tie.Need-renumber-requires Inv-loop μ-loop
+renumber-requires c κs = search needs
+
+same-length-4 : tie.Need-same-length-4 Inv-loop μ-loop
+same-length-4 c = search needs
+
+same-length-5 : tie.Need-same-length-5 Inv-loop μ-loop
+same-length-5 c = search needs
+
+returns-4 : tie.Need-returns-4 Inv-loop μ-loop
+returns-4 c =
+    let after-renumber = c .before .before .before .before in
+    let else4 = after-renumber .before .before .before in
+    let at-loop = else4 .before .before .before in
+    let start = at-loop .before .before .before .before in
+    let a = start .args in
+    let p = start .pre in
+    let lp = at-loop .loop in
+    let q = after-renumber .renumber in
     let e : lp .i ≡ a .n = omega arith in (
       lp .inv .2,
       replaced-done (a .e .now) (a .n) (a .x) (a .r) (p .there) (p .numbered) (p .fresh) (lp .m) (lp .out) (q .last .0) (rw e at (lp .inv .5)) (q .ensures),
@@ -186,7 +210,10 @@ substitute-spec =
     add-i-2
     loop-less-2
     loop-again-2
-    renumber-requires
+    has-atom-requires
     same-length-3
+    returns-3
+    renumber-requires
     same-length-4
-    returns-3)
+    same-length-5
+    returns-4)
