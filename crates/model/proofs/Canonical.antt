@@ -1,7 +1,7 @@
 -- Sets: members of `insert` and `union`, canonical lists, and the algebra of unions.
 use mathlib.Core.Path.{_≡_, refl, sym, _∙_, ap, ap₂, subst}
 use mathlib.Core.Logic.{_⊎_, inl, inr, ⊎-elim, _↔_}
-use mathlib.Core.List.{[], _∷_}
+use mathlib.Core.List.{[], _∷_, _++_}
 use Prim.Native.Nat.{suc, _+_, _≤_, Ordering, Ordering·lt, Ordering·eq, Ordering·gt}
 use native.Mathlib.Omega.{arith}
 use lib.ListN.{length}
@@ -173,6 +173,23 @@ union-assoc R S T k =
     (union-least R (unionOf S T) (unionOf (unionOf R S) T)
     (λ x m. union-left x (unionOf R S) T (union-left x R S m))
     (union-mono S T (unionOf R S) T (λ x. union-right x R S) (sub-self T)))
+
+-- one list after the other
+pub union-append : (R S T : Conjuncts) → unionOf (R ++ S) T ≡ unionOf R (unionOf S T)
+unfolding unionOf
+union-append [] S T = refl
+union-append (e ∷ R) S T = ap (withConjunct e) (union-append R S T)
+
+-- the order in which two lists are put in does not matter
+pub union-left-comm : (R S T : Conjuncts) → Canon T → unionOf R (unionOf S T) ≡ unionOf S (unionOf R T)
+union-left-comm R S T k =
+    canon-ext (unionOf R (unionOf S T)) (unionOf S (unionOf R T)) (union-canon R (unionOf S T) (union-canon S T k)) (union-canon S (unionOf R T) (union-canon R T k))
+    (either R S) (either S R)
+  where
+    either : (A B : Conjuncts) → Sub (unionOf A (unionOf B T)) (unionOf B (unionOf A T))
+    either A B =
+        union-least A (unionOf B T) (unionOf B (unionOf A T)) (λ x m. union-right x B (unionOf A T) (union-left x A T m))
+        (union-mono B T B (unionOf A T) (sub-self B) (λ x. union-right x A T))
 
 -- what is there already adds nothing
 pub union-absorb : (R S : Conjuncts) → Canon S → Sub R S → unionOf R S ≡ S

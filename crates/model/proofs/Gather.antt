@@ -1,12 +1,12 @@
 -- One rule over a set, conjunct by conjunct: its members, canonical and monotone, and what holds of every conjunct.
-use mathlib.Core.Path.{_≡_, refl, subst}
+use mathlib.Core.Path.{_≡_, refl, ap, subst, _∙_}
 use mathlib.Core.Logic.{_⊎_, inl, inr, ⊎-elim}
-use mathlib.Core.List.{List, [], _∷_, map}
+use mathlib.Core.List.{List, [], _∷_, _++_, map}
 use Rattle.model.specs.Conjunct.{Conj, Conjuncts, unionOf, renumber}
 use Rattle.model.specs.Lists.{All}
 use Rattle.model.specs.Walk.{gather}
 use Rattle.model.specs.TidySets.{Canon, Mem, Sub}
-use Rattle.model.proofs.Canonical.{all-mem, mem-all, union-from, union-left, union-right, union-least, union-canon, union-every, canon-ext}
+use Rattle.model.proofs.Canonical.{all-mem, mem-all, union-from, union-left, union-right, union-least, union-canon, union-every, union-left-comm, canon-ext}
 
 pub gather-canon : (f : Conj → List Conj) (S : Conjuncts) → Canon (gather f S)
 unfolding gather
@@ -42,6 +42,13 @@ gather-union f A B =
     (λ n. union-right x (gather f A) (gather f B) (gather-into f B x (r .0) n (r .2))) (union-from (r .0) A B (r .1)))
     (union-least (gather f A) (gather f B) (gather f (unionOf A B))
     (gather-mono f A (unionOf A B) (λ x. union-left x A B)) (gather-mono f B (unionOf A B) (λ x. union-right x A B)))
+
+-- a set with one conjunct more at its end
+pub gather-last : (f : Conj → List Conj) (S : Conjuncts) (e : Conj) → gather f (S ++ (e ∷ [])) ≡ unionOf (map renumber (f e)) (gather f S)
+unfolding gather
+gather-last f [] e = refl
+gather-last f (d ∷ S) e =
+    ap (unionOf (map renumber (f d))) (gather-last f S e) ∙ union-left-comm (map renumber (f d)) (map renumber (f e)) (gather f S) (gather-canon f S)
 
 -- ---- every conjunct
 

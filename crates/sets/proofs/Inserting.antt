@@ -2,17 +2,18 @@
 use mathlib.Core.Bool.{Bool, true, false, _&&_}
 use mathlib.Core.List.{List, [], _∷_, _++_, map}
 use mathlib.Core.Path.{_≡_, refl, sym, ap, ap₂, _∙_, subst}
-use Prim.Native.Nat.{ℕ, suc, _+_, _-_, _<_, _≤_}
+use Prim.Native.Nat.{ℕ, _+_, _-_, _<_, _≤_}
 use native.Mathlib.Numerals.{add-one}
 use native.Mathlib.Omega.{arith}
 use lib.Dec.{isEq}
 use lib.ListN.{length, getD, take, drop, length-append, length-drop, take-append-drop}
-use lib.Seq.{length-take-le, drop-cons, drop-length}
-use Rattle.model.proofs.Canonical.{union-grows}
+use lib.Seq.{length-take-le, take-suc, drop-cons, drop-length}
+use Rattle.model.proofs.Canonical.{union-append, union-left-comm, union-grows}
 use Rattle.model.proofs.Tests.{case, true→T}
 use Rattle.model.proofs.Order.{same-eq}
 use Rattle.model.specs.Conjunct.{Conj, Conjuncts, withConjunct, unionOf, same, orderNodes}
 use Rattle.model.specs.Sizes.{mostConjuncts}
+use Rattle.model.specs.TidySets.{Canon}
 use Rattle.conjunct.specs.Word.{nodesOf}
 use Rattle.sets.proofs.Rows.{set-rows, frame}
 use Rattle.sets.specs.Region.{few, rowsFrom, setOf, Within, Apart, Spotted, Inserted, regionWords}
@@ -35,28 +36,23 @@ grown e S i h p =
 
 -- ---- union
 
-union-join : (xs ys S : Conjuncts) → unionOf (xs ++ ys) S ≡ unionOf xs (unionOf ys S)
+pub union-none : (F T : Conjuncts) → T ≡ unionOf (take 0 F) T
 unfolding unionOf
-union-join [] ys S = refl
-union-join (e ∷ xs) ys S = ap (withConjunct e) (union-join xs ys S)
+union-none F T = refl
 
-pub union-none : (F T : Conjuncts) (k : ℕ) → k ≡ length F → T ≡ unionOf (drop k F) T
-unfolding unionOf
-union-none F T k e =
-    let z : drop k F ≡ [] = ap (λ j. drop j F) e ∙ drop-length F in
-    rw z
+module _ (F T : Conjuncts) (c : Canon T) where
+  pub union-next : (k : ℕ) → k < length F → withConjunct (getD F k []) (unionOf (take k F) T) ≡ unionOf (take (k + 1) F) T
+  unfolding unionOf
+  union-next k h =
+      let one = getD F k [] ∷ [] in
+      let more : take (k + 1) F ≡ take k F ++ one = rw (add-one k) (take-suc F k [] h) in
+      union-left-comm one (take k F) T c ∙ sym (union-append (take k F) one T) ∙ ap (λ X. unionOf X T) (sym more)
 
-pub union-next : (F T : Conjuncts) (k j : ℕ) → j + 1 ≡ k → k ≤ length F → withConjunct (getD F j []) (unionOf (drop k F) T) ≡ unionOf (drop j F) T
-unfolding unionOf
-union-next F T k j e h =
-    let f : suc j ≡ k = omega arith in
-    sym (ap (λ X. unionOf X T) (drop-cons F j [] (omega arith) ∙ ap (λ i. getD F j [] ∷ drop i F) f))
-
-pub union-over : (F T : Conjuncts) (j : ℕ) → length (unionOf (drop j F) T) ≤ length (unionOf F T)
-union-over F T j =
-    let p : unionOf F T ≡ unionOf (take j F) (unionOf (drop j F) T) =
-    ap (λ X. unionOf X T) (sym (take-append-drop j F)) ∙ union-join (take j F) (drop j F) T in
-    omega (arith, ap length p, union-grows (take j F) (unionOf (drop j F) T))
+  pub union-over : (k : ℕ) → length (unionOf (take k F) T) ≤ length (unionOf F T)
+  union-over k =
+      let all : unionOf F T ≡ unionOf (drop k F) (unionOf (take k F) T) =
+      ap (λ X. unionOf X T) (sym (take-append-drop k F)) ∙ union-append (take k F) (drop k F) T ∙ union-left-comm (take k F) (drop k F) T c in
+      omega (arith, ap length all, union-grows (drop k F) (unionOf (take k F) T))
 
 -- ---- the same sets
 
@@ -77,20 +73,20 @@ same-end A B i h k =
 
 -- ---- a turn of a union
 
-module _ (s₀ s t : List ℕ) (to from k j : ℕ) (d : Conj) (fit : from + regionWords ≤ length s₀) (apart : Apart to from) (len : length s ≡ length s₀)
-    (in′ : Within to s₀ s)
-    (next : j + 1 ≡ k) (few′ : k ≤ length (setOf s₀ from)) (e : d ≡ getD (setOf s from) j [])
-    (so : setOf s to ≡ unionOf (drop k (setOf s₀ from)) (setOf s₀ to)) where
+module _ (s₀ s t : List ℕ) (to from k : ℕ) (d : Conj) (fit : from + regionWords ≤ length s₀) (apart : Apart to from) (canon : Canon (setOf s₀ to))
+    (len : length s ≡ length s₀) (in′ : Within to s₀ s)
+    (few′ : k < length (setOf s₀ from)) (e : d ≡ getD (setOf s from) k [])
+    (so : setOf s to ≡ unionOf (take k (setOf s₀ from)) (setOf s₀ to)) where
   -- the set with the next conjunct
-  step : withConjunct d (setOf s to) ≡ unionOf (drop j (setOf s₀ from)) (setOf s₀ to)
+  step : withConjunct d (setOf s to) ≡ unionOf (take (k + 1) (setOf s₀ from)) (setOf s₀ to)
   step =
-      let p : d ≡ getD (setOf s₀ from) j [] = e ∙ ap (λ S. getD S j []) (frame s₀ s to from len fit apart in′) in
-      ap₂ withConjunct p so ∙ union-next (setOf s₀ from) (setOf s₀ to) k j next few′
+      let p : d ≡ getD (setOf s₀ from) k [] = e ∙ ap (λ S. getD S k []) (frame s₀ s to from len fit apart in′) in
+      ap₂ withConjunct p so ∙ union-next (setOf s₀ from) (setOf s₀ to) canon k few′
 
   pub turn-over : (r : Bool) → r ≡ false → Inserted r to d s t → mostConjuncts < length (unionOf (setOf s₀ from) (setOf s₀ to))
   turn-over true q h = absurd (true→T (sym q))
-  turn-over false q h = omega (arith, h .1, ap length step, union-over (setOf s₀ from) (setOf s₀ to) j)
+  turn-over false q h = omega (arith, h .1, ap length step, union-over (setOf s₀ from) (setOf s₀ to) canon (k + 1))
 
-  pub turn-done : (r : Bool) → r ≡ true → Inserted r to d s t → setOf t to ≡ unionOf (drop j (setOf s₀ from)) (setOf s₀ to)
+  pub turn-done : (r : Bool) → r ≡ true → Inserted r to d s t → setOf t to ≡ unionOf (take (k + 1) (setOf s₀ from)) (setOf s₀ to)
   turn-done true q h = h ∙ step
   turn-done false q h = absurd (true→T q)

@@ -150,22 +150,39 @@ fn shift(s: &mut [u64], a: usize, n: usize)
     }
 }
 
-// where m words go among the first n slots
-fn find(s: &[u64], base: usize, n: usize, w: &[u64], m: usize) -> Spot
-    requires { ⌜ (n ≤ mostConjuncts) × (base + regionWords ≤ length (now s)) × (m ≤ length (now w)) ⌝ }
+// where m words go among the first n slots, by bisection
+fn bisect(s: &[u64], base: usize, n: usize, w: &[u64], m: usize) -> Spot
+    requires { ⌜ (n ≤ mostConjuncts) × (base + regionWords ≤ length (now s)) × (m ≤ length (now w)) × Canon (firstOf (now s) base n) ⌝ }
     ensures { λ r. ⌜ Spotted r (nodesOf (take m (now (w .entry)))) (firstOf (now (s .entry)) base n) ⌝ }
 {
-    let mut i: usize = 0;
-    while i < n {
-        let o = compare_slot(w, m, s, base + 1 + SLOT * i);
+    let mut lo: usize = 0;
+    let mut hi = n;
+    while lo < hi {
+        let mid = (lo + hi) / 2;
+        let o = compare_slot(w, m, s, base + 1 + SLOT * mid);
         match o {
-            Order::Less => return Spot::Before(i),
+            Order::Less => hi = mid,
             Order::Same => return Spot::Here,
-            Order::More => {}
+            Order::More => lo = mid + 1,
         }
-        i += 1;
     }
-    Spot::Before(n)
+    Spot::Before(lo)
+}
+
+// where m words go among the first n slots: mostly behind the last one, which is asked first
+fn find(s: &[u64], base: usize, n: usize, w: &[u64], m: usize) -> Spot
+    requires { ⌜ (n ≤ mostConjuncts) × (base + regionWords ≤ length (now s)) × (m ≤ length (now w)) × Canon (firstOf (now s) base n) ⌝ }
+    ensures { λ r. ⌜ Spotted r (nodesOf (take m (now (w .entry)))) (firstOf (now (s .entry)) base n) ⌝ }
+{
+    if n == 0 {
+        return Spot::Before(0);
+    }
+    let o = compare_slot(w, m, s, base + 1 + SLOT * (n - 1));
+    match o {
+        Order::Less => bisect(s, base, n, w, m),
+        Order::Same => Spot::Here,
+        Order::More => Spot::Before(n),
+    }
 }
 
 // m words put before the i-th conjunct of the n of a region
@@ -185,7 +202,7 @@ fn place_at(s: &mut [u64], base: usize, n: usize, i: usize, w: &[u64], m: usize)
 
 // the first m words as one conjunct more; false where the set would have over 64
 pub fn insert(s: &mut [u64], base: usize, w: &[u64], m: usize) -> bool
-    requires { ⌜ (base + regionWords ≤ length (now s)) × (m ≤ mostNodes) × (m ≤ length (now w)) ⌝ }
+    requires { ⌜ (base + regionWords ≤ length (now s)) × (m ≤ mostNodes) × (m ≤ length (now w)) × Canon (setOf (now s) base) ⌝ }
     ensures { λ r. ⌜ Inserted r base (conjOf (now (w .entry)) m) (now (s .entry)) (now (s .exit)) × Within base (now (s .entry)) (now (s .exit)) ⌝ }
 {
     let n = at_most(s[base]);
@@ -216,27 +233,27 @@ pub fn copy(s: &mut [u64], to: usize, from: usize)
     s[to] = n as u64;
 }
 
-// with all conjuncts of another region; false where the set would have over 64. `words` is room to
-// work in.
+// with all conjuncts of another region, from the first to the last; false where the set would have
+// over 64. `words` is room to work in.
 fn join(s: &mut [u64], to: usize, from: usize, words: &mut [u64]) -> bool
-    requires { ⌜ TwoRegions (now s) to from × (mostNodes ≤ length (now words)) ⌝ }
+    requires { ⌜ TwoRegions (now s) to from × (mostNodes ≤ length (now words)) × Canon (setOf (now s) to) ⌝ }
     ensures { λ r. ⌜ Joined r from to (now (s .entry)) (now (s .exit)) × Within to (now (s .entry)) (now (s .exit)) ⌝ }
 {
-    let mut k = size(s, from);
-    while k > 0 {
-        k -= 1;
+    let count = size(s, from);
+    let mut k: usize = 0;
+    while k < count {
         let n = get(s, from, k, words);
-        let done = insert(s, to, words, n);
-        if !done {
+        if !insert(s, to, words, n) {
             return false;
         }
+        k += 1;
     }
     true
 }
 
 // with all conjuncts of another region; false where the set would have over 64
 pub fn union(s: &mut [u64], to: usize, from: usize) -> bool
-    requires { ⌜ TwoRegions (now s) to from ⌝ }
+    requires { ⌜ TwoRegions (now s) to from × Canon (setOf (now s) to) ⌝ }
     ensures { λ r. ⌜ Joined r from to (now (s .entry)) (now (s .exit)) × Within to (now (s .entry)) (now (s .exit)) ⌝ }
 {
     let mut words: [u64; MOST_NODES] = [0; MOST_NODES];

@@ -1,8 +1,11 @@
 -- `sets::holds` meets its contract: a conjunct that is found is there, and of a canonical set one that is to be put somewhere is not.
+use mathlib.Core.Path.{subst}
 use borrow.Author.Needs.{needs}
+use Rattle.model.specs.TidySets.{Canon}
 use Rattle.conjunct.specs.Value.{conjOf}
 use Rattle.sets.proofs.Differing.{spotted-here, spotted-before}
 use Rattle.sets.proofs.Inserting.{spotted}
+use Rattle.sets.proofs.Rows.{set-rows}
 use Rattle.sets.specs.Region.{setOf}
 use Rattle.sets.specs.declared.Spot.the-variants.{Here, Before}
 use Rattle.sets.proofs.holds.Statement.{statement}
@@ -22,7 +25,12 @@ at-most-requires : tie.Need-at-most-requires
 at-most-requires c κs = search needs
 
 find-requires : tie.Need-find-requires
-find-requires c κs = search needs
+find-requires c κs =
+    let start = c .before .before .before .before in
+    let a = start .args in
+    let n = c .at-most in
+    let rising = subst Canon (set-rows (a .s .now) (a .base) (n .result) (n .ensures .0)) (start .pre .2) in
+    (n .ensures .1, start .pre .0, start .pre .1, rising)
 
 enum-told : tie.Need-enum-told
 enum-told c = search needs

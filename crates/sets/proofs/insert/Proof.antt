@@ -1,9 +1,10 @@
 -- `sets::insert` meets its contract.
 use mathlib.Core.List.{_∷_, _++_}
-use mathlib.Core.Path.{refl, sym, ap, _∙_}
+use mathlib.Core.Path.{refl, sym, ap, subst, _∙_}
 use native.Mathlib.Omega.{arith}
 use lib.ListN.{take, drop}
 use borrow.Author.Needs.{needs}
+use Rattle.model.specs.TidySets.{Canon}
 use Rattle.conjunct.specs.Value.{conjOf}
 use Rattle.sets.proofs.Inserting.{spotted, grown}
 use Rattle.sets.proofs.Rows.{set-length, set-rows}
@@ -35,7 +36,12 @@ at-most-requires : tie.Need-at-most-requires
 at-most-requires c κs = search needs
 
 find-requires : tie.Need-find-requires
-find-requires c κs = search needs
+find-requires c κs =
+    let n = c .before in
+    let start = n .before .before .before .before in
+    let a = start .args in
+    let rising = subst Canon (set-rows (a .s .now) (a .base) (n .at-most .result) (n .at-most .ensures .0)) (start .pre .3) in
+    (n .at-most .ensures .1, start .pre .0, start .pre .2, rising)
 
 enum-told : tie.Need-enum-told
 enum-told c = search needs
