@@ -2,20 +2,20 @@
 use mathlib.Core.Bool.{Bool, true, false}
 use mathlib.Core.List.{List, [], _∷_, map}
 use mathlib.Core.Logic.{_≢_, inl, ⊎-elim}
-use mathlib.Core.Path.{_≡_, refl, sym, ap, ap₂, _∙_}
-use Prim.Native.Nat.{ℕ, _+_, _^_, _≤_, _<_}
+use mathlib.Core.Path.{_≡_, refl, sym, ap, ap₂, subst, _∙_}
+use Prim.Native.Nat.{ℕ, suc, _+_, _^_, _≤_, _<_}
 use native.Mathlib.Omega.{arith}
 use lib.Dec.{eqb}
-use lib.ListN.{length, getD, drop, length-map, List·getD-map}
+use lib.ListN.{length, getD, take, drop, take-append-drop, length-map, List·getD-map}
+use lib.Seq.{drop-cons, drop-length}
 use borrow.Author.Tests.{eqb-true, eqb-false}
 use Rattle.model.specs.Conjunct.{Atom, Conj, Conjuncts, withConjunct, unionOf, atoms, renumber}
 use Rattle.model.specs.Walk.{loads, subsets}
 use Rattle.model.specs.Sizes.{mostConjuncts, mostNodes}
 use Rattle.model.specs.Refusals.{tooManyConjuncts, tooManyNodes}
-use Rattle.model.proofs.Canonical.{insert-length, union-canon, union-left, sub-length}
+use Rattle.model.proofs.Canonical.{insert-canon, insert-length, union-append, union-canon, union-grows, union-left, sub-length}
 use Rattle.model.proofs.Tests.{decide, true→T}
 use Rattle.model.specs.TidySets.{Canon}
-use Rattle.sets.proofs.Inserting.{union-next, union-over}
 use Rattle.sets.specs.Region.{setOf, Inserted}
 use Rattle.rules.proofs.Distinct.{subsets-length, subsets-many, seven-many}
 use Rattle.rules.proofs.Limiting.{limits-nine, limits-ten}
@@ -64,7 +64,30 @@ module _ (x : Conj) (b : ℕ) (s t : List ℕ) where
       (λ p. absurd (omega (arith, i .1, few (eqb-false k 9 p), insert-length x (setOf s b))))
       (decide (eqb k 9))
 
+  -- a set that was canonical still is
+  pub still-canon : (r : Bool) → r ≡ true → Canon (setOf s b) → Inserted r b x s t → Canon (setOf t b)
+  still-canon true q d i = subst Canon (sym i) (insert-canon x (setOf s b) d)
+  still-canon false q d i = absurd (true→T q)
+
 -- ---- several, from the last to the first
+
+pub union-none : (F T : Conjuncts) (k : ℕ) → k ≡ length F → T ≡ unionOf (drop k F) T
+unfolding unionOf
+union-none F T k e =
+    let z : drop k F ≡ [] = ap (λ j. drop j F) e ∙ drop-length F in
+    rw z
+
+union-next : (F T : Conjuncts) (k j : ℕ) → j + 1 ≡ k → k ≤ length F → withConjunct (getD F j []) (unionOf (drop k F) T) ≡ unionOf (drop j F) T
+unfolding unionOf
+union-next F T k j e h =
+    let f : suc j ≡ k = omega arith in
+    sym (ap (λ X. unionOf X T) (drop-cons F j [] (omega arith) ∙ ap (λ i. getD F j [] ∷ drop i F) f))
+
+union-over : (F T : Conjuncts) (j : ℕ) → length (unionOf (drop j F) T) ≤ length (unionOf F T)
+union-over F T j =
+    let p : unionOf F T ≡ unionOf (take j F) (unionOf (drop j F) T) =
+    ap (λ X. unionOf X T) (sym (take-append-drop j F)) ∙ union-append (take j F) (drop j F) T in
+    omega (arith, ap length p, union-grows (take j F) (unionOf (drop j F) T))
 
 module _ (F : Conjuncts) (b : ℕ) (s₀ s t : List ℕ) (k j : ℕ) (x : Conj) (next : j + 1 ≡ k) (few : k ≤ length F) (canon : Canon (setOf s₀ b))
     (this : x ≡ getD F j []) (so : setOf s b ≡ unionOf (drop k F) (setOf s₀ b)) where

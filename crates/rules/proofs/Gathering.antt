@@ -1,11 +1,12 @@
--- A set gathered conjunct by conjunct from the last to the first: what a turn adds, and what its refusal says of the whole.
-use mathlib.Core.List.{List, [], _∷_, map}
-use mathlib.Core.Logic.{inr}
-use mathlib.Core.Path.{_≡_, sym, ap, ap₂, subst, _∙_}
+-- A set gathered conjunct by conjunct from the first to the last: what a turn adds, and what its refusal says of the whole.
+use mathlib.Core.List.{List, [], _∷_, _++_, map}
+use mathlib.Core.Logic.{inl, inr}
+use mathlib.Core.Path.{_≡_, refl, sym, ap, ap₂, subst, _∙_}
 use Prim.Native.Nat.{ℕ, zero, suc, _+_, _≤_, _<_}
+use native.Mathlib.Numerals.{add-one}
 use native.Mathlib.Omega.{arith}
-use lib.ListN.{length, getD, drop, length-drop, length-map}
-use lib.Seq.{drop-cons, drop-length}
+use lib.ListN.{length, getD, take, length-map}
+use lib.Seq.{take-suc, take-length, length-take-le}
 use Rattle.model.specs.Conjunct.{Conj, Conjuncts, unionOf, limits, renumber}
 use Rattle.model.specs.Lists.{All}
 use Rattle.model.specs.Code.{Instr}
@@ -14,7 +15,7 @@ use Rattle.model.specs.Kinds.{aStore}
 use Rattle.model.specs.Walk.{before, gather, back}
 use Rattle.model.specs.Sizes.{mostConjuncts}
 use Rattle.model.proofs.Canonical.{union-length}
-use Rattle.model.proofs.Gather.{gather-canon, gather-mono}
+use Rattle.model.proofs.Gather.{gather-canon, gather-mono, gather-last}
 use Rattle.model.proofs.Lists.{all-getD}
 use Rattle.model.specs.TidySets.{Sub, Canon, Mem, Numbered}
 use Rattle.code_table.specs.Statements.{instrOf, OfKind}
@@ -27,22 +28,22 @@ use Rattle.rules.specs.Adding.{NoneLong, Added}
 use Rattle.rules.specs.declared.Answer.{Answer}
 use Rattle.rules.specs.declared.Answer.the-variants.{Done, Refused}
 
-sub-drop : (j : ℕ) (S : Conjuncts) → Sub (drop j S) S
-sub-drop zero S x m = m
-sub-drop (suc j) [] x m = m
-sub-drop (suc j) (e ∷ S) x m = inr (sub-drop j S x m)
+sub-take : (k : ℕ) (S : Conjuncts) → Sub (take k S) S
+sub-take zero S x m = absurd m
+sub-take (suc k) [] x m = m
+sub-take (suc k) (e ∷ S) x (inl p) = inl p
+sub-take (suc k) (e ∷ S) x (inr m) = inr (sub-take k S x m)
 
 module _ (f : Conj → List Conj) where
-  gather-next : (S : Conjuncts) (k j : ℕ) → j + 1 ≡ k → k ≤ length S
-      → unionOf (map renumber (f (getD S j []))) (gather f (drop k S)) ≡ gather f (drop j S)
-  unfolding gather
-  gather-next S k j e h =
-      let i : suc j ≡ k = omega arith in
-      sym (ap (gather f) (drop-cons S j [] (omega arith) ∙ ap (λ n. getD S j [] ∷ drop n S) i))
+  pub gather-next : (S : Conjuncts) (k : ℕ) → k < length S
+      → unionOf (map renumber (f (getD S k []))) (gather f (take k S)) ≡ gather f (take (k + 1) S)
+  gather-next S k h =
+      let more : take (k + 1) S ≡ take k S ++ (getD S k [] ∷ []) = rw (add-one k) (take-suc S k [] h) in
+      sym (ap (gather f) more ∙ gather-last f (take k S) (getD S k []))
 
-  pub gather-none : (S : Conjuncts) (k : ℕ) → k ≡ length S → [] ≡ gather f (drop k S)
+  pub gather-none : (S : Conjuncts) → [] ≡ gather f (take 0 S)
   unfolding gather
-  gather-none S k e = let z : drop k S ≡ [] = ap (λ n. drop n S) e ∙ drop-length S in rw z
+  gather-none S = refl
 
   -- no more than the set has, if each conjunct comes to one
   module _ (one : (e : Conj) → length (f e) ≡ 1) where
@@ -51,36 +52,36 @@ module _ (f : Conj → List Conj) where
     gather-few [] = omega arith
     gather-few (e ∷ S) = omega (arith, union-length (map renumber (f e)) (gather f S), length-map (f e) renumber, one e, gather-few S)
 
-    pub gathered-few : (S T : Conjuncts) (k : ℕ) → 0 < k → k ≤ length S → length S ≤ mostConjuncts → T ≡ gather f (drop k S) → length T < mostConjuncts
-    gathered-few S T k h g m e = omega (arith, ap length e, gather-few (drop k S), length-drop k S)
+    pub gathered-few : (S T : Conjuncts) (k : ℕ) → k < length S → length S ≤ mostConjuncts → T ≡ gather f (take k S) → length T < mostConjuncts
+    gathered-few S T k h m e = omega (arith, ap length e, gather-few (take k S), length-take-le k S (omega arith))
 
-  pub gathered-canon : (S T : Conjuncts) (k : ℕ) → T ≡ gather f (drop k S) → Canon T
-  gathered-canon S T k e = subst Canon (sym e) (gather-canon f (drop k S))
+  pub gathered-canon : (S T : Conjuncts) (k : ℕ) → T ≡ gather f (take k S) → Canon T
+  gathered-canon S T k e = subst Canon (sym e) (gather-canon f (take k S))
 
   -- ---- a turn
 
-  module _ (s₀ s t : List ℕ) (b room k j : ℕ) (e : Conj) (fit : b + regionWords ≤ room) (in′ : room + regionWords ≤ length s₀)
+  module _ (s₀ s t : List ℕ) (b room k : ℕ) (e : Conj) (fit : b + regionWords ≤ room) (in′ : room + regionWords ≤ length s₀)
       (len : length s ≡ length s₀) (within : Within room s₀ s)
-      (next : j + 1 ≡ k) (few : k ≤ length (setOf s₀ b)) (this : e ≡ getD (setOf s b) j []) where
+      (few : k < length (setOf s₀ b)) (this : e ≡ getD (setOf s b) k []) where
     -- the conjunct is the set's own
-    own : e ≡ getD (setOf s₀ b) j []
-    own = this ∙ ap (λ S. getD S j []) (frame s₀ s room b len (omega arith) (inr fit) within)
+    own : e ≡ getD (setOf s₀ b) k []
+    own = this ∙ ap (λ S. getD S k []) (frame s₀ s room b len (omega arith) (inr fit) within)
 
     pub own-numbered : All Numbered (setOf s₀ b) → Numbered e
-    own-numbered h = subst Numbered (sym own) (all-getD Numbered (setOf s₀ b) j [] h (omega arith))
+    own-numbered h = subst Numbered (sym own) (all-getD Numbered (setOf s₀ b) k [] h few)
 
-    module _ (P : Conjuncts → Type 0) (so : setOf s room ≡ gather f (drop k (setOf s₀ b))) where
-      step : unionOf (map renumber (f e)) (setOf s room) ≡ gather f (drop j (setOf s₀ b))
-      step = ap₂ (λ d T. unionOf (map renumber (f d)) T) own so ∙ gather-next (setOf s₀ b) k j next few
+    module _ (P : Conjuncts → Type 0) (so : setOf s room ≡ gather f (take k (setOf s₀ b))) where
+      step : unionOf (map renumber (f e)) (setOf s room) ≡ gather f (take (k + 1) (setOf s₀ b))
+      step = ap₂ (λ d T. unionOf (map renumber (f d)) T) own so ∙ gather-next (setOf s₀ b) k few
 
-      pub gathered-more : (a : Answer) → a ≡ Done → Added a P (map renumber (f e)) room s t → setOf t room ≡ gather f (drop j (setOf s₀ b))
+      pub gathered-more : (a : Answer) → a ≡ Done → Added a P (map renumber (f e)) room s t → setOf t room ≡ gather f (take (k + 1) (setOf s₀ b))
       gathered-more a q h = subst (λ r. Added r P (map renumber (f e)) room s t) q h ∙ step
 
       pub gathered-refused : (a : Answer) (n : ℕ) → a ≡ Refused n → Added a P (map renumber (f e)) room s t → P (gather f (setOf s₀ b))
           → limits (gather f (setOf s₀ b)) ≡ refused n
       gathered-refused a n q h p =
           subst (λ r. Added r P (map renumber (f e)) room s t) q h (gather f (setOf s₀ b)) (gather-canon f (setOf s₀ b))
-          (λ x m. gather-mono f (drop j (setOf s₀ b)) (setOf s₀ b) (sub-drop j (setOf s₀ b)) x (subst (λ S. Mem x S) step m)) p
+          (λ x m. gather-mono f (take (k + 1) (setOf s₀ b)) (setOf s₀ b) (sub-take (k + 1) (setOf s₀ b)) x (subst (λ S. Mem x S) step m)) p
 
 -- ---- the rule
 
@@ -96,6 +97,6 @@ module _ (l : ℕ) (i : Instr) (S : Conjuncts) where
   rule-refused n h = h
 
   -- all is gathered
-  pub rule-done : (s : List ℕ) (b k : ℕ) → k ≡ 0 → setOf s b ≡ gather (before l i) (drop k S) → back l i S ≡ ok (setOf s b)
+  pub rule-done : (s : List ℕ) (b k : ℕ) → k ≡ length S → setOf s b ≡ gather (before l i) (take k S) → back l i S ≡ ok (setOf s b)
   unfolding back
-  rule-done s b k z h = ap limits (sym (rw z at h)) ∙ set-limits s b
+  rule-done s b k z h = ap limits (sym (h ∙ ap (gather (before l i)) (ap (λ n. take n S) z ∙ take-length S))) ∙ set-limits s b

@@ -16,7 +16,7 @@ ghost use Rattle.conjunct.specs.Word.{nodeOf, nodesOf};
 ghost use Rattle.conjunct.specs.Value.{conjOf};
 ghost use Rattle.conjunct.specs.Behind.{rightOf};
 ghost use Rattle.sets.specs.Region.{setOf, Within, Inserted, regionWords};
-ghost use Rattle.rules.specs.Adding.{sideOf, NoneLong, Added, Buffers, Given, GivenStatement, GivenSet, Labelled};
+ghost use Rattle.rules.specs.Adding.{sideOf, NoneLong, Added, Room, Buffers, Given, GivenStatement, GivenSet, Labelled};
 ghost use Rattle.rules.specs.Answers.{answered, Below};
 use code_table::Decoded;
 use conjunct::MOST_NODES;
@@ -130,7 +130,7 @@ fn assign_one(
 
 // One conjunct more, renumbered; false where the set would have over 64.
 fn add(s: &mut [u64], room: usize, e: &mut [u64], n: usize, seen: &mut [u64]) -> bool
-    requires { ⌜ (room + regionWords ≤ length (now s)) × (n ≤ mostNodes) × Buffers (now e) (now seen) ⌝ }
+    requires { ⌜ Room (now s) room × (n ≤ mostNodes) × Buffers (now e) (now seen) ⌝ }
     ensures { λ r. ⌜
         Inserted r room (renumber (conjOf (now (e .entry)) n)) (now (s .entry)) (now (s .exit))
         × Within room (now (s .entry)) (now (s .exit))
@@ -358,7 +358,7 @@ fn add_before(
 }
 
 // What the conjuncts of the region at b come to before the statement d, gathered in the empty room
-// from the last to the first.
+// from the first to the last.
 fn gather(
     s: &mut [u64],
     b: usize,
@@ -375,13 +375,13 @@ fn gather(
         × Within room (now (s .entry)) (now (s .exit))
         ⌝ }
 {
-    let mut k = sets::size(s, b);
-    while k > 0 {
-        k -= 1;
+    let count = sets::size(s, b);
+    let mut k: usize = 0;
+    while k < count {
         let n = sets::get(s, b, k, e);
         let answer = add_before(s, room, e, n, label, d, out, seen);
         match answer {
-            Answer::Done => {}
+            Answer::Done => k += 1,
             Answer::Refused(n) => return Answer::Refused(n),
         }
     }

@@ -7,13 +7,13 @@ use lib.ListN.{length, getD, drop}
 use borrow.Author.Tests.{not-true, not-false}
 use borrow.Author.Needs.{needs}
 use Rattle.model.specs.Conjunct.{Atom, atom, var, Conj, unionOf, renumber}
+use Rattle.model.specs.TidySets.{Canon}
 use Rattle.model.specs.Walk.{subsets}
 use Rattle.conjunct.specs.Word.{nodeOf, nodesOf}
 use Rattle.conjunct.specs.Value.{conjOf}
-use Rattle.sets.proofs.Inserting.{union-none}
 use Rattle.sets.proofs.Rows.{within-trans}
 use Rattle.sets.specs.Region.{setOf, Within}
-use Rattle.rules.proofs.Additions.{Chosen, chosen-length, chosen-at, turn-in, turn-out}
+use Rattle.rules.proofs.Additions.{Chosen, chosen-length, chosen-at, union-none, still-canon, turn-in, turn-out}
 use Rattle.rules.proofs.Choices.{atoms-length, all-atoms}
 use Rattle.rules.proofs.add_subsets.Statement.{statement}
 use Rattle.rules.proofs.add_subsets.Tie as tie
@@ -24,11 +24,21 @@ Inv-loop s₀ room e n atoms v out₀ seen₀ k j₀ s out seen j =
     (j₀ ≡ 2 ^ length atoms) × (j ≤ j₀) × (length s ≡ length s₀) × (length out ≡ length out₀) × (length seen ≡ length seen₀) × Within room s₀ s
     × ((ks : List Atom) (x ty : ℕ) → nodesOf atoms ≡ map atom ks → nodeOf v ≡ var x ty
     → setOf s room ≡ unionOf (drop j (Chosen ks x ty (conjOf e n))) (setOf s₀ room))
+    × Canon (setOf s room)
 
 abbrev μ-loop : tie.MeasureT-loop
 μ-loop s₀ room e n atoms v out₀ seen₀ k j₀ s out seen j = j
 
 -- places on the way, by the place from which they are seen
+abbrev chosen-before : tie.After-add-arg3 Inv-loop μ-loop → tie.After-choose Inv-loop μ-loop
+chosen-before c = c .before .before .before .before .before
+
+abbrev copied-before : tie.After-choose Inv-loop μ-loop → tie.After-copy Inv-loop μ-loop
+copied-before c = c .before .before .before .before
+
+abbrev loop-of : tie.After-copy Inv-loop μ-loop → tie.At-loop Inv-loop μ-loop
+loop-of c = c .before .before .before
+
 abbrev start : tie.After-power Inv-loop μ-loop → tie.Start Inv-loop μ-loop
 start c = c .before .before .before .before .before .before
 
@@ -47,6 +57,7 @@ loop-holds c =
       λ i h. refl,
       λ ks x ty p q. union-none (Chosen ks x ty e) (setOf (a .s .now) (a .room)) (c .power .result)
           (c .power .ensures ∙ ap (2 ^_) (sym (atoms-length (a .atoms .now) ks p)) ∙ sym (chosen-length ks x ty e)),
+      start c .pre .0 .room .canon,
     )
 
 sub-j : tie.Need-sub-j Inv-loop μ-loop
@@ -59,7 +70,16 @@ choose-requires : tie.Need-choose-requires Inv-loop μ-loop
 choose-requires c κs = search needs
 
 add-requires : tie.Need-add-requires Inv-loop μ-loop
-add-requires c κs = search needs
+add-requires c κs =
+    let ch = chosen-before c in
+    let co = copied-before ch in
+    let lp = loop-of co .loop in
+    let given = start (loop-of co .before) .pre .0 in
+    let out = ch .choose .kept .0 ∙ co .copy .kept .1 .1 .0 ∙ lp .inv .3 in (
+      record { there = omega (arith, lp .inv .2, given .room .there); canon = lp .inv .7 },
+      given .few,
+      (omega (arith, out, given .buffers .0), omega (arith, lp .inv .4, given .buffers .1)),
+    )
 
 same-length : tie.Need-same-length Inv-loop μ-loop
 same-length c = search needs
@@ -83,7 +103,7 @@ abbrev chosen : Turned → tie.After-choose Inv-loop μ-loop
 chosen c = added c .before .before .before .before .before .before
 
 abbrev copied : Turned → tie.After-copy Inv-loop μ-loop
-copied c = chosen c .before .before .before .before
+copied c = copied-before (chosen c)
 
 abbrev in-loop : Turned → tie.In-loop Inv-loop μ-loop
 in-loop c = copied c .before .before
@@ -92,7 +112,7 @@ abbrev at-loop : Turned → tie.At-loop Inv-loop μ-loop
 at-loop c = in-loop c .before
 
 abbrev entry : Turned → tie.Start Inv-loop μ-loop
-entry c = at-loop c .before .before .before .before .before .before .before
+entry c = start (at-loop c .before)
 
 -- the conjunct, and what is chosen of it in this turn
 abbrev whole : Turned → Conj
@@ -147,6 +167,7 @@ loop-again c =
       λ ks x ty p q.
           turn-in (Chosen ks x ty (whole t)) (a .room) (a .s .now) (lp .s) (i .last .0) (lp .j) (lp .j - 1) (new t) (next t) (few t ks x ty p)
           (entry t .pre .0 .room .canon) (this t ks x ty p q) (lp .inv .6 ks x ty p q) (i .result) (not-false _ (c .if1 .left)) (i .ensures .0),
+      still-canon (new t) (a .room) (lp .s) (i .last .0) (i .result) (not-false _ (c .if1 .left)) (lp .inv .7) (i .ensures .0),
     )
 
 same-length-4 : tie.Need-same-length-4 Inv-loop μ-loop

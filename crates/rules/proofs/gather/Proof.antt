@@ -1,9 +1,9 @@
--- `rules::gather` meets its contract.
+-- `rules::gather` meets its contract: after k turns the room has what the first k conjuncts come to.
 use mathlib.Core.List.{List}
 use mathlib.Core.Path.{_≡_, refl, _∙_}
-use Prim.Native.Nat.{_+_, _-_, _≤_}
+use Prim.Native.Nat.{_-_, _≤_, _<_}
 use native.Mathlib.Omega.{arith}
-use lib.ListN.{length, drop}
+use lib.ListN.{length, take}
 use borrow.Author.Needs.{needs}
 use Rattle.model.specs.Conjunct.{Conj, Conjuncts}
 use Rattle.model.specs.Kinds.{aStore}
@@ -21,13 +21,13 @@ use Rattle.rules.proofs.gather.Statement.{statement}
 use Rattle.rules.proofs.gather.Tie as tie
 
 abbrev Inv-loop : tie.InvT-loop
-Inv-loop s₀ b room label d e₀ out₀ seen₀ k₀ s e out seen k =
-    (k ≤ k₀) × (k₀ ≡ length (setOf s₀ b)) × (k₀ ≤ mostConjuncts) × (length s ≡ length s₀) × (length e ≡ length e₀) × (length out ≡ length out₀)
+Inv-loop s₀ b room label d e₀ out₀ seen₀ count k₀ s e out seen k =
+    (k ≤ count) × (count ≡ length (setOf s₀ b)) × (count ≤ mostConjuncts) × (length s ≡ length s₀) × (length e ≡ length e₀) × (length out ≡ length out₀)
     × (length seen ≡ length seen₀)
-    × Within room s₀ s × (setOf s room ≡ gather (before label (instrOf d)) (drop k (setOf s₀ b)))
+    × Within room s₀ s × (setOf s room ≡ gather (before label (instrOf d)) (take k (setOf s₀ b)))
 
 abbrev μ-loop : tie.MeasureT-loop
-μ-loop s₀ b room label d e₀ out₀ seen₀ k₀ s e out seen k = k
+μ-loop s₀ b room label d e₀ out₀ seen₀ count k₀ s e out seen k = count - k
 
 -- ---- a turn of the loop
 
@@ -70,11 +70,8 @@ this c = conjOf (c .get .last .1 .1 .1 .0) (c .get .result)
 abbrev Premise : Got → Conjuncts → Type 0
 Premise c G = OfKind aStore (entry c .args .d) → NoneLong G
 
-next : (c : Got) → at-loop c .loop .k - 1 + 1 ≡ at-loop c .loop .k
-next c = omega (arith, in-loop c .loop-test .taken)
-
-few : (c : Got) → at-loop c .loop .k ≤ length (setOf (entry c .args .s .now) (entry c .args .b))
-few c = omega (arith, at-loop c .loop .inv .0, at-loop c .loop .inv .1)
+few : (c : Got) → at-loop c .loop .k < length (setOf (entry c .args .s .now) (entry c .args .b))
+few c = omega (arith, in-loop c .loop-test .taken, at-loop c .loop .inv .1)
 
 size-requires : tie.Need-size-requires Inv-loop μ-loop
 size-requires c κs = search needs
@@ -91,11 +88,8 @@ loop-holds c =
       refl,
       refl,
       λ i h. refl,
-      start .pre .0 .empty ∙ gather-none (before (a .label) (instrOf (a .d))) (setOf (a .s .now) (a .b)) (c .size .result) (c .size .ensures .0),
+      start .pre .0 .empty ∙ gather-none (before (a .label) (instrOf (a .d))) (setOf (a .s .now) (a .b)),
     )
-
-sub-k : tie.Need-sub-k Inv-loop μ-loop
-sub-k c = search needs
 
 get-requires : tie.Need-get-requires Inv-loop μ-loop
 get-requires c κs = search needs
@@ -122,15 +116,18 @@ add-before-requires c κs =
       };
       space =
           λ n. gathered-few (comes-to t) (λ d. before-one (a .d) (a .label) d (p .statement .kind) n) S (setOf (lp .s) (a .room))
-          (lp .k) (omega (arith, in-loop t .loop-test .taken)) (few t) full (lp .inv .8);
+          (lp .k) (few t) full (lp .inv .8);
       statement = p .statement;
       numbered =
-          own-numbered (comes-to t) (a .s .now) (lp .s) (lp .s) (a .b) (a .room) (lp .k) (lp .k - 1) (this t)
-          (p .apart) (p .there) (lp .inv .3) (lp .inv .7) (next t) (few t) (e .ensures .1) (p .numbered);
+          own-numbered (comes-to t) (a .s .now) (lp .s) (lp .s) (a .b) (a .room) (lp .k) (this t)
+          (p .apart) (p .there) (lp .inv .3) (lp .inv .7) (few t) (e .ensures .1) (p .numbered);
     }
 
 enum-told : tie.Need-enum-told Inv-loop μ-loop
 enum-told c = search needs
+
+add-k : tie.Need-add-k Inv-loop μ-loop
+add-k c = search needs
 
 loop-less : tie.Need-loop-less Inv-loop μ-loop
 loop-less c = search needs
@@ -151,8 +148,8 @@ loop-again c =
       r .kept .1 .1 .1 .1 .1 .1 .0 ∙ lp .inv .5,
       r .kept .1 .1 .1 .1 .1 .1 .1 .0 ∙ lp .inv .6,
       within-trans (a .room) (a .s .now) (lp .s) (r .last .0) (lp .inv .7) (r .ensures .1),
-      gathered-more (comes-to t) (a .s .now) (lp .s) (r .last .0) (a .b) (a .room) (lp .k) (lp .k - 1) (this t) (p .apart) (p .there) (lp .inv .3)
-          (lp .inv .7) (next t) (few t) (e .ensures .1) (Premise t) (lp .inv .8) (r .result) (c .enum-told .given .1) (r .ensures .0),
+      gathered-more (comes-to t) (a .s .now) (lp .s) (r .last .0) (a .b) (a .room) (lp .k) (this t) (p .apart) (p .there) (lp .inv .3)
+          (lp .inv .7) (few t) (e .ensures .1) (Premise t) (lp .inv .8) (r .result) (c .enum-told .given .1) (r .ensures .0),
     )
 
 enum-known-answer : tie.Need-enum-known-answer Inv-loop μ-loop
@@ -180,8 +177,8 @@ returns c =
     let r = refused-at c .add-before in
     let n = c .before .answer .given .0 .0 in
     let limited =
-    gathered-refused (comes-to t) (a .s .now) (lp .s) (r .last .0) (a .b) (a .room) (lp .k) (lp .k - 1) (this t) (p .apart) (p .there) (lp .inv .3)
-    (lp .inv .7) (next t) (few t) (e .ensures .1) (Premise t) (lp .inv .8) (r .result) n (c .before .answer .given .1) (r .ensures .0)
+    gathered-refused (comes-to t) (a .s .now) (lp .s) (r .last .0) (a .b) (a .room) (lp .k) (this t) (p .apart) (p .there) (lp .inv .3)
+    (lp .inv .7) (few t) (e .ensures .1) (Premise t) (lp .inv .8) (r .result) n (c .before .answer .given .1) (r .ensures .0)
     (store-premise (a .d) (a .label) (a .s .now) (a .b)) in (
       rule-refused (a .label) (instrOf (a .d)) (setOf (a .s .now) (a .b)) n limited,
       within-trans (a .room) (a .s .now) (lp .s) (r .last .0) (lp .inv .7) (r .ensures .1),
@@ -203,7 +200,7 @@ returns-2 : tie.Need-returns-2 Inv-loop μ-loop
 returns-2 c =
     let a = entry-of-loop (c .before) .args in
     let lp = c .before .loop in
-    (rule-done (a .label) (instrOf (a .d)) (setOf (a .s .now) (a .b)) (lp .s) (a .room) (lp .k) (omega arith) (lp .inv .8), lp .inv .7)
+    (rule-done (a .label) (instrOf (a .d)) (setOf (a .s .now) (a .b)) (lp .s) (a .room) (lp .k) (omega (arith, lp .inv .0, lp .inv .1)) (lp .inv .8), lp .inv .7)
 
 pub gather-spec : {M : Type 1} → statement M
 gather-spec =
@@ -213,10 +210,10 @@ gather-spec =
     μ-loop
     size-requires
     loop-holds
-    sub-k
     get-requires
     add-before-requires
     enum-told
+    add-k
     loop-less
     loop-again
     enum-known-answer
