@@ -13,13 +13,13 @@ use Rattle.model.specs.Conjunct.{Conjuncts}
 use Rattle.model.specs.Lists.{All}
 use Rattle.model.specs.Program.{Program, Tables, layoutOf, readProgram}
 use Rattle.model.specs.Refusals.{Out, ok, refused, _>>=_, mapped, wrongBlocks}
-use Rattle.model.proofs.Results.{mapped-refused}
+use Rattle.model.proofs.basics.Results.{mapped-refused}
 use Rattle.model.specs.Demands.{AnalysisRefusal, Demand1}
 use Rattle.model.specs.Walk.{derived}
 use Rattle.model.specs.Formed.{Formed}
 use Rattle.model.proofs.Demand1.{lent-answer, demand1}
-use Rattle.model.proofs.Derives.{derived-formed}
-use Rattle.model.proofs.Lent.{scratch-as-it-was, scratch-worked}
+use Rattle.model.proofs.walks.Derives.{derived-formed}
+use Rattle.model.proofs.files.Lent.{scratch-as-it-was, scratch-worked}
 use Rattle.model.proofs.RefusalNumbers.{read-refusals-analysis}
 use Rattle.bytes_le.specs.Overlay.{overlay}
 use Rattle.bytes_le.proofs.Overlays.{overlay-read}

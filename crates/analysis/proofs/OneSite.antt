@@ -10,7 +10,7 @@ use Rattle.model.specs.Conjunct.{Conjuncts, Node, var}
 use Rattle.model.specs.Refusals.{_>>=_}
 use Rattle.model.specs.Walk.{here, sites}
 use Rattle.model.specs.TidySets.{Tidy}
-use Rattle.model.proofs.Tidied.{sites-tidy}
+use Rattle.model.proofs.walks.Tidied.{sites-tidy}
 use Rattle.sets.specs.Region.{setOf, Within}
 use Rattle.sets.proofs.Rows.{frame}
 use Rattle.rules.specs.Answers.{answered, Below}

@@ -16,9 +16,9 @@ use Rattle.model.specs.Walk.{here, sites, start, join, derived}
 use Rattle.model.specs.Nesting.{Nested}
 use Rattle.model.specs.TidySets.{Tidy}
 use Rattle.model.specs.Enclosing.{walkOut, From}
-use Rattle.model.proofs.Results.{bind-assoc}
-use Rattle.model.proofs.Rising.{from-start, from-end, Next, statement, bare, from-next}
-use Rattle.model.proofs.KindNumbers.{IsNumber, kind-number}
+use Rattle.model.proofs.basics.Results.{bind-assoc}
+use Rattle.model.proofs.walks.Rising.{from-start, from-end, Next, statement, bare, from-next}
+use Rattle.model.proofs.files.KindNumbers.{IsNumber, kind-number}
 use Rattle.code_table.specs.declared.Decoded.{Decoded}
 use Rattle.code_table.specs.Statements.{stmtFor, stmtFrom}
 use Rattle.code_table.specs.Table.{tableOf, rowIn, stmtIn, mateIn, KnownBelow}

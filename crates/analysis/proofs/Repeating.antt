@@ -13,15 +13,15 @@ use Rattle.model.specs.Refusals.{Out, ok, _>>=_}
 use Rattle.model.specs.TidySets.{Mem, Sub, Tidy}
 use Rattle.model.specs.Touch.{isVar, isLoad, some, writes, touches}
 use Rattle.model.specs.Walk.{back, start}
-use Rattle.model.proofs.Backward.{LeftAlone, same-way-out}
-use Rattle.model.proofs.Canonical.{union-comm, union-absorb, union-left, union-right}
-use Rattle.model.proofs.KindNumbers.{IsNumber, kind-number, operation-most}
-use Rattle.model.proofs.Limits.{limits-inv, fine-limits}
-use Rattle.model.proofs.Results.{bind-ok, bind-assoc, gives-ok}
-use Rattle.model.proofs.Skip.{walk-skip}
-use Rattle.model.proofs.Tests.{case}
-use Rattle.model.proofs.Tidied.{site-tidy, start-tidy}
-use Rattle.model.proofs.Walks.{back-piece}
+use Rattle.model.proofs.walks.Backward.{LeftAlone, same-way-out}
+use Rattle.model.proofs.conjuncts.Canonical.{union-comm, union-absorb, union-left, union-right}
+use Rattle.model.proofs.files.KindNumbers.{IsNumber, kind-number, operation-most}
+use Rattle.model.proofs.conjuncts.Limits.{limits-inv, fine-limits}
+use Rattle.model.proofs.basics.Results.{bind-ok, bind-assoc, gives-ok}
+use Rattle.model.proofs.walks.Skip.{walk-skip}
+use Rattle.model.proofs.basics.Tests.{case}
+use Rattle.model.proofs.walks.Tidied.{site-tidy, start-tidy}
+use Rattle.model.proofs.walks.Walks.{back-piece}
 use Rattle.code_table.specs.declared.Decoded.{Decoded}
 use Rattle.code_table.specs.Statements.{stmtFor, stmtFrom}
 use Rattle.code_table.specs.Table.{stmtIn, mateIn}

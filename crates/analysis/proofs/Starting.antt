@@ -14,9 +14,9 @@ use Rattle.model.specs.Refusals.{ok}
 use Rattle.model.specs.Sizes.{mostNodes}
 use Rattle.model.specs.Walk.{zeroed, gather, start}
 use Rattle.model.specs.TidySets.{Fine}
-use Rattle.model.proofs.Canonical.{insert-length}
-use Rattle.model.proofs.Gather.{gather-every}
-use Rattle.model.proofs.Limits.{fine-limits, all-short}
+use Rattle.model.proofs.conjuncts.Canonical.{insert-length}
+use Rattle.model.proofs.conjuncts.Gather.{gather-every}
+use Rattle.model.proofs.conjuncts.Limits.{fine-limits, all-short}
 use Rattle.conjunct.specs.Word.{nodeOf, nodesOf}
 use Rattle.sets.specs.Region.{regionWords, few, slotAt, rowsFrom, rowsOf, setOf, Within, Inserted}
 use Rattle.sets.proofs.Rows.{set-few, frame}

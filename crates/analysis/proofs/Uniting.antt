@@ -11,11 +11,11 @@ use Rattle.model.specs.Refusals.{ok, refused, _>>=_, tooManyConjuncts}
 use Rattle.model.specs.Sizes.{mostConjuncts}
 use Rattle.model.specs.Walk.{start}
 use Rattle.model.specs.TidySets.{Tidy}
-use Rattle.model.proofs.Canonical.{union-every}
-use Rattle.model.proofs.Limits.{fine-limits, all-short}
-use Rattle.model.proofs.Results.{gives-ok}
-use Rattle.model.proofs.Tests.{true→T}
-use Rattle.model.proofs.Tidied.{start-tidy, union-tidy}
+use Rattle.model.proofs.conjuncts.Canonical.{union-every}
+use Rattle.model.proofs.conjuncts.Limits.{fine-limits, all-short}
+use Rattle.model.proofs.basics.Results.{gives-ok}
+use Rattle.model.proofs.basics.Tests.{true→T}
+use Rattle.model.proofs.walks.Tidied.{start-tidy, union-tidy}
 use Rattle.sets.specs.Region.{regionWords, few, setOf, Inserted, Joined}
 use Rattle.sets.proofs.Rows.{few-most, set-few, set-same}
 use Rattle.rules.specs.Answers.{Below}

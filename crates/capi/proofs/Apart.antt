@@ -15,9 +15,9 @@ use Rattle.model.specs.Demands.{FromTo, ResultOrRefusal, OrLent, AnalysisRefusa
 use Rattle.model.specs.Lent.{leftBy}
 use Rattle.model.proofs.Demand1.{demand1}
 use Rattle.model.proofs.Demand3.{demand3}
-use Rattle.model.proofs.Results.{refused-ok}
-use Rattle.model.proofs.Verdicts.{verdict-answer}
-use Rattle.model.proofs.Causes.{causes}
+use Rattle.model.proofs.basics.Results.{refused-ok}
+use Rattle.model.proofs.filters.Verdicts.{verdict-answer}
+use Rattle.model.proofs.filters.Causes.{causes}
 use Rattle.analysis.specs.Deriving.{analysisWords, derivation}
 use Rattle.analysis.proofs.Files.{derivation-answers}
 use Rattle.interpreter.specs.Answers.{runLent}

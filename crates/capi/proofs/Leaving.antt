@@ -13,8 +13,8 @@ use Rattle.model.specs.Run.{Ran as ModelRan, run}
 use Rattle.model.specs.Guarded.{Guarded as ModelGuarded, held, passed}
 use Rattle.model.specs.Demands.{ResultOrRefusal, OrLent, GuardedRefusal, Exact}
 use Rattle.model.specs.Lent.{leftBy, leftByRun}
-use Rattle.model.proofs.Lent.{scratch-as-it-was}
-use Rattle.model.proofs.Results.{ok-eq, refused-ok}
+use Rattle.model.proofs.files.Lent.{scratch-as-it-was}
+use Rattle.model.proofs.basics.Results.{ok-eq, refused-ok}
 use Rattle.analysis.specs.Deriving.{analysisWords, Derives}
 use Rattle.analysis.specs.declared.Derived.{Derived}
 use Rattle.analysis.specs.declared.Derived.the-variants.{Written, Refused as NotDerived}

@@ -10,7 +10,7 @@ use borrow.Author.Tests.{eq-eqb, ne-eqb, le-leb, lt-leb, lt-ltb}
 use Rattle.model.specs.Sizes.{nodeSize, mostFields}
 use Rattle.model.specs.Lists.{every}
 use Rattle.model.specs.Bytes.{entries}
-use Rattle.model.proofs.Tests.{eqb-self}
+use Rattle.model.proofs.basics.Tests.{eqb-self}
 use Rattle.model.specs.Conjunct.{Source, field, Atom, Conj}
 use Rattle.model.specs.Condition.{nodeRight, numbered}
 use Rattle.condition.specs.Answers.{nodeBy, nodeFrom, rightBy, NodeIs, partNodes}

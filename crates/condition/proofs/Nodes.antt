@@ -18,9 +18,9 @@ use Rattle.model.specs.Refusals.{ok, refused, check, wrongCondition}
 use Rattle.model.specs.Program.{typeRight}
 use Rattle.arith.specs.Step.{fits}
 use Rattle.arith.specs.Words.{immediate}
-use Rattle.model.proofs.Tests.{and-left, and-right, true→T}
-use Rattle.model.proofs.Every.{every-at}
-use Rattle.model.proofs.Parts.{Narrow, u16-narrow, u32-narrow, getD-part, getD-behind, entries-step, entries-getD, length-entries}
+use Rattle.model.proofs.basics.Tests.{and-left, and-right, true→T}
+use Rattle.model.proofs.basics.Every.{every-at}
+use Rattle.model.proofs.files.Parts.{Narrow, u16-narrow, u32-narrow, getD-part, getD-behind, entries-step, entries-getD, length-entries}
 use Rattle.condition.specs.Numbers.{sumKind, conversionKind, fileKinds}
 use Rattle.condition.specs.Answers.{nodeBy, nodeFrom, constantRight, readingRight, operationRight, rightBy, NodeIs}
 use Rattle.condition.specs.declared.Node.{Node}

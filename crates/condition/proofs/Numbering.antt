@@ -13,10 +13,10 @@ use Rattle.model.specs.Lists.{every}
 use Rattle.model.specs.Conjunct.{Source, field, cell, Atom, Node, const, atom, var, op, conv, Conj, sameSource, sameAtom, without, atoms}
 use Rattle.model.specs.Conjunct.{rank, renamed, onAtom, renumber, orderNodes}
 use Rattle.model.specs.Condition.{numbered}
-use Rattle.model.proofs.Tests.{case, true→T, and-left, and-right, eqb-self}
-use Rattle.model.proofs.Atoms.{source-eq, source-self, atom-eq}
-use Rattle.model.proofs.Order.{isEq-true, nodes-eq, nodes-self}
-use Rattle.model.proofs.Every.{every-same}
+use Rattle.model.proofs.basics.Tests.{case, true→T, and-left, and-right, eqb-self}
+use Rattle.model.proofs.conjuncts.Atoms.{source-eq, source-self, atom-eq}
+use Rattle.model.proofs.conjuncts.Order.{isEq-true, nodes-eq, nodes-self}
+use Rattle.model.proofs.basics.Every.{every-same}
 
 -- ---- counting
 

@@ -9,9 +9,9 @@ use lib.Dec.{ltb}
 use lib.ListN.{length, getD, take, drop}
 use borrow.Author.Tests.{ltb-true, ltb-false}
 use Rattle.model.specs.Sizes.{nodeSize}
-use Rattle.model.proofs.Tests.{case}
-use Rattle.model.proofs.Order.{compare-less, compare-more, compare-same, then-assoc}
-use Rattle.model.proofs.Parts.{length-part, length-entries}
+use Rattle.model.proofs.basics.Tests.{case}
+use Rattle.model.proofs.conjuncts.Order.{compare-less, compare-more, compare-same, then-assoc}
+use Rattle.model.proofs.files.Parts.{length-part, length-entries}
 use lib.Seq.{drop-cons, drop-drop, take-add, take-length, drop-length}
 use Rattle.model.specs.Lists.{every}
 use Rattle.model.specs.Bytes.{part, entries}

@@ -13,12 +13,12 @@ use borrow.Author.Tests.{eq-eqb, ne-eqb, lt-ltb, le-ltb}
 use Rattle.model.specs.Sizes.{pairSize, nodeSize}
 use Rattle.model.specs.Lists.{every}
 use Rattle.model.specs.Refusals.{ok, refused, check, wrongCondition}
-use Rattle.model.proofs.Results.{refused-ok}
+use Rattle.model.proofs.basics.Results.{refused-ok}
 use Rattle.model.specs.Bytes.{Pair, pairAt, entries, pairsAt, chained}
 use Rattle.model.specs.Program.{typeRight}
 use Rattle.model.specs.Condition.{nodeAt, nodeRight}
-use Rattle.model.proofs.Results.{check-ok}
-use Rattle.model.proofs.Parts.{entries-step}
+use Rattle.model.proofs.basics.Results.{check-ok}
+use Rattle.model.proofs.files.Parts.{entries-step}
 use Rattle.condition.specs.Numbers.{typeCodes}
 use Rattle.condition.specs.Answers.{formed, nodeFrom, nodeOut, partRight}
 use Rattle.condition.specs.declared.Node.{Node}

@@ -14,7 +14,7 @@ use Rattle.model.specs.Refusals.{Out, ok, refused, _>>=_, check, wrongCondition
 use Rattle.model.specs.Bytes.{entries}
 use Rattle.model.specs.Conjunct.{Conj}
 use Rattle.model.specs.Condition.{operation, conversion, typeNode, typeNodes, single, whole}
-use Rattle.model.proofs.Tests.{case}
+use Rattle.model.proofs.basics.Tests.{case}
 use Rattle.condition.specs.Numbers.{sumKind, conversionKind}
 use Rattle.condition.specs.Answers.{nodeFrom, NodeIs, partNodes}
 use Rattle.condition.specs.declared.Node.{Node}

@@ -16,17 +16,17 @@ use Rattle.model.specs.Program.{typeRight}
 use Rattle.model.specs.Conjunct.{Conjuncts, _then_, orderNumbers, order}
 use Rattle.model.specs.Condition.{Condition, conjunctsAt, nodeAt, nodeRight, conjunctAt, nodesRight, lengthRight, whole, numbered}
 use Rattle.model.specs.Condition.{isBefore, rising, readCondition}
-use Rattle.model.proofs.Tests.{case, and-left, and-right}
-use Rattle.model.proofs.Results.{check-ok, ok-eq}
-use Rattle.model.proofs.Every.{every-of-map, every-at}
-use Rattle.model.proofs.Parts.{length-entries, entries-getD, chained-le, chained-inside, length-part, entries-part}
+use Rattle.model.proofs.basics.Tests.{case, and-left, and-right}
+use Rattle.model.proofs.basics.Results.{check-ok, ok-eq}
+use Rattle.model.proofs.basics.Every.{every-of-map, every-at}
+use Rattle.model.proofs.files.Parts.{length-entries, entries-getD, chained-le, chained-inside, length-part, entries-part}
 use Rattle.condition.specs.Answers.{partNodes, partRight, pairPart, pairRight, pairPlace, pairsOf, typesIn, linked}
 use Rattle.condition.specs.Answers.{sizes, sizesOf, ConditionIsRead, typesOf, conjunctsOf}
 use Rattle.condition.specs.declared.Counts.{Counts}
 use Rattle.condition.proofs.Nodes.{node-narrow, right-narrow}
 use Rattle.condition.proofs.Passes.{pairsFrom, pairs-step}
 use Rattle.condition.proofs.Orders.{order-bytes}
-use Rattle.model.proofs.Results.{mapped-check}
+use Rattle.model.proofs.basics.Results.{mapped-check}
 
 -- ---- the part of a pair
 

@@ -4,14 +4,14 @@ use mathlib.Core.Path.{_≡_, refl, ap}
 use Prim.Native.Nat.{ℕ, compare, Ordering, Ordering·lt, Ordering·eq, Ordering·gt}
 use lib.Dec.{isEq}
 use lib.ListN.{length}
-use Rattle.model.proofs.Tests.{case, true→T}
-use Rattle.model.proofs.Atoms.{atom-eq, atom-self}
-use Rattle.model.proofs.Order.{nodes-eq}
+use Rattle.model.proofs.basics.Tests.{case, true→T}
+use Rattle.model.proofs.conjuncts.Atoms.{atom-eq, atom-self}
+use Rattle.model.proofs.conjuncts.Order.{nodes-eq}
 use Rattle.model.specs.Conjunct.{Atom, Node, const, atom, var, op, conv, Conj, _then_, orderNodes, order, sameAtom, onAtom}
 use Rattle.model.specs.Walk.{onArray}
 use Rattle.model.specs.Touch.{isLoad}
 use Rattle.conjunct.proofs.node.Atoms.{alike}
-use Rattle.model.proofs.Order.{compare-same}
+use Rattle.model.proofs.conjuncts.Order.{compare-same}
 
 module _ (t k x ty : ℕ) where
   -- a load by the variable

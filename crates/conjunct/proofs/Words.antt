@@ -10,7 +10,7 @@ use lib.ListN.{length, take, drop, getD, set, length-set}
 use lib.Seq.{drop-cons, take-suc, take-suc-set, drop-set-lt, getD-drop, getD-take, length-take-le, drop-length}
 use Rattle.model.specs.Conjunct.{Node, _then_, orderNumbers}
 use Rattle.model.specs.Touch.{some}
-use Rattle.model.proofs.Order.{compare-less, compare-more, compare-same}
+use Rattle.model.proofs.conjuncts.Order.{compare-less, compare-more, compare-same}
 use Rattle.conjunct.specs.Word.{nodeOf, nodesOf}
 
 -- ---- the order

@@ -10,8 +10,8 @@ use Rattle.model.specs.Nesting.{Nested}
 use Rattle.model.specs.Sizes.{mostNested}
 use Rattle.model.specs.Placement.{IfAt, WhileAt, Laid}
 use Rattle.model.specs.Enclosing.{Enclosing, top, in-yes, in-no, in-while, walkOut}
-use Rattle.model.proofs.Laid.{laid-le}
-use Rattle.model.proofs.Results.{bind-assoc}
+use Rattle.model.proofs.walks.Laid.{laid-le}
+use Rattle.model.proofs.basics.Results.{bind-assoc}
 use Rattle.conjunct.proofs.node.WordOrder.{Tri, less, equal, more, tri}
 use Rattle.enclosing.specs.Blocks.{blockEnd, NoneFrom, Innermost}
 use Rattle.enclosing.specs.declared.Block.the-variants.{At}

@@ -5,7 +5,7 @@ use native.Mathlib.Decide.{decLt}
 use native.Mathlib.Omega.{arith}
 use Rattle.model.specs.Code.{Stmt, if, while}
 use Rattle.model.specs.Kinds.{Kind, aNumber, aCopy, anOperation, aConversion, aRead, aLoad, aStore, aSite, anIf, anElse, anEnd, aWhile, noKind, kindOf}
-use Rattle.model.proofs.KindNumbers.{IsNumber, kind-number}
+use Rattle.model.proofs.files.KindNumbers.{IsNumber, kind-number}
 use Rattle.code_table.specs.declared.Decoded.{Decoded}
 use Rattle.code_table.specs.Statements.{stmtFor, stmtFrom}
 use Rattle.enclosing.specs.Blocks.{blockEnd, NoneFrom}

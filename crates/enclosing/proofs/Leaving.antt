@@ -12,7 +12,7 @@ use Rattle.model.specs.Placement.{Laid}
 use Rattle.model.specs.Refusals.{_>>=_}
 use Rattle.model.specs.Sizes.{mostNested, mostStatements}
 use Rattle.model.specs.Walk.{walk}
-use Rattle.model.proofs.Rising.{enclosing-end}
+use Rattle.model.proofs.walks.Rising.{enclosing-end}
 use Rattle.code_table.specs.Table.{tableOf, rowIn, stmtIn, mateIn}
 use Rattle.code_table.proofs.Meanings.{while-stmt}
 use Rattle.rules.specs.Answers.{answered}

@@ -7,8 +7,8 @@ use Rattle.model.specs.Conjunct.{Conjuncts}
 use Rattle.model.specs.Refusals.{ok, refused, _>>=_}
 use Rattle.model.specs.Walk.{walk}
 use Rattle.model.specs.TidySets.{Tidy}
-use Rattle.model.proofs.Results.{gives-ok}
-use Rattle.model.proofs.Tidied.{walk-tidy}
+use Rattle.model.proofs.basics.Results.{gives-ok}
+use Rattle.model.proofs.walks.Tidied.{walk-tidy}
 use Rattle.rules.specs.Answers.{answered}
 use Rattle.rules.specs.declared.Answer.{Answer}
 use Rattle.rules.specs.declared.Answer.the-variants.{Done, Refused}

@@ -15,9 +15,9 @@ use Rattle.model.specs.Bytes.{part, Pair, pairAt, pairsAt, chained}
 use Rattle.model.specs.Program.{typeRight}
 use Rattle.model.specs.Conjunct.{Conj}
 use Rattle.model.specs.Condition.{conjunctsAt, conjunctAt, lengthRight, nodesRight, whole, numbered, rising}
-use Rattle.model.proofs.Lists.{all-getD}
-use Rattle.model.proofs.Tests.{and-left, and-right}
-use Rattle.model.proofs.Parts.{length-part}
+use Rattle.model.proofs.basics.Lists.{all-getD}
+use Rattle.model.proofs.basics.Tests.{and-left, and-right}
+use Rattle.model.proofs.files.Parts.{length-part}
 use Rattle.condition.specs.Answers.{partNodes, pairPart, pairRight, ConditionIsRead, typesOf, conjunctsOf}
 use Rattle.condition.specs.declared.Counts.{Counts}
 use Rattle.condition.proofs.Table.{formBy, form-types, form-pair, counted-read, conjunct-inside, conjuncts-count}

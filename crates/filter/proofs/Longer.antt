@@ -18,10 +18,10 @@ use Rattle.model.specs.Bytes.{u32At, part, Pair, pairAt, pairsAt, chained}
 use Rattle.model.specs.Condition.{Condition, conditionBytes, conjunctsAt, readCondition}
 use Rattle.model.specs.Input.{Input, width, readingsOf, lengthsRight, readInput}
 use Rattle.model.specs.Failure.{verdict}
-use Rattle.model.proofs.Tests.{case, and-left, and-right}
-use Rattle.model.proofs.Results.{check-ok}
-use Rattle.model.proofs.Every.{every-all}
-use Rattle.model.proofs.Parts.{length-entries, length-part}
+use Rattle.model.proofs.basics.Tests.{case, and-left, and-right}
+use Rattle.model.proofs.basics.Results.{check-ok}
+use Rattle.model.proofs.basics.Every.{every-all}
+use Rattle.model.proofs.files.Parts.{length-entries, length-part}
 use Rattle.condition.specs.Answers.{pairRight, typesOf, conjunctsOf}
 use Rattle.condition.proofs.Table.{formBy, form-chained, form-pairs, pair-short, read-form, condition-read, table-inside}
 use Rattle.filter.specs.Verdict.{judged}

@@ -16,9 +16,9 @@ use Rattle.model.specs.Lists.{every}
 use Rattle.model.specs.Bytes.{entries}
 use Rattle.model.specs.Program.{typeRight}
 use Rattle.model.specs.Input.{Input, width, readingAt}
-use Rattle.model.proofs.Tests.{case}
-use Rattle.model.proofs.Every.{every-at}
-use Rattle.model.proofs.Parts.{length-entries, entries-getD}
+use Rattle.model.proofs.basics.Tests.{case}
+use Rattle.model.proofs.basics.Every.{every-at}
+use Rattle.model.proofs.files.Parts.{length-entries, entries-getD}
 use Rattle.input.specs.Answers.{InputIsRead, fieldPart, fieldReadings}
 use Rattle.input.proofs.Fields.{part-readings}
 use Rattle.plan.specs.Readings.{signedAt, Lent, Decoded, Taken}

@@ -14,8 +14,8 @@ use Rattle.model.specs.Condition.{Condition, readCondition}
 use Rattle.model.specs.Input.{Input, readingsOf, lengthsRight, readInput}
 use Rattle.model.specs.Filter.{hasReadings}
 use Rattle.model.specs.Failure.{Found, first, failureIn, verdict}
-use Rattle.model.proofs.Results.{ok-eq, refused-ok, check-ok, mapped-ok}
-use Rattle.model.proofs.Tests.{and-left, and-right}
+use Rattle.model.proofs.basics.Results.{ok-eq, refused-ok, check-ok, mapped-ok}
+use Rattle.model.proofs.basics.Tests.{and-left, and-right}
 use Rattle.input.specs.Answers.{InputIsRead}
 use Rattle.condition.specs.Answers.{sizes, sizesOf, ConditionIsRead, typesOf, conjunctsOf}
 use Rattle.condition.specs.declared.Counts.{Counts}

@@ -12,8 +12,8 @@ use borrow.Author.Tests.{ne-eqb}
 use Rattle.model.specs.Conjunct.{Conj, Conjuncts}
 use Rattle.model.specs.Sizes.{mostArrays}
 use Rattle.model.specs.Touch.{isVar, isLoad, some}
-use Rattle.model.proofs.Lists.{all-imp, all-append}
-use Rattle.model.proofs.Tests.{or-left, or-right}
+use Rattle.model.proofs.basics.Lists.{all-imp, all-append}
+use Rattle.model.proofs.basics.Tests.{or-left, or-right}
 use Rattle.conjunct.proofs.node.Looked.{low-variable, high-variable, at-variable, low-load, at-load}
 use Rattle.conjunct.specs.Word.{place2, place3, firstVariable, firstLoad, low4, nodeOf, nodesOf}
 use Rattle.footprint.specs.Footprints.{variableFlags, FreeVariable, FreeArray, Covers, CoversSet, Extends}

@@ -10,8 +10,8 @@ use Rattle.model.specs.Conjunct.{Conjuncts}
 use Rattle.model.specs.Kinds.{Kind, aNumber, aCopy, anOperation, aConversion, aRead, aLoad, aStore, aSite, anIf, anElse, anEnd, aWhile, noKind, kindOf}
 use Rattle.model.specs.Placement.{Laid}
 use Rattle.model.specs.Touch.{some, writes, touches}
-use Rattle.model.proofs.KindNumbers.{IsNumber, kind-number, operation-most}
-use Rattle.model.proofs.Laid.{laid-le}
+use Rattle.model.proofs.files.KindNumbers.{IsNumber, kind-number, operation-most}
+use Rattle.model.proofs.walks.Laid.{laid-le}
 use Rattle.code_table.specs.declared.Decoded.{Decoded}
 use Rattle.code_table.specs.Statements.{stmtFor, stmtFrom}
 use Rattle.footprint.specs.Footprints.{FreeVariable, FreeArray, CoversSet, Spares, SparedAll, PlainAndSpared}

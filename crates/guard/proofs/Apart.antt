@@ -11,8 +11,8 @@ use Rattle.model.specs.Failure.{verdict}
 use Rattle.model.specs.Run.{Ran, run}
 use Rattle.model.specs.Demands.{Exact}
 use Rattle.model.proofs.Demand3.{demand3}
-use Rattle.model.proofs.Verdicts.{verdict-answer}
-use Rattle.model.proofs.Results.{check-ok}
+use Rattle.model.proofs.filters.Verdicts.{verdict-answer}
+use Rattle.model.proofs.basics.Results.{check-ok}
 use Rattle.filter.specs.Verdict.{verdictOf}
 use Rattle.filter.specs.declared.Verdict.the-variants.{Pass}
 use Rattle.interpreter.specs.Answers.{runLent, Interprets}

@@ -16,9 +16,9 @@ use Rattle.model.specs.Guarded.{Guarded as ModelGuarded, held, passed, admitted
 use Rattle.model.specs.Demands.{GuardedRefusal, Demand1, Exact}
 use Rattle.model.specs.Lent.{ScratchLeft}
 use Rattle.model.proofs.Demand1.{lent-answer, demand1, accepted-refusals}
-use Rattle.model.proofs.Lent.{scratch-as-it-was, scratch-both}
-use Rattle.model.proofs.Results.{check-ok}
-use Rattle.model.proofs.Tests.{case, and-right}
+use Rattle.model.proofs.files.Lent.{scratch-as-it-was, scratch-both}
+use Rattle.model.proofs.basics.Results.{check-ok}
+use Rattle.model.proofs.basics.Tests.{case, and-right}
 use Rattle.analysis.specs.Deriving.{analysisWords, derivation}
 use Rattle.interpreter.specs.Answers.{runLent}
 use Rattle.interpreter.specs.Progress.{scratchWords}

@@ -15,8 +15,8 @@ use Rattle.arith.specs.Step.{wrap}
 use Rattle.model.specs.Refusals.{ok, mapped, wrongInput}
 use Rattle.model.specs.Bytes.{u16At, part, pairAt, entries, pairsAt, chained}
 use Rattle.model.specs.Input.{Input, width, bitsAt, readingAt, readingsOf, lengthsRight, readInput}
-use Rattle.model.proofs.Results.{check-ok}
-use Rattle.model.proofs.Parts.{length-entries, length-part, Narrow, byte-narrow, u16-narrow, u32-narrow, u64-narrow, entries-part}
+use Rattle.model.proofs.basics.Results.{check-ok}
+use Rattle.model.proofs.files.Parts.{length-entries, length-part, Narrow, byte-narrow, u16-narrow, u32-narrow, u64-narrow, entries-part}
 use Rattle.input.specs.Answers.{InputIsRead, fieldPart, fieldReadings}
 use Rattle.input.specs.FirstWrong.{RightBefore}
 use Rattle.input.proofs.Pass.{inputRight, read-check, all-right}

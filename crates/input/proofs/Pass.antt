@@ -11,9 +11,9 @@ use borrow.Author.Tests.{eq-eqb, ne-eqb, eqb-true, le-leb, leb-true}
 use Rattle.model.specs.Refusals.{ok, refused, mapped, check, wrongInput}
 use Rattle.model.specs.Bytes.{Pair, pairAt, entries, pairsAt, chained}
 use Rattle.model.specs.Input.{width, lengthsRight, readInput}
-use Rattle.model.proofs.Tests.{case, and-left, and-right}
-use Rattle.model.proofs.Parts.{chained-le}
-use Rattle.model.proofs.Results.{mapped-check}
+use Rattle.model.proofs.basics.Tests.{case, and-left, and-right}
+use Rattle.model.proofs.files.Parts.{chained-le}
+use Rattle.model.proofs.basics.Results.{mapped-check}
 use Rattle.input.specs.FirstWrong.{endOf, PairRight, startOf, RightAt, RightBefore, PairsAre}
 use Rattle.input.specs.declared.Pairs.the-variants.{AllRight, FirstWrong}
 

@@ -9,7 +9,7 @@ use lib.ListN.{length, getD}
 use borrow.Author.Count.{below-more}
 use borrow.Author.Tests.{leb-true, leb-false}
 use Rattle.model.specs.Bytes.{pairAt}
-use Rattle.model.proofs.Tests.{case}
+use Rattle.model.proofs.basics.Tests.{case}
 use Rattle.input.specs.FirstWrong.{PairRight, startOf, RightAt, RightBefore, PartIs, PairsAre}
 use Rattle.input.specs.declared.PartRead.the-variants.{Ends, Wrong}
 use Rattle.input.specs.declared.Pairs.{Pairs}

@@ -18,8 +18,8 @@ use Rattle.model.specs.Listing.{typeText, operationText, atomText, nodeName, no
 use Rattle.model.specs.Listing.{lineText, linesFrom, listingText, refusalText, listing, textOf}
 use Rattle.model.specs.Refusals.{Out, ok, refused, mapped}
 use Rattle.model.specs.Values.{Operation, add, sub, mul, div}
-use Rattle.model.proofs.Parts.{length-entries}
-use Rattle.model.proofs.Results.{mapped-ok}
+use Rattle.model.proofs.files.Parts.{length-entries}
+use Rattle.model.proofs.basics.Results.{mapped-ok}
 use Rattle.condition.specs.Answers.{partNodes, pairPart, sizes, ConditionIsRead, conjunctsOf}
 use Rattle.condition.specs.declared.Counts.{Counts}
 use Rattle.condition.proofs.Table.{formBy, form-many, counted-read, conjuncts-count, conjunct-nodes, conjunct-short, condition-read}

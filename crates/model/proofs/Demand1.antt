@@ -15,10 +15,10 @@ use Rattle.model.specs.Run.{Ran, run}
 use Rattle.model.specs.Guarded.{held, passed, admitted, guarded}
 use Rattle.model.specs.Demands.{FromTo, ResultOrRefusal, OrLent, AnalysisRefusal, FilterRefusal, RunRefusal, GuardedRefusal, Demand1}
 use Rattle.model.proofs.Demand3.{analysis-accepts, derived-reads-back}
-use Rattle.model.proofs.Ends.{run-ends}
+use Rattle.model.proofs.runs.Ends.{run-ends}
 use Rattle.model.proofs.RefusalNumbers.{refusals-analysis, refusals-filter, refusals-run, read-refusals-run, read-refusals-filter}
-use Rattle.model.proofs.Results.{Refuses, Gives, refuses-by, refuses-bind, refuses-imp, gives-ok, gives-bind, gives-any, gives-check}
-use Rattle.model.proofs.Tests.{case}
+use Rattle.model.proofs.basics.Results.{Refuses, Gives, refuses-by, refuses-bind, refuses-imp, gives-ok, gives-bind, gives-any, gives-check}
+use Rattle.model.proofs.basics.Tests.{case}
 
 -- ---- the verdicts
 

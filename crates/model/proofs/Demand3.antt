@@ -18,20 +18,20 @@ use Rattle.model.specs.Run.{zeros, Line, markByte, choicesOf, Ran}
 use Rattle.model.specs.Exact.{Note}
 use Rattle.model.specs.Demands.{Record, Matches, Marks, Demand3}
 use Rattle.model.specs.Sizes.{mostFields, mostVariables, mostArrays, mostStatements}
-use Rattle.model.proofs.Checked.{fields-known, program-checked}
-use Rattle.model.proofs.Choosing.{read-of-fields, holds-safe}
-use Rattle.model.proofs.Derives.{derived-formed}
-use Rattle.model.proofs.Every.{every-all}
-use Rattle.model.proofs.FilterExact.{is-pass}
-use Rattle.model.proofs.Lists.{all-imp, all-imp₂, all-map}
-use Rattle.model.proofs.Meaning.{Meets}
-use Rattle.model.proofs.ReadBack.{encode-reads}
-use Rattle.model.proofs.Records.{recordOf, Runs, run-runs, linesOf, notesOf, exact-notes, ran-records, ran-marks}
-use Rattle.model.proofs.Results.{check-ok, bind-ok, ok-eq}
-use Rattle.model.proofs.SafeMeets.{safe-meets}
-use Rattle.model.proofs.Sound.{sound}
-use Rattle.model.proofs.Tests.{and-left}
-use Rattle.model.proofs.Tidied.{derived-tidy}
+use Rattle.model.proofs.files.Checked.{fields-known, program-checked}
+use Rattle.model.proofs.filters.Choosing.{read-of-fields, holds-safe}
+use Rattle.model.proofs.walks.Derives.{derived-formed}
+use Rattle.model.proofs.basics.Every.{every-all}
+use Rattle.model.proofs.filters.FilterExact.{is-pass}
+use Rattle.model.proofs.basics.Lists.{all-imp, all-imp₂, all-map}
+use Rattle.model.proofs.conjuncts.Meaning.{Meets}
+use Rattle.model.proofs.files.ReadBack.{encode-reads}
+use Rattle.model.proofs.runs.Records.{recordOf, Runs, run-runs, linesOf, notesOf, exact-notes, ran-records, ran-marks}
+use Rattle.model.proofs.basics.Results.{check-ok, bind-ok, ok-eq}
+use Rattle.model.proofs.filters.SafeMeets.{safe-meets}
+use Rattle.model.proofs.runs.Sound.{sound}
+use Rattle.model.proofs.basics.Tests.{and-left}
+use Rattle.model.proofs.walks.Tidied.{derived-tidy}
 
 -- ---- what the analysis writes is read back
 

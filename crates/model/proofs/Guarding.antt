@@ -13,8 +13,8 @@ use Rattle.model.specs.Run.{Ran, run}
 use Rattle.model.specs.Demands.{Exact}
 use Rattle.model.specs.Guarded.{Guarded, held, passed, admitted, guarded}
 use Rattle.model.proofs.Demand3.{demand3}
-use Rattle.model.proofs.Results.{ok-eq, bind-ok}
-use Rattle.model.proofs.Tests.{case}
+use Rattle.model.proofs.basics.Results.{ok-eq, bind-ok}
+use Rattle.model.proofs.basics.Tests.{case}
 
 -- the answer is that the input passed
 abbrev IsPassed : Guarded → Type 0

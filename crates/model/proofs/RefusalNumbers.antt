@@ -16,10 +16,10 @@ use Rattle.model.specs.Input.{readInput}
 use Rattle.model.specs.Filter.{filterInput}
 use Rattle.model.specs.Run.{run}
 use Rattle.model.specs.Demands.{FromTo, AnalysisRefusal, FilterRefusal, RunRefusal}
-use Rattle.model.proofs.Invariant.{sites-keep, join-keeps}
-use Rattle.model.proofs.Limits.{limits-cases}
-use Rattle.model.proofs.Results.{Refuses, refuses-check, refuses-bind, refuses-imp, refuses-by}
-use Rattle.model.proofs.Trees.{each-any}
+use Rattle.model.proofs.walks.Invariant.{sites-keep, join-keeps}
+use Rattle.model.proofs.conjuncts.Limits.{limits-cases}
+use Rattle.model.proofs.basics.Results.{Refuses, refuses-check, refuses-bind, refuses-imp, refuses-by}
+use Rattle.model.proofs.walks.Trees.{each-any}
 
 -- ---- the program: 2 to 8
 

@@ -10,7 +10,7 @@ use Rattle.model.specs.Program.{Layout as Sections, Program, layoutOf, readProg
 use Rattle.model.specs.Program.{sectionsRight, countsRight, typesRight, formRight, typesAgree, immediateRight}
 use Rattle.model.specs.Refusals.{Out, ok, refused, _>>=_, mapped, check}
 use Rattle.model.specs.Refusals.{wrongSections, tooManyEntries, wrongTypes, wrongStatement, typesDisagree, wrongImmediate}
-use Rattle.model.proofs.Results.{check-mapped, refused-ok}
+use Rattle.model.proofs.basics.Results.{check-mapped, refused-ok}
 use Rattle.program.specs.declared.Layout.{Layout}
 use Rattle.program.specs.Reading.{layoutFrom, Placed, tablesOf, stmtsOf, statementChecks, tableChecks}
 

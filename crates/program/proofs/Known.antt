@@ -11,10 +11,10 @@ use Rattle.model.specs.Lists.{every}
 use Rattle.model.specs.Refusals.{ok, mapped}
 use Rattle.model.specs.Code.{treeOf}
 use Rattle.model.specs.Program.{Tables, layoutOf, countsRight, typesRight, formRight, Program, readProgram}
-use Rattle.model.proofs.Results.{mapped-ok}
-use Rattle.model.proofs.Tests.{and-left, and-right}
-use Rattle.model.proofs.Every.{every-at}
-use Rattle.model.proofs.Checked.{Checked, program-checked}
+use Rattle.model.proofs.basics.Results.{mapped-ok}
+use Rattle.model.proofs.basics.Tests.{and-left, and-right}
+use Rattle.model.proofs.basics.Every.{every-at}
+use Rattle.model.proofs.files.Checked.{Checked, program-checked}
 use Rattle.program.specs.Reading.{programAnswer, layoutFrom, tablesOf, noStatement, statementOf, stmtsOf, ProgramIsRead}
 use Rattle.program.specs.declared.Layout.{Layout}
 use Rattle.program.specs.declared.ProgramRead.{ProgramRead}

@@ -13,9 +13,9 @@ use Rattle.model.specs.Bytes.{part, entries}
 use Rattle.model.specs.Code.{end}
 use Rattle.model.specs.Kinds.{kindOf}
 use Rattle.model.specs.Program.{Tables, arrayAt, statementAt, tablesAt, typeRight, arrayRight, typesRight, variableType, arrayOf, stmtOf}
-use Rattle.model.proofs.Tests.{and-left, and-right}
-use Rattle.model.proofs.Every.{every-at}
-use Rattle.model.proofs.Parts.{length-entries, entries-getD, length-part}
+use Rattle.model.proofs.basics.Tests.{and-left, and-right}
+use Rattle.model.proofs.basics.Every.{every-at}
+use Rattle.model.proofs.files.Parts.{length-entries, entries-getD, length-part}
 use Rattle.program.specs.Numbers.{typeCodes}
 use Rattle.program.specs.Reading.{tablesOf, noStatement, statementOf, stmtsOf, Sized, Placed}
 use Rattle.program.specs.declared.Layout.{Layout}

@@ -13,8 +13,8 @@ use Rattle.model.specs.Conjunct.{Atom, Conj, Conjuncts, withConjunct, unionOf, 
 use Rattle.model.specs.Walk.{loads, subsets}
 use Rattle.model.specs.Sizes.{mostConjuncts, mostNodes}
 use Rattle.model.specs.Refusals.{tooManyConjuncts, tooManyNodes}
-use Rattle.model.proofs.Canonical.{insert-canon, insert-length, union-append, union-canon, union-grows, union-left, sub-length}
-use Rattle.model.proofs.Tests.{decide, true→T}
+use Rattle.model.proofs.conjuncts.Canonical.{insert-canon, insert-length, union-append, union-canon, union-grows, union-left, sub-length}
+use Rattle.model.proofs.basics.Tests.{decide, true→T}
 use Rattle.model.specs.TidySets.{Canon}
 use Rattle.sets.specs.Region.{setOf, Inserted}
 use Rattle.rules.proofs.Distinct.{subsets-length, subsets-many, seven-many}

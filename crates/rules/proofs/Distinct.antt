@@ -13,11 +13,11 @@ use Rattle.model.specs.Conjunct.{without, atoms, renamed, onAtom, renumber}
 use Rattle.model.specs.Lists.{All}
 use Rattle.model.specs.Walk.{onArray, loads, swap, subsets}
 use Rattle.model.specs.Sizes.{mostConjuncts}
-use Rattle.model.proofs.Atoms.{atom-eq, atom-self, at-imp, atoms-all}
-use Rattle.model.proofs.Canonical.{all-mem, union-from, union-canon, union-least, sub-length}
-use Rattle.model.proofs.Lists.{all-imp, all-append, all-map}
-use Rattle.model.proofs.Order.{order-eq}
-use Rattle.model.proofs.Tests.{case, true→T}
+use Rattle.model.proofs.conjuncts.Atoms.{atom-eq, atom-self, at-imp, atoms-all}
+use Rattle.model.proofs.conjuncts.Canonical.{all-mem, union-from, union-canon, union-least, sub-length}
+use Rattle.model.proofs.basics.Lists.{all-imp, all-append, all-map}
+use Rattle.model.proofs.conjuncts.Order.{order-eq}
+use Rattle.model.proofs.basics.Tests.{case, true→T}
 use Rattle.model.specs.TidySets.{Canon, Mem, Sub}
 
 -- ---- lists without repetition

@@ -14,9 +14,9 @@ use Rattle.model.specs.Refusals.{ok, refused}
 use Rattle.model.specs.Kinds.{aStore}
 use Rattle.model.specs.Walk.{before, gather, back}
 use Rattle.model.specs.Sizes.{mostConjuncts}
-use Rattle.model.proofs.Canonical.{union-length}
-use Rattle.model.proofs.Gather.{gather-canon, gather-mono, gather-last}
-use Rattle.model.proofs.Lists.{all-getD}
+use Rattle.model.proofs.conjuncts.Canonical.{union-length}
+use Rattle.model.proofs.conjuncts.Gather.{gather-canon, gather-mono, gather-last}
+use Rattle.model.proofs.basics.Lists.{all-getD}
 use Rattle.model.specs.TidySets.{Sub, Canon, Mem, Numbered}
 use Rattle.code_table.specs.Statements.{instrOf, OfKind}
 use Rattle.code_table.specs.declared.Decoded.{Decoded}

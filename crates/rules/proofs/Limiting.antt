@@ -14,10 +14,10 @@ use Rattle.model.specs.Lists.{All}
 use Rattle.model.specs.Refusals.{ok, refused, tooManyConjuncts, tooManyNodes}
 use Rattle.model.specs.Walk.{onArray, loads, swap, swapAll, subsets, before, gather}
 use Rattle.model.specs.Sizes.{mostConjuncts, mostNodes}
-use Rattle.model.proofs.Limits.{fine-limits, all-short}
-use Rattle.model.proofs.Lists.{all-append, all-map, all-imp}
-use Rattle.model.proofs.Gather.{gather-every}
-use Rattle.model.proofs.Tests.{case}
+use Rattle.model.proofs.conjuncts.Limits.{fine-limits, all-short}
+use Rattle.model.proofs.basics.Lists.{all-append, all-map, all-imp}
+use Rattle.model.proofs.conjuncts.Gather.{gather-every}
+use Rattle.model.proofs.basics.Tests.{case}
 use Rattle.model.specs.TidySets.{Mem}
 use Rattle.conjunct.specs.Word.{nodeOf, nodesOf}
 use Rattle.sets.proofs.Rows.{set-few, take-short}

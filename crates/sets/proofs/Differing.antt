@@ -12,10 +12,10 @@ use lib.Seq.{take-suc}
 use Rattle.model.specs.Conjunct.{Conj, Conjuncts, order, withConjunct, unionOf}
 use Rattle.model.specs.Lists.{All}
 use Rattle.model.specs.TidySets.{Less, Canon, Mem, Sub}
-use Rattle.model.proofs.Canonical.{union-absorb}
-use Rattle.model.proofs.Order.{order-self, order-eq}
-use Rattle.model.proofs.Remains.{Remains, insert-here}
-use Rattle.model.proofs.Tests.{case, true→T}
+use Rattle.model.proofs.conjuncts.Canonical.{union-absorb}
+use Rattle.model.proofs.conjuncts.Order.{order-self, order-eq}
+use Rattle.model.proofs.conjuncts.Remains.{Remains, insert-here}
+use Rattle.model.proofs.basics.Tests.{case, true→T}
 use Rattle.sets.specs.Minus.{has, minus}
 use Rattle.sets.specs.Region.{Spotted}
 use Rattle.sets.specs.declared.Spot.the-variants.{Here, Before}

@@ -8,9 +8,9 @@ use native.Mathlib.Omega.{arith}
 use lib.Dec.{isEq}
 use lib.ListN.{length, getD, take, drop, length-append, length-drop, take-append-drop}
 use lib.Seq.{length-take-le, take-suc, drop-cons, drop-length}
-use Rattle.model.proofs.Canonical.{union-append, union-left-comm, union-grows}
-use Rattle.model.proofs.Tests.{case, true→T}
-use Rattle.model.proofs.Order.{same-eq}
+use Rattle.model.proofs.conjuncts.Canonical.{union-append, union-left-comm, union-grows}
+use Rattle.model.proofs.basics.Tests.{case, true→T}
+use Rattle.model.proofs.conjuncts.Order.{same-eq}
 use Rattle.model.specs.Conjunct.{Conj, Conjuncts, withConjunct, unionOf, same, orderNodes}
 use Rattle.model.specs.Sizes.{mostConjuncts}
 use Rattle.model.specs.TidySets.{Canon}

@@ -8,8 +8,8 @@ use lib.Seq.{drop-cons, take-suc, drop-length}
 use Rattle.model.specs.Conjunct.{Conj, Conjuncts, order, place, withConjunct}
 use Rattle.model.specs.Lists.{All}
 use Rattle.model.specs.TidySets.{Less, Canon}
-use Rattle.model.proofs.Lists.{all-imp, all-right, all-append}
-use Rattle.model.proofs.Order.{flip, order-flip, order-eq, less-trans}
+use Rattle.model.proofs.basics.Lists.{all-imp, all-right, all-append}
+use Rattle.model.proofs.conjuncts.Order.{flip, order-flip, order-eq, less-trans}
 
 -- ---- a set in two parts
 

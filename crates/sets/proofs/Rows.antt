@@ -10,7 +10,7 @@ use lib.ListN.{length, getD, take, drop, set, length-drop, length-map, List·get
 use lib.Seq.{ext-getD, getD-take, getD-drop, length-take-le, getD-set-same, getD-set-other}
 use borrow.Author.Tests.{ltb-true}
 use Rattle.model.specs.Sizes.{mostConjuncts, mostNodes}
-use Rattle.model.proofs.Tests.{case}
+use Rattle.model.proofs.basics.Tests.{case}
 use Rattle.conjunct.specs.Word.{nodesOf}
 use Rattle.sets.specs.Region.{few, slotAt, rowsFrom, rowsOf, setOf, Outside, Within, Apart, regionWords, slotWords}
 

@@ -9,7 +9,7 @@ use lib.ListN.{length}
 use Rattle.model.specs.Conjunct.{Conjuncts, unionOf, same, limits}
 use Rattle.model.specs.Refusals.{Out, ok, refused, _>>=_}
 use Rattle.model.specs.TidySets.{Tidy}
-use Rattle.model.proofs.Remains.{remains-tidy}
+use Rattle.model.proofs.conjuncts.Remains.{remains-tidy}
 use Rattle.sets.specs.Minus.{minus}
 use Rattle.sets.specs.Region.{regionWords, setOf, Within}
 use Rattle.sets.proofs.Differing.{minus-remains}

@@ -9,7 +9,7 @@ use Rattle.model.specs.Conjunct.{Conjuncts}
 use Rattle.model.specs.Walk.{back, joined}
 use Rattle.model.specs.Nesting.{Nested}
 use Rattle.model.specs.Placement.{Laid}
-use Rattle.model.proofs.Laid.{laid-le}
+use Rattle.model.proofs.walks.Laid.{laid-le}
 use Rattle.walk.specs.Light.{walkBy, loopBy}
 use Rattle.walk.specs.Turn.{Sole}
 use Rattle.walk.proofs.Ways.{by-step, by-branch, by-loop}

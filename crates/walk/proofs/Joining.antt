@@ -11,7 +11,7 @@ use Rattle.model.specs.Refusals.{Out, ok, refused, _>>=_}
 use Rattle.model.specs.Walk.{joined}
 use Rattle.model.specs.Placement.{Laid}
 use Rattle.model.specs.TidySets.{Tidy}
-use Rattle.model.proofs.Results.{gives-ok}
+use Rattle.model.proofs.basics.Results.{gives-ok}
 use Rattle.code_table.specs.Table.{tableWords, tableOf, stmts, mates}
 use Rattle.rules.specs.Answers.{answered, Below}
 use Rattle.rules.specs.declared.Answer.the-variants.{Done, Refused}

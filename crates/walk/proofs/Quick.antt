@@ -11,11 +11,11 @@ use Rattle.model.specs.Refusals.{Out, ok, _>>=_, neverSettles}
 use Rattle.model.specs.Sizes.{mostRounds}
 use Rattle.model.specs.TidySets.{Canon, Fine, Tidy}
 use Rattle.model.specs.Walk.{back, joined, walk}
-use Rattle.model.proofs.DeltaRounds.{Delta, delta-first, delta-again, delta-last, settles-rounds}
-use Rattle.model.proofs.Limits.{limits-inv}
-use Rattle.model.proofs.Remains.{Remains, remains-part}
-use Rattle.model.proofs.Results.{bind-ok, bind-assoc, gives-ok, ok-eq, refused-ok}
-use Rattle.model.proofs.Unlimited.{Comes, Settles, comes-canon, comes-append, comes-step, comes-branch, comes-loop}
+use Rattle.model.proofs.walks.DeltaRounds.{Delta, delta-first, delta-again, delta-last, settles-rounds}
+use Rattle.model.proofs.conjuncts.Limits.{limits-inv}
+use Rattle.model.proofs.conjuncts.Remains.{Remains, remains-part}
+use Rattle.model.proofs.basics.Results.{bind-ok, bind-assoc, gives-ok, ok-eq, refused-ok}
+use Rattle.model.proofs.walks.Unlimited.{Comes, Settles, comes-canon, comes-append, comes-step, comes-branch, comes-loop}
 use Rattle.sets.specs.Minus.{minus}
 use Rattle.sets.proofs.Differing.{minus-remains}
 use Rattle.walk.specs.Light.{again, byNew, nextOf, onward, roundsBy, lightly, loopBy}

@@ -14,8 +14,8 @@ use Rattle.model.specs.Refusals.{Out, ok, refused, tooManyConjuncts}
 use Rattle.model.specs.Sizes.{mostConjuncts, mostNested, mostNodes, mostInside}
 use Rattle.model.specs.Placement.{Laid}
 use Rattle.model.specs.TidySets.{Tidy}
-use Rattle.model.proofs.Canonical.{union-every}
-use Rattle.model.proofs.Limits.{short-each, all-short}
+use Rattle.model.proofs.conjuncts.Canonical.{union-every}
+use Rattle.model.proofs.conjuncts.Limits.{short-each, all-short}
 use Rattle.rules.specs.Answers.{answered, Below}
 use Rattle.rules.specs.declared.Answer.the-variants.{Done, Refused}
 use Rattle.rules.specs.declared.Answer.{Answer}

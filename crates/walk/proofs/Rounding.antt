@@ -10,7 +10,7 @@ use Rattle.model.specs.Conjunct.{Conjuncts}
 use Rattle.model.specs.Refusals.{Out, ok, refused, _>>=_, neverSettles}
 use Rattle.model.specs.Sizes.{mostRounds}
 use Rattle.model.specs.TidySets.{Tidy}
-use Rattle.model.proofs.Results.{gives-ok}
+use Rattle.model.proofs.basics.Results.{gives-ok}
 use Rattle.code_table.specs.Table.{tableWords, tableOf, stmts, mates}
 use Rattle.rules.specs.Answers.{answered, Below}
 use Rattle.rules.specs.declared.Answer.the-variants.{Done, Refused}

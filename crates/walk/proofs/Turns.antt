@@ -10,9 +10,9 @@ use Rattle.model.specs.Run.{append}
 use Rattle.model.specs.Nesting.{Nested}
 use Rattle.model.specs.Placement.{IfAt, WhileAt, Laid}
 use Rattle.model.specs.TidySets.{Tidy}
-use Rattle.model.proofs.Depth.{nested-append}
-use Rattle.model.proofs.Laid.{laid-le, Last, last-plain, last-if, last-while, laid-last}
-use Rattle.model.proofs.Results.{gives-ok}
+use Rattle.model.proofs.walks.Depth.{nested-append}
+use Rattle.model.proofs.walks.Laid.{laid-le, Last, last-plain, last-if, last-while, laid-last}
+use Rattle.model.proofs.basics.Results.{gives-ok}
 use Rattle.footprint.specs.Footprints.{CoversSet, SparedAll, PlainAndSpared}
 use Rattle.footprint.specs.declared.Footprint.{Footprint}
 use Rattle.footprint.proofs.Skipped.{quiet-touches}

@@ -5,7 +5,7 @@ use Prim.Native.Nat.{ℕ, suc, _≤_}
 use native.Mathlib.Omega.{arith}
 use Rattle.model.specs.Code.{Instr, Code, done, step, branch, loop, Stmt, plain, if, else, end, while}
 use Rattle.model.specs.Placement.{Laid}
-use Rattle.model.proofs.Laid.{laid-le}
+use Rattle.model.proofs.walks.Laid.{laid-le}
 
 pub plain-if : (s : Stmt) (x : Instr) (v : ℕ) → s ≡ plain x → s ≡ if v → ⊥
 plain-if s x v p q = let z : true ≡ false = cc in true≢false z

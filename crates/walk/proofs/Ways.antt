@@ -11,14 +11,14 @@ use Rattle.model.specs.Sizes.{mostRounds}
 use Rattle.model.specs.TidySets.{Tidy}
 use Rattle.model.specs.Touch.{some, writes, touches}
 use Rattle.model.specs.Walk.{back, joined, rounds, walk}
-use Rattle.model.proofs.Canonical.{union-idem}
-use Rattle.model.proofs.Limits.{fine-limits}
-use Rattle.model.proofs.Remains.{remains-tidy}
-use Rattle.model.proofs.Results.{Gives, gives-bind, bind-self, bind-assoc}
-use Rattle.model.proofs.Skip.{walk-skip}
-use Rattle.model.proofs.Tests.{case, or-left, or-right}
-use Rattle.model.proofs.Tidied.{union-tidy, back-tidy, walk-tidy}
-use Rattle.model.proofs.Walks.{walk-append, back-piece, joined-piece, rounds-piece}
+use Rattle.model.proofs.conjuncts.Canonical.{union-idem}
+use Rattle.model.proofs.conjuncts.Limits.{fine-limits}
+use Rattle.model.proofs.conjuncts.Remains.{remains-tidy}
+use Rattle.model.proofs.basics.Results.{Gives, gives-bind, bind-self, bind-assoc}
+use Rattle.model.proofs.walks.Skip.{walk-skip}
+use Rattle.model.proofs.basics.Tests.{case, or-left, or-right}
+use Rattle.model.proofs.walks.Tidied.{union-tidy, back-tidy, walk-tidy}
+use Rattle.model.proofs.walks.Walks.{walk-append, back-piece, joined-piece, rounds-piece}
 use Rattle.sets.specs.Minus.{minus}
 use Rattle.sets.proofs.Differing.{minus-remains, minus-self}
 use Rattle.walk.specs.Light.{Next, settled, again, byAll, byNew, nextOf, onward, roundsBy, lightly, walkBy, loopBy}

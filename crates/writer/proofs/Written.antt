@@ -6,9 +6,9 @@ use native.Mathlib.Numerals.{add-one}
 use native.Mathlib.Omega.{arith}
 use lib.ListN.{length, getD, take, set, length-append, length-map, List·getD-map}
 use lib.Seq.{getD-take, length-take-le}
-use Rattle.model.proofs.FileBytes.{conjuncts-size, table-size, length-encode}
-use Rattle.model.proofs.Lists.{all-imp, all-getD}
-use Rattle.model.proofs.NodeBytes.{conjunct-size}
+use Rattle.model.proofs.files.FileBytes.{conjuncts-size, table-size, length-encode}
+use Rattle.model.proofs.basics.Lists.{all-imp, all-getD}
+use Rattle.model.proofs.files.NodeBytes.{conjunct-size}
 use Rattle.model.specs.Bytes.{bytes4}
 use Rattle.model.specs.Condition.{conjunctBytes, pairBytes, conjunctsAt, encode}
 use Rattle.model.specs.Conjunct.{Conj, Conjuncts, bytes}

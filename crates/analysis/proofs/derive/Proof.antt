@@ -3,7 +3,7 @@ use mathlib.Core.Path.{_≡_, refl}
 use lib.ListN.{length}
 use borrow.Author.Needs.{needs}
 use Rattle.model.specs.Refusals.{refused}
-use Rattle.model.proofs.Lent.{documented-part, scratch-as-it-was}
+use Rattle.model.proofs.files.Lent.{documented-part, scratch-as-it-was}
 use Rattle.analysis.specs.Deriving.{analysisWords, derivation}
 use Rattle.program.specs.Reading.{ProgramIsRead}
 use Rattle.program.proofs.Known.{is-read}

@@ -3,7 +3,7 @@ use mathlib.Core.Path.{_≡_, ap, _∙_}
 use native.Mathlib.Omega.{arith}
 use Rattle.model.specs.Refusals.{Out}
 use Rattle.model.specs.Walk.{derived}
-use Rattle.model.proofs.Depth.{program-nested}
+use Rattle.model.proofs.walks.Depth.{program-nested}
 use Rattle.code_table.specs.Table.{tableOf, Coded}
 use Rattle.rules.specs.Answers.{answered}
 use Rattle.sets.specs.Region.{setOf}

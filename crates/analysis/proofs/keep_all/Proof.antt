@@ -6,7 +6,7 @@ use native.Mathlib.Omega.{arith}
 use lib.Dec.{eqb}
 use borrow.Author.Needs.{needs}
 use borrow.Author.Tests.{eqb-true, eqb-false, not-false}
-use Rattle.model.proofs.Tests.{case}
+use Rattle.model.proofs.basics.Tests.{case}
 use Rattle.code_table.specs.Table.{tableOf, stmtIn}
 use Rattle.analysis.specs.Joining.{Keeps, KeptFrom}
 use Rattle.analysis.proofs.keep_all.Statement.{statement}

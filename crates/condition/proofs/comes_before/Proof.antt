@@ -5,7 +5,7 @@ use native.Mathlib.Omega.{arith}
 use lib.ListN.{length, drop}
 use Rattle.model.specs.Conjunct.{orderNumbers}
 use Rattle.model.specs.Condition.{isBefore}
-use Rattle.model.proofs.Order.{compare-less, compare-more, compare-same}
+use Rattle.model.proofs.conjuncts.Order.{compare-less, compare-more, compare-same}
 use Rattle.condition.proofs.Orders.{numbers-less, numbers-more, numbers-on, numbers-end}
 use borrow.Author.Needs.{needs}
 use Rattle.condition.proofs.comes_before.Statement.{statement}

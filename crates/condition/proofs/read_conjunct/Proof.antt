@@ -5,7 +5,7 @@ use native.Mathlib.Omega.{arith}
 use borrow.Author.Needs.{needs}
 use borrow.Author.Tests.{not-true, not-false}
 use Rattle.model.specs.Condition.{whole}
-use Rattle.model.proofs.Tests.{and-left}
+use Rattle.model.proofs.basics.Tests.{and-left}
 use Rattle.condition.specs.Answers.{conjunctAnswer, partNodes, partRight}
 use Rattle.condition.proofs.Passes.{formed-true, formed-false}
 use Rattle.condition.proofs.read_conjunct.Statement.{statement}

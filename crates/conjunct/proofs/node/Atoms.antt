@@ -4,7 +4,7 @@ use mathlib.Core.Path.{_≡_, refl, sym, ap, _∙_, subst}
 use Prim.Native.Nat.{ℕ, _+_, _-_, _*_, _/_, _%_}
 use native.Mathlib.Omega.{arith}
 use lib.Dec.{ltb, eqb}
-use Rattle.model.proofs.Atoms.{source-eq, source-self, atom-eq, atom-self}
+use Rattle.model.proofs.conjuncts.Atoms.{source-eq, source-self, atom-eq, atom-self}
 use borrow.Author.Tests.{eq-eqb, eqb-true}
 use Rattle.model.specs.Conjunct.{Source, Atom, Node, const, atom, var, op, conv, sameSource, sameAtom, onAtom, AtAtom}
 use Rattle.conjunct.proofs.node.Lists.{node-word}

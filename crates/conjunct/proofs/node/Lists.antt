@@ -3,7 +3,7 @@ use mathlib.Core.List.{List, [], _∷_}
 use mathlib.Core.Path.{_≡_, refl, sym, ap₂, _∙_}
 use Prim.Native.Nat.{ℕ, compare, Ordering·eq}
 use lib.ListN.{length, length-map}
-use Rattle.model.proofs.Order.{nodes-self, compare-eq}
+use Rattle.model.proofs.conjuncts.Order.{nodes-self, compare-eq}
 use Rattle.model.specs.Conjunct.{_then_, orderNumbers, orderNodes, order}
 use Rattle.conjunct.proofs.node.WordOrder.{then-none, word-order}
 use Rattle.conjunct.specs.Word.{nodeOf, nodesOf}

@@ -6,8 +6,8 @@ use Prim.Native.Nat.{ℕ, _+_, _-_, _*_, _/_, _%_, _<_, _≤_, _^_}
 use native.Mathlib.Omega.{arith}
 use lib.Dec.{ltb, leb}
 use borrow.Author.Tests.{lt-ltb, le-ltb, leb-true, ltb-true}
-use Rattle.model.proofs.LittleEndian.{four-back}
-use Rattle.model.proofs.Tests.{case}
+use Rattle.model.proofs.basics.LittleEndian.{four-back}
+use Rattle.model.proofs.basics.Tests.{case}
 use Rattle.model.specs.Conjunct.{field, cell, const, atom, var, op, conv}
 use Rattle.model.specs.Values.{Operation, add, sub, mul, div, operationKind}
 use Rattle.conjunct.proofs.node.Shapes.{is-number, is-reading, is-add, is-sub, is-mul, is-div, is-change, is-variable, is-load}

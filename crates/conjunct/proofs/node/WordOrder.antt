@@ -7,8 +7,8 @@ use Prim.Native.Nat.{ℕ, zero, suc, _+_, _-_, _*_, _/_, _%_, _<_, _≤_, compar
 use native.Mathlib.Omega.{arith}
 use lib.Dec.{eqb}
 use borrow.Author.Tests.{eqb-true, eqb-false}
-use Rattle.model.proofs.Order.{compare-less, compare-more, compare-same, then-assoc}
-use Rattle.model.proofs.Tests.{decide}
+use Rattle.model.proofs.conjuncts.Order.{compare-less, compare-more, compare-same, then-assoc}
+use Rattle.model.proofs.basics.Tests.{decide}
 use Rattle.model.specs.Bytes.{bytes2, bytes4}
 use Rattle.model.specs.Conjunct.{bytes, sourceBytes, _then_, orderNumbers, order}
 use Rattle.model.specs.Values.{add, sub, mul, div}

@@ -8,10 +8,10 @@ use native.Mathlib.Omega.{arith}
 use lib.Dec.{eqb, eqb·suc-suc, eqb·zero-suc, eqb·suc-zero}
 use lib.ListN.{length, take, drop, getD, set, length-map, length-append, take-append-drop}
 use lib.Seq.{take-suc, take-suc-set}
-use Rattle.model.proofs.Atoms.{every-map}
-use Rattle.model.proofs.Renumber.{moved, movedAll, renumber-moved}
-use Rattle.model.proofs.Lists.{all-of}
-use Rattle.model.proofs.Tests.{case}
+use Rattle.model.proofs.conjuncts.Atoms.{every-map}
+use Rattle.model.proofs.conjuncts.Renumber.{moved, movedAll, renumber-moved}
+use Rattle.model.proofs.basics.Lists.{all-of}
+use Rattle.model.proofs.basics.Tests.{case}
 use Rattle.model.specs.Code.{Right, number, copy, calc, change, read, load}
 use Rattle.model.specs.Conjunct.{Atom, Node, const, atom, var, op, conv, Conj, atoms, renamed, onAtom, renumber, AtAtom}
 use Rattle.model.specs.Lists.{All}
@@ -128,11 +128,11 @@ raised x r (conv ty) n h = refl
 
 here : (x : ℕ) (r : List Node) (v : Node) → isVar x v ≡ true → replace x r v ≡ r
 unfolding replace
-here x r (const ty i) n = absurd (Rattle.model.proofs.Tests.true→T n)
-here x r (atom b) n = absurd (Rattle.model.proofs.Tests.true→T n)
+here x r (const ty i) n = absurd (Rattle.model.proofs.basics.Tests.true→T n)
+here x r (atom b) n = absurd (Rattle.model.proofs.basics.Tests.true→T n)
 here x r (var y ty) n = rw n
-here x r (op o ty) n = absurd (Rattle.model.proofs.Tests.true→T n)
-here x r (conv ty) n = absurd (Rattle.model.proofs.Tests.true→T n)
+here x r (op o ty) n = absurd (Rattle.model.proofs.basics.Tests.true→T n)
+here x r (conv ty) n = absurd (Rattle.model.proofs.basics.Tests.true→T n)
 
 module _ (x : ℕ) (r : List ℕ) (fresh : All (AtAtom (λ a. a .n ≡ 0)) (nodesOf r)) where
   one : (w : ℕ) → AtAtom (λ a. 0 < a .n) (nodeOf w) → replace x (nodesOf r) (nodeOf w) ≡ movedAll lifted (nodesOf (pieceOf x r w))

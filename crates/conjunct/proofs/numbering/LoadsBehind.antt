@@ -7,8 +7,8 @@ use native.Mathlib.Numerals.{add-one}
 use native.Mathlib.Omega.{arith}
 use lib.ListN.{length, take, getD, set}
 use lib.Seq.{take-suc}
-use Rattle.model.proofs.Atoms.{atom-eq}
-use Rattle.model.proofs.Tests.{case, true→T, and-left, and-right}
+use Rattle.model.proofs.conjuncts.Atoms.{atom-eq}
+use Rattle.model.proofs.basics.Tests.{case, true→T, and-left, and-right}
 use Rattle.model.specs.Conjunct.{Atom, Node, const, atom, var, op, conv, sameAtom, atoms, has}
 use Rattle.model.specs.Lists.{every}
 use Rattle.model.specs.Walk.{onArray, loads}

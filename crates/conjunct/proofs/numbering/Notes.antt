@@ -7,7 +7,7 @@ use native.Mathlib.Numerals.{add-one}
 use native.Mathlib.Omega.{arith}
 use lib.ListN.{length, take, set}
 use lib.Seq.{take-suc-set}
-use Rattle.model.proofs.Every.{every-of-append}
+use Rattle.model.proofs.basics.Every.{every-of-append}
 use Rattle.model.specs.Conjunct.{Atom, Node, const, atom, var, op, conv, rank, renamed, onAtom, has, AtAtom}
 use Rattle.model.specs.Lists.{every}
 use Rattle.conjunct.proofs.node.Atoms.{is-atom, other-kept, other-plain, atom-changed}

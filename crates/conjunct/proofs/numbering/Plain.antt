@@ -5,7 +5,7 @@ use mathlib.Core.Path.{_≡_, refl, sym, ap, ap₂, _∙_}
 use Prim.Native.Nat.{ℕ, zero, suc}
 use native.Mathlib.Omega.{arith}
 use lib.ListN.{length, take, getD}
-use Rattle.model.proofs.Tests.{case, true→T}
+use Rattle.model.proofs.basics.Tests.{case, true→T}
 use Rattle.model.specs.Conjunct.{Atom, Node, const, atom, var, op, conv, Conj, note, atoms, renamed, onAtom, renumber, AtAtom}
 use Rattle.model.specs.Lists.{All}
 use Rattle.model.specs.TidySets.{Numbered}

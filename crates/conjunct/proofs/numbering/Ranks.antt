@@ -10,8 +10,8 @@ use lib.Dec.{eqb}
 use lib.ListN.{length, take, drop, getD}
 use lib.Seq.{drop-cons, getD-take, length-take-le, drop-length}
 use borrow.Author.Tests.{eq-eqb, ne-eqb}
-use Rattle.model.proofs.Every.{every-at}
-use Rattle.model.proofs.Tests.{case, true→T}
+use Rattle.model.proofs.basics.Every.{every-at}
+use Rattle.model.proofs.basics.Tests.{case, true→T}
 use Rattle.model.specs.Conjunct.{Atom, sameSource, sameAtom, rank, has}
 use Rattle.conjunct.proofs.node.Atoms.{same-atom, same-source}
 use Rattle.conjunct.specs.Word.{isAtom, keyOf, atomOf}

@@ -4,8 +4,8 @@ use mathlib.Core.List.{List, [], _∷_, _++_, map, append-nil, map-append}
 use mathlib.Core.Path.{_≡_, refl, sym, ap, ap₂, _∙_, subst}
 use Prim.Native.Nat.{suc}
 use lib.Dec.{eqb}
-use Rattle.model.proofs.Atoms.{has-atoms, atom-eq, atom-self, source-self}
-use Rattle.model.proofs.Tests.{case, true→T, eqb-self}
+use Rattle.model.proofs.conjuncts.Atoms.{has-atoms, atom-eq, atom-self, source-self}
+use Rattle.model.proofs.basics.Tests.{case, true→T, eqb-self}
 use Rattle.model.specs.Conjunct.{Atom, Node, const, atom, var, op, conv, Conj, sameSource, sameAtom, without, note, atoms, rank, renamed, has, AtAtom}
 use Rattle.model.specs.Conjunct.{onAtom, renumber}
 use Rattle.model.specs.Lists.{All}

@@ -3,7 +3,7 @@ use mathlib.Core.Path.{_≡_}
 use Prim.Native.Nat.{_-_, _≤_}
 use native.Mathlib.Omega.{arith}
 use borrow.Author.Needs.{needs}
-use Rattle.model.proofs.Order.{compare-less, compare-more}
+use Rattle.model.proofs.conjuncts.Order.{compare-less, compare-more}
 use Rattle.conjunct.proofs.Words.{Rest, rest-none, rest-less, rest-more, rest-next, rest-same}
 use Rattle.conjunct.proofs.order_at.Statement.{statement}
 use Rattle.conjunct.proofs.order_at.Tie as tie

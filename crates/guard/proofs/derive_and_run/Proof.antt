@@ -7,7 +7,7 @@ use lib.ListN.{length, take}
 use borrow.Author.Needs.{needs}
 use Rattle.model.specs.Condition.{analysis}
 use Rattle.model.specs.Refusals.{ok, wrongBlocks}
-use Rattle.model.proofs.Lent.{scratch-both}
+use Rattle.model.proofs.files.Lent.{scratch-both}
 use Rattle.analysis.specs.Deriving.{analysisWords, derivation, Derives}
 use Rattle.analysis.specs.declared.Derived.the-variants.{Written}
 use Rattle.guard.specs.Answers.{guarding, Guards}

@@ -4,12 +4,12 @@ use mathlib.Core.Path.{_≡_, refl, sym, ap, _∙_}
 use borrow.Author.Needs.{needs}
 use Rattle.model.specs.Filter.{filterInput}
 use Rattle.model.specs.Failure.{answerNumber}
-use Rattle.model.proofs.Verdicts.{verdict-answer}
+use Rattle.model.proofs.filters.Verdicts.{verdict-answer}
 use Rattle.filter.specs.Verdict.{verdictOf}
 use Rattle.filter.specs.declared.Verdict.{Verdict}
 use Rattle.model.specs.Guarded.{guarded}
 use Rattle.model.specs.Refusals.{mapped, wrongBlocks}
-use Rattle.model.proofs.Lent.{scratch-as-it-was}
+use Rattle.model.proofs.files.Lent.{scratch-as-it-was}
 use Rattle.analysis.specs.Deriving.{analysisWords}
 use Rattle.guard.proofs.Behind.{guards-refused, guards-held, not-filtered, is-held}
 use Rattle.guard.proofs.filter_and_run.Statement.{statement}

@@ -3,7 +3,7 @@ use mathlib.Core.Path.{refl}
 use lib.ListN.{length}
 use borrow.Author.Needs.{needs}
 use Rattle.model.specs.Refusals.{wrongBlocks}
-use Rattle.model.proofs.Lent.{scratch-as-it-was}
+use Rattle.model.proofs.files.Lent.{scratch-as-it-was}
 use Rattle.analysis.specs.Deriving.{analysisWords}
 use Rattle.guard.specs.Answers.{guarding}
 use Rattle.guard.proofs.Behind.{output-short, guards-refused}

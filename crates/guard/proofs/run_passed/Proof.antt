@@ -10,7 +10,7 @@ use Rattle.model.specs.Refusals.{ok, refused, wrongBlocks, wrongInput}
 use Rattle.model.specs.Lent.{ScratchLeft}
 use Rattle.model.specs.Run.{Ran}
 use Rattle.model.proofs.Demand3.{demand3}
-use Rattle.model.proofs.Lent.{scratch-wider}
+use Rattle.model.proofs.files.Lent.{scratch-wider}
 use Rattle.analysis.specs.Deriving.{analysisWords}
 use Rattle.interpreter.specs.Answers.{runLent, runAnswer, Kept}
 use Rattle.interpreter.specs.Progress.{scratchWords}

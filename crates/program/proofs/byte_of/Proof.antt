@@ -1,7 +1,7 @@
 -- `program::byte_of` meets its contract.
 use mathlib.Core.Path.{sym}
 use borrow.Author.Needs.{needs}
-use Rattle.model.proofs.Parts.{getD-part}
+use Rattle.model.proofs.files.Parts.{getD-part}
 use Rattle.program.proofs.Tables.{byte-past}
 use Rattle.program.proofs.byte_of.Statement.{statement}
 use Rattle.program.proofs.byte_of.Tie as tie

@@ -12,8 +12,8 @@ use Rattle.model.specs.Sizes.{sectionTable, mostProgram, pairSize, arraySize, s
 use Rattle.model.specs.Refusals.{ok, refused, check, wrongSections}
 use Rattle.model.specs.Bytes.{u32At, Pair as ModelPair, pairAt, entries, pairsAt, chained}
 use Rattle.model.specs.Program.{Layout as Sections, layoutOf, sectionsRight}
-use Rattle.model.proofs.Tests.{and-left, and-right}
-use Rattle.model.proofs.Parts.{entries-step, entries-getD, length-entries, chained-inside}
+use Rattle.model.proofs.basics.Tests.{and-left, and-right}
+use Rattle.model.proofs.files.Parts.{entries-step, entries-getD, length-entries, chained-inside}
 use Rattle.program.specs.Numbers.{sections, fieldsPair, variablesPair, arraysPair, statementsPair}
 use Rattle.program.specs.Reading.{sectionOf, InFourBytes, wholeEntries, layoutFrom, programAnswer, Placed}
 use Rattle.program.specs.declared.Layout.{Layout}

@@ -12,7 +12,7 @@ use Rattle.code_table.specs.Statements.{instrOf, OfKind}
 use Rattle.conjunct.specs.Value.{conjOf}
 use Rattle.rules.proofs.Additions.{added-store, added-in, added-full}
 use Rattle.rules.proofs.ByKind.{writes-kind}
-use Rattle.model.proofs.Skip.{before-none}
+use Rattle.model.proofs.walks.Skip.{before-none}
 use Rattle.rules.specs.Adding.{NoneLong, Added}
 use Rattle.rules.specs.declared.Answer.the-variants.{Done, Refused}
 use Rattle.rules.proofs.add_before.Statement.{statement}

@@ -8,7 +8,7 @@ use borrow.Author.Needs.{needs}
 use borrow.Author.Tests.{not-true, not-false}
 use Rattle.model.specs.Conjunct.{Conj, unionOf}
 use Rattle.model.specs.TidySets.{Canon}
-use Rattle.model.proofs.Canonical.{union-canon}
+use Rattle.model.proofs.conjuncts.Canonical.{union-canon}
 use Rattle.conjunct.specs.Value.{conjOf}
 use Rattle.sets.proofs.Inserting.{turn-over, turn-done, union-none}
 use Rattle.sets.proofs.Rows.{within-trans}

@@ -11,7 +11,7 @@ use lib.ListN.{length}
 use borrow.Author.Needs.{needs}
 use Rattle.model.specs.Code.{plain, if, while}
 use Rattle.model.specs.Sizes.{mostStatements, mostRounds}
-use Rattle.model.proofs.Laid.{laid-le}
+use Rattle.model.proofs.walks.Laid.{laid-le}
 use Rattle.code_table.specs.Statements.{stmtFrom, instrOf, Known}
 use Rattle.code_table.specs.Table.{tableWords, tableOf, stmts, mates}
 use Rattle.code_table.proofs.Meanings.{plain-stmt, if-stmt, while-stmt}

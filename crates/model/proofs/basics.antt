@@ -1,0 +1,5 @@
+pub mod Tests
+pub mod Lists
+pub mod Every
+pub mod Results
+pub mod LittleEndian

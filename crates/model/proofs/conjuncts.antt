@@ -1,0 +1,9 @@
+pub mod Order
+pub mod Canonical
+pub mod Limits
+pub mod Gather
+pub mod Remains
+pub mod Meaning
+pub mod Atoms
+pub mod Renumber
+pub mod Eval

@@ -1,0 +1,9 @@
+pub mod Combining
+pub mod Worked
+pub mod Choosing
+pub mod FilterExact
+pub mod Firsts
+pub mod Verdicts
+pub mod Causes
+pub mod BlankFields
+pub mod SafeMeets
