@@ -1,12 +1,12 @@
--- The rule at the program's start, conjunct by conjunct from the last to the first: it never refuses a set that a region holds.
+-- The rule at the program's start, conjunct by conjunct from the first to the last: it never refuses a set that a region holds.
 use mathlib.Core.Bool.{Bool, true, false}
 use mathlib.Core.List.{List, [], _∷_, map}
 use mathlib.Core.Logic.{inr}
-use mathlib.Core.Path.{_≡_, refl, sym, ap, ap₂, _∙_}
-use Prim.Native.Nat.{ℕ, zero, suc, _+_, _≤_}
+use mathlib.Core.Path.{_≡_, sym, ap, ap₂, _∙_}
+use Prim.Native.Nat.{ℕ, _+_, _≤_, _<_}
 use native.Mathlib.Omega.{arith}
-use lib.ListN.{length, getD, take, drop, length-map, length-drop}
-use lib.Seq.{drop-cons, drop-length}
+use lib.ListN.{length, getD, take, length-map}
+use lib.Seq.{take-length, length-take-le}
 use borrow.Author.Tests.{le-ltb}
 use Rattle.model.specs.Conjunct.{Conj, Conjuncts, withConjunct, unionOf, long, atom, atoms, renamed, onAtom, renumber}
 use Rattle.model.specs.Lists.{All}
@@ -20,6 +20,7 @@ use Rattle.model.proofs.conjuncts.Limits.{fine-limits, all-short}
 use Rattle.conjunct.specs.Word.{nodeOf, nodesOf}
 use Rattle.sets.specs.Region.{regionWords, few, slotAt, rowsFrom, rowsOf, setOf, Within, Inserted}
 use Rattle.sets.proofs.Rows.{set-few, frame}
+use Rattle.rules.proofs.Gathering.{gather-none, gather-next}
 use Rattle.rules.proofs.Limiting.{set-short}
 
 -- ---- sets within the limits
@@ -38,15 +39,12 @@ atStart e = map zeroed e ∷ []
 abbrev pub started : Conjuncts → Conjuncts
 started S = gather atStart S
 
-pub started-none : (S : Conjuncts) (k : ℕ) → k ≡ length S → started (drop k S) ≡ []
-unfolding gather
-started-none S k e = ap (λ T. started T) (ap (λ j. drop j S) e ∙ drop-length S)
+pub started-none : (S : Conjuncts) → started (take 0 S) ≡ []
+started-none S = sym (gather-none atStart S)
 
-pub started-next : (S : Conjuncts) (k j : ℕ) → j + 1 ≡ k → k ≤ length S → started (drop j S) ≡ withConjunct (renumber (map zeroed (getD S j []))) (started (drop k S))
-unfolding gather unionOf
-started-next S k j e h =
-    let f : suc j ≡ k = omega arith in
-    ap (λ T. started T) (drop-cons S j [] (omega arith) ∙ ap (λ i. getD S j [] ∷ drop i S) f)
+started-next : (S : Conjuncts) (k : ℕ) → k < length S → withConjunct (renumber (map zeroed (getD S k []))) (started (take k S)) ≡ started (take (k + 1) S)
+unfolding unionOf
+started-next S k h = gather-next atStart S k h
 
 pub started-length : (S : Conjuncts) → length (started S) ≤ length S
 unfolding gather unionOf
@@ -75,18 +73,22 @@ module _ (s₀ : List ℕ) (b room : ℕ) (fit : b + regionWords ≤ room) (insi
   kept s len within = frame s₀ s room b len (omega arith) (inr fit) within
 
   -- one conjunct more
-  pub started-more : (s t : List ℕ) (k j : ℕ) (d : Conj) (r : Bool) → length s ≡ length s₀ → Within room s₀ s → j + 1 ≡ k → k ≤ length (setOf s₀ b)
-      → d ≡ renumber (map zeroed (getD (setOf s b) j [])) → setOf s room ≡ started (drop k (setOf s₀ b)) → Inserted r room d s t
-      → setOf t room ≡ started (drop j (setOf s₀ b))
-  started-more s t k j d r len within e h p so = go r
+  pub started-more : (s t : List ℕ) (k : ℕ) (d : Conj) (r : Bool) → length s ≡ length s₀ → Within room s₀ s → k < length (setOf s₀ b)
+      → d ≡ renumber (map zeroed (getD (setOf s b) k [])) → setOf s room ≡ started (take k (setOf s₀ b)) → Inserted r room d s t
+      → setOf t room ≡ started (take (k + 1) (setOf s₀ b))
+  started-more s t k d r len within h p so = go r
     where
-      next : withConjunct d (setOf s room) ≡ started (drop j (setOf s₀ b))
-      next = ap₂ withConjunct (p ∙ ap (λ R. renumber (map zeroed (getD R j []))) (kept s len within)) so ∙ sym (started-next (setOf s₀ b) k j e h)
+      next : withConjunct d (setOf s room) ≡ started (take (k + 1) (setOf s₀ b))
+      next = ap₂ withConjunct (p ∙ ap (λ R. renumber (map zeroed (getD R k []))) (kept s len within)) so ∙ started-next (setOf s₀ b) k h
 
-      go : (q : Bool) → Inserted q room d s t → setOf t room ≡ started (drop j (setOf s₀ b))
+      few : length (setOf s room) ≤ k
+      few = omega (arith, ap length so, started-length (take k (setOf s₀ b)), length-take-le k (setOf s₀ b) (omega arith))
+
+      go : (q : Bool) → Inserted q room d s t → setOf t room ≡ started (take (k + 1) (setOf s₀ b))
       go true i = i ∙ next
-      go false i =
-          absurd (omega (arith, i .1, insert-length d (setOf s room), ap length so, started-length (drop k (setOf s₀ b)), length-drop k (setOf s₀ b), set-few s₀ b))
+      go false i = absurd (omega (arith, i .1, insert-length d (setOf s room), few, h, set-few s₀ b))
 
-pub start-done : (s₀ : List ℕ) (b : ℕ) (s : List ℕ) (room k : ℕ) → k ≡ 0 → setOf s room ≡ started (drop k (setOf s₀ b)) → start (setOf s₀ b) ≡ ok (setOf s room)
-start-done s₀ b s room k z so = start-fits s₀ b ∙ ap (λ T. ok T) (sym (so ∙ ap (λ j. started (drop j (setOf s₀ b))) z))
+pub start-done : (s₀ : List ℕ) (b : ℕ) (s : List ℕ) (room k : ℕ) → k ≡ length (setOf s₀ b) → setOf s room ≡ started (take k (setOf s₀ b)) → start (setOf s₀ b) ≡ ok (setOf s room)
+start-done s₀ b s room k z so =
+    let S = setOf s₀ b in
+    start-fits s₀ b ∙ ap (λ T. ok T) (sym (so ∙ ap (λ T. started T) (ap (λ j. take j S) z ∙ take-length S)))

@@ -10,7 +10,7 @@ use Rattle.model.specs.Conjunct.{Conj, Conjuncts, withConjunct, unionOf, long, 
 use Rattle.model.specs.Refusals.{ok, refused, _>>=_, tooManyConjuncts}
 use Rattle.model.specs.Sizes.{mostConjuncts}
 use Rattle.model.specs.Walk.{start}
-use Rattle.model.specs.TidySets.{Tidy}
+use Rattle.model.specs.TidySets.{Canon, Tidy}
 use Rattle.model.proofs.conjuncts.Canonical.{union-every}
 use Rattle.model.proofs.conjuncts.Limits.{fine-limits, all-short}
 use Rattle.model.proofs.basics.Results.{gives-ok}
@@ -48,6 +48,10 @@ module _ (s : List ℕ) (a b : ℕ) where
   union-over : mostConjuncts < length both → limits both ≡ refused tooManyConjuncts
   unfolding limits
   union-over h = rw (both-short, lt-ltb mostConjuncts (length both) h)
+
+-- a set at the program's start is canonical
+pub start-canon : (S Z : Conjuncts) → start S ≡ ok Z → Canon Z
+start-canon S Z at-start = gives-ok Tidy (start S) Z at-start (start-tidy S) .canon
 
 -- ---- the union so far at b, the site's set after it
 

@@ -53,18 +53,19 @@ fn single(s: &mut [u64], b: usize, w: u64)
 }
 
 // What the conjuncts of the region at b come to at the program's start, gathered in the empty room
-// from the last to the first. `e` and `seen` are room to work in.
+// from the first to the last. `e` and `seen` are room to work in.
 fn gather_start(s: &mut [u64], b: usize, room: usize, e: &mut [u64], seen: &mut [u64])
     requires { ⌜ (b + regionWords ≤ room) × (room + regionWords ≤ length (now s)) × (setOf (now s) room ≡ []) × (mostNodes ≤ length (now e)) × (mostNodes ≤ length (now seen)) ⌝ }
     ensures { λ _. ⌜ (start (setOf (now (s .entry)) b) ≡ ok (setOf (now (s .exit)) room)) × Within room (now (s .entry)) (now (s .exit)) ⌝ }
 {
-    let mut k = sets::size(s, b);
-    while k > 0 {
-        k -= 1;
+    let count = sets::size(s, b);
+    let mut k: usize = 0;
+    while k < count {
         let n = sets::get(s, b, k, e);
         conjunct::at_start(e, n);
         conjunct::numbering::renumber(e, n, seen);
         sets::insert(s, room, e, n);
+        k += 1;
     }
 }
 

@@ -7,8 +7,8 @@ use lib.ListN.{length}
 use borrow.Author.Needs.{needs}
 use borrow.Author.Tests.{not-true, not-false}
 use Rattle.enclosing.proofs.Walked.{refused-done}
-use Rattle.sets.specs.Region.{regionWords}
-use Rattle.analysis.proofs.Uniting.{joined-over, joined-done, joined-tidy}
+use Rattle.sets.specs.Region.{regionWords, setOf}
+use Rattle.analysis.proofs.Uniting.{start-canon, joined-over, joined-done, joined-tidy}
 use Rattle.analysis.proofs.join_next.Statement.{statement}
 use Rattle.analysis.proofs.join_next.Tie as tie
 
@@ -31,9 +31,12 @@ start-set-requires c κs = search needs
 union-requires : tie.Need-union-requires
 union-requires c κs =
     let after-start-set = c .before .before .before in
-    let p = entered after-start-set .pre in
-    let k = after-start-set .start-set .kept .0 in
-    (omega (arith, p .0, k), omega (arith, p .0, k), inr (omega arith))
+    let start = entered after-start-set in
+    let p = start .pre in
+    let f = after-start-set .start-set in
+    let k = f .kept .0 in
+    let canon = start-canon (setOf (start .args .s .now) (start .args .b + regionWords)) (setOf (f .last .0) (start .args .b + regionWords)) (f .ensures .0) in
+    ((omega (arith, p .0, k), omega (arith, p .0, k), inr (omega arith)), canon)
 
 same-length : tie.Need-same-length
 same-length c = search needs

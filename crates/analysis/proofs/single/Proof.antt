@@ -1,6 +1,8 @@
 -- `analysis::single` meets its contract.
 use mathlib.Core.List.{[], _∷_}
+use mathlib.Core.Path.{sym, subst}
 use borrow.Author.Needs.{needs}
+use Rattle.model.specs.TidySets.{Canon}
 use Rattle.conjunct.specs.Word.{nodeOf}
 use Rattle.sets.proofs.Rows.{within-trans}
 use Rattle.analysis.proofs.Uniting.{inserted-first}
@@ -18,7 +20,9 @@ slice-aggregate-insert : tie.Need-slice-aggregate-insert
 slice-aggregate-insert c = search needs
 
 insert-requires : tie.Need-insert-requires
-insert-requires c κs = search needs
+insert-requires c κs =
+    let none = c .before .before .before .before .clear .ensures .0 in
+    (search needs, search needs, search needs, subst Canon (sym none) tt)
 
 same-length : tie.Need-same-length
 same-length c = search needs
