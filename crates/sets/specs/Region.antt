@@ -9,6 +9,7 @@ use lib.Dec.{ltb}
 use lib.ListN.{length, getD, take, drop}
 use Rattle.model.specs.Conjunct.{Conj, Conjuncts, withConjunct, unionOf}
 use Rattle.model.specs.Sizes.{mostConjuncts, mostNodes}
+use Rattle.model.specs.TidySets.{Canon}
 use Rattle.conjunct.specs.Word.{nodesOf}
 use Rattle.sets.specs.declared.Spot.the-variants.{Here, Before}
 use Rattle.sets.specs.declared.Spot.{Spot}
@@ -61,6 +62,13 @@ Apart a b = (a + regionWords ≤ b) ⊎ (b + regionWords ≤ a)
 -- two regions that lie in the words and have no word in common
 abbrev pub TwoRegions : List ℕ → ℕ → ℕ → Type 0
 TwoRegions s a b = (a + regionWords ≤ length s) × (b + regionWords ≤ length s) × Apart a b
+
+-- what a search is given: the first n conjuncts of a region, which rise, and a conjunct in the first m of other words
+pub record Search (s : List ℕ) (b n : ℕ) (w : List ℕ) (m : ℕ) : Type 0 where
+  pub few : n ≤ mostConjuncts
+  pub there : b + regionWords ≤ length s
+  pub words : m ≤ length w
+  pub canon : Canon (firstOf s b n)
 
 -- where a conjunct goes in a set: it is there, or it is put before the i-th
 abbrev pub Spotted : Spot → Conj → Conjuncts → Type 0

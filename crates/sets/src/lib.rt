@@ -1,7 +1,7 @@
 // Sets of conjuncts in regions of one lent slice. specs/Region.antt says what a region holds. Every
 // operation leaves what lies outside of the region that it names.
 ghost use mathlib.Core.Path.{_≡_};
-ghost use mathlib.Core.List.{[], _∷_, _++_, map};
+ghost use mathlib.Core.List.{[], _∷_, _++_};
 ghost use mathlib.Core.Logic.{_⊎_};
 ghost use Prim.Native.Nat.{_+_, _*_, _<_, _≤_};
 ghost use lib.Dec.{isEq};
@@ -12,7 +12,7 @@ ghost use Rattle.model.specs.TidySets.{Canon};
 ghost use Rattle.bytes_le.specs.Overlay.{overlay};
 ghost use Rattle.conjunct.specs.Word.{nodesOf};
 ghost use Rattle.conjunct.specs.Value.{conjOf, orderingOf};
-ghost use Rattle.sets.specs.Region.{few, slotAt, rowsFrom, firstOf, setOf, Outside, Within, TwoRegions, Spotted, Inserted, Joined};
+ghost use Rattle.sets.specs.Region.{few, slotAt, rowsFrom, firstOf, setOf, Outside, Within, TwoRegions, Search, Spotted, Inserted, Joined};
 ghost use Rattle.sets.specs.Region.{regionWords, slotWords};
 ghost use Rattle.sets.specs.Minus.{has, minus};
 use conjunct::MOST_NODES;
@@ -152,7 +152,7 @@ fn shift(s: &mut [u64], a: usize, n: usize)
 
 // where m words go among the first n slots, by bisection
 fn bisect(s: &[u64], base: usize, n: usize, w: &[u64], m: usize) -> Spot
-    requires { ⌜ (n ≤ mostConjuncts) × (base + regionWords ≤ length (now s)) × (m ≤ length (now w)) × Canon (firstOf (now s) base n) ⌝ }
+    requires { ⌜ Search (now s) base n (now w) m ⌝ }
     ensures { λ r. ⌜ Spotted r (nodesOf (take m (now (w .entry)))) (firstOf (now (s .entry)) base n) ⌝ }
 {
     let mut lo: usize = 0;
@@ -171,7 +171,7 @@ fn bisect(s: &[u64], base: usize, n: usize, w: &[u64], m: usize) -> Spot
 
 // where m words go among the first n slots: mostly behind the last one, which is asked first
 fn find(s: &[u64], base: usize, n: usize, w: &[u64], m: usize) -> Spot
-    requires { ⌜ (n ≤ mostConjuncts) × (base + regionWords ≤ length (now s)) × (m ≤ length (now w)) × Canon (firstOf (now s) base n) ⌝ }
+    requires { ⌜ Search (now s) base n (now w) m ⌝ }
     ensures { λ r. ⌜ Spotted r (nodesOf (take m (now (w .entry)))) (firstOf (now (s .entry)) base n) ⌝ }
 {
     if n == 0 {

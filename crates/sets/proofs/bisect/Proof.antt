@@ -90,7 +90,7 @@ loop-again c =
     let l = at-loop t in
     let lp = l .loop in
     let less = compared t Less (c .enum-told .given .1) in
-    (omega arith, omega arith, before-here (wanted l) (among l) (middle l) (entry l .pre .3) (inside t) (lp .lo) (lp .hi) (lp .inv .2) less)
+    (omega arith, omega arith, before-here (wanted l) (among l) (middle l) (entry l .pre .canon) (inside t) (lp .lo) (lp .hi) (lp .inv .2) less)
 
 enum-told-2 : tie.Need-enum-told-2 Inv-loop μ-loop
 enum-told-2 c = search needs
@@ -99,7 +99,7 @@ returns : tie.Need-returns Inv-loop μ-loop
 returns c =
     let t = c .before .before in
     let l = at-loop t in
-    found-here (wanted l) (among l) (middle l) (entry l .pre .3) (inside t) (compared t Same (c .enum-told2 .given .1))
+    found-here (wanted l) (among l) (middle l) (entry l .pre .canon) (inside t) (compared t Same (c .enum-told2 .given .1))
 
 enum-told-3 : tie.Need-enum-told-3 Inv-loop μ-loop
 enum-told-3 c = search needs
@@ -116,7 +116,7 @@ loop-again-2 c =
     let l = at-loop t in
     let lp = l .loop in
     let more = compared t More (c .enum-told3 .given .1) in
-    (omega arith, omega arith, behind-here (wanted l) (among l) (middle l) (entry l .pre .3) (inside t) (lp .lo) (lp .hi) (lp .inv .2) more)
+    (omega arith, omega arith, behind-here (wanted l) (among l) (middle l) (entry l .pre .canon) (inside t) (lp .lo) (lp .hi) (lp .inv .2) more)
 
 returns-2 : tie.Need-returns-2 Inv-loop μ-loop
 returns-2 c =

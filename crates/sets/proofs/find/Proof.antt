@@ -84,7 +84,7 @@ returns-3 : tie.Need-returns-3
 returns-3 c =
     let t = c .before .before in
     let g = entry t in
-    found-here (wanted g) (among g) (g .args .n - 1) (g .pre .3) (inside t) (compared t Same (c .enum-told2 .given .1))
+    found-here (wanted g) (among g) (g .args .n - 1) (g .pre .canon) (inside t) (compared t Same (c .enum-told2 .given .1))
 
 returns-4 : tie.Need-returns-4
 returns-4 c =
@@ -92,7 +92,7 @@ returns-4 c =
     let g = entry t in
     let n = g .args .n in
     let all : n - 1 + 1 ≡ n = omega (arith, inside t) in
-    let behind = behind-here (wanted g) (among g) (n - 1) (g .pre .3) (inside t) 0 n (anywhere g) (compared t More (c .enum-told3 .given .1)) in
+    let behind = behind-here (wanted g) (among g) (n - 1) (g .pre .canon) (inside t) 0 n (anywhere g) (compared t More (c .enum-told3 .given .1)) in
     (omega (arith, among-length g), between-none (wanted g) (among g) n (subst (λ i. Between (wanted g) (among g) i n) all behind))
 
 pub find-spec : {M : Type 1} → statement M

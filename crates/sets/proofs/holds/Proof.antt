@@ -30,7 +30,7 @@ find-requires c κs =
     let a = start .args in
     let n = c .at-most in
     let rising = subst Canon (set-rows (a .s .now) (a .base) (n .result) (n .ensures .0)) (start .pre .2) in
-    (n .ensures .1, start .pre .0, start .pre .1, rising)
+    record { few = n .ensures .1; there = start .pre .0; words = start .pre .1; canon = rising }
 
 enum-told : tie.Need-enum-told
 enum-told c = search needs

@@ -41,7 +41,7 @@ find-requires c κs =
     let start = n .before .before .before .before in
     let a = start .args in
     let rising = subst Canon (set-rows (a .s .now) (a .base) (n .at-most .result) (n .at-most .ensures .0)) (start .pre .3) in
-    (n .at-most .ensures .1, start .pre .0, start .pre .2, rising)
+    record { few = n .at-most .ensures .1; there = start .pre .0; words = start .pre .2; canon = rising }
 
 enum-told : tie.Need-enum-told
 enum-told c = search needs
