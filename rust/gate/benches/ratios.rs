@@ -1,5 +1,6 @@
 //! The proved library beside plain Rust, on the same inputs in the same run: a table of ratios, and how
-//! the cost grows. The plain Rust is the independent implementation of the tests.
+//! the cost grows. The plain Rust is the independent implementation of the tests; of nested whiles whose rounds
+//! multiply it takes the analysis with the same shortcuts.
 //!
 //!     cargo bench
 
@@ -15,6 +16,7 @@ use gate::{check, derive, run, scratch, Choices, Refusal, Verdict, CONDITION};
 use gate_oracle as plain;
 use gate_oracle::build::{constant, recipe, s};
 use gate_oracle::generate::{self, Rng};
+use gate_oracle::nests::ROWS;
 use std::hint::black_box;
 use std::time::{Duration, Instant};
 
@@ -124,6 +126,9 @@ fn reading() -> Vec<u8> {
 
 // ---- measuring
 
+/// The analysis in plain Rust.
+type Derive = fn(&[u8]) -> Result<Vec<u8>, u8>;
+
 /// The shortest of several rounds of each, taken in turn.
 fn compare<A, B>(name: &str, unit: &str, count: f64, mut proved: impl FnMut() -> A, mut other: impl FnMut() -> B) {
     let (mut ours, mut theirs) = (Duration::MAX, Duration::MAX);
@@ -162,16 +167,18 @@ fn main() {
     let mut log = vec![0u8; 12_000_000];
 
     heading("derive");
-    let mut derives = |name: &str, unit: &str, count: f64, file: &[u8]| {
-        let answer = plain::derive(file).map(|file| file[0]);
+    let mut derives_beside = |other: Derive, name: &str, unit: &str, count: f64, file: &[u8]| {
+        let answer = other(file).map(|file| file[0]);
         let ours = derive(file, &mut condition, &mut work).map(|_| condition[0]).map_err(Refusal::number);
         assert_eq!(answer, ours);
         let name = match answer {
             Ok(conjuncts) => format!("{name}: {conjuncts} conjuncts"),
             Err(number) => format!("{name}: refused {number}"),
         };
-        compare(&name, unit, count, || derive(file, &mut condition, &mut work), || plain::derive(file));
+        compare(&name, unit, count, || derive(file, &mut condition, &mut work), || other(file));
     };
+    let mut derives =
+        |name: &str, unit: &str, count: f64, file: &[u8]| derives_beside(plain::derive, name, unit, count, file);
     derives("1,024 statements in straight line, 64 sites", "statement", 1024.0, &straight(1024, 64));
     derives("512 statements, 64 sites", "statement", 512.0, &straight(512, 64));
     derives("1,024 statements, 32 sites", "statement", 1024.0, &straight(1024, 32));
@@ -186,6 +193,10 @@ fn main() {
     stores.push(s(10, 0, 0, 0));
     let stores = recipe(&[], &[U32; 8], &[[U32, 0, 2, 0]], &stores);
     derives("64 conjuncts behind 1,000 stores", "store", 1000.0, &stores);
+    // Word by word these would take from seconds to days.
+    for (name, nest) in ROWS {
+        derives_beside(plain::derive_quickly, name, "statement", nest.statements() as f64, &nest.recipe());
+    }
     let made: Vec<Vec<u8>> = (0..500).map(|seed| generate::recipe(&mut Rng::new(seed))).collect();
     compare(
         "500 generated recipes",

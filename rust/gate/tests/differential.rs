@@ -2,7 +2,9 @@
 //! byte, and the untouched rest.
 //!
 //! CASES gives the number of cases, SEED the first one's seed; both are printed, and how often the gate gave each
-//! answer and a run the refusal 13. The refusals 13 are told apart by the first wrong pair, which the independent
+//! answer, a run the refusal 13 and the analysis of nested loops each of its answers. A third of the recipes are
+//! nested loops of many rounds; for these the independent implementation takes its shortcuts, which its own tests
+//! compare with the walk word by word. The refusals 13 are told apart by the first wrong pair, which the independent
 //! implementation gives and the library does not. A case is its seed.
 
 #![allow(
@@ -17,6 +19,8 @@ mod told;
 use gate::{check, derive, guarded, library, records, run, scratch, scratch_words};
 use gate::{Choices, Guarded, Ran, Refusal, CONDITION, RECORD};
 use gate_oracle::generate::{self, Rng};
+use gate_oracle::loops::{loops, Size};
+use gate_oracle::nests;
 use gate_oracle::sheet::first_wrong;
 use gate_oracle::Verdict;
 use std::collections::BTreeMap;
@@ -57,6 +61,16 @@ fn some_sheet(rng: &mut Rng, types: &[u8]) -> Vec<u8> {
     sheet
 }
 
+/// Nested loops, seldom of as many rounds as there may be.
+fn some_loops(rng: &mut Rng) -> Vec<u8> {
+    if rng.chance(10) {
+        return nests::some(rng).recipe();
+    }
+    let most = if rng.chance(10) { 16 } else { 9 };
+    let size = Size { depth: rng.between(1, 4), body: rng.between(2, 7), chain: rng.between(2, most) };
+    loops(rng, size)
+}
+
 /// The refusal 13 of a sheet for some types, with the place of what is wrong first.
 fn refused_sheet(sheet: &[u8], types: &[u8]) -> &'static str {
     REFUSALS_OF_SHEETS[match first_wrong(sheet, types) {
@@ -77,6 +91,8 @@ fn numbers(ran: Ran) -> (u8, u64, u64) {
 
 /// What a run takes.
 struct Inputs {
+    /// Whether the recipe is one of nested loops of many rounds.
+    looped: bool,
     recipe: Vec<u8>,
     sheet: Vec<u8>,
     limit: u32,
@@ -85,13 +101,14 @@ struct Inputs {
 
 impl Inputs {
     fn of(rng: &mut Rng) -> Inputs {
-        let mut recipe = generate::recipe(rng);
-        if rng.chance(15) {
+        let looped = rng.chance(33);
+        let mut recipe = if looped { some_loops(rng) } else { generate::recipe(rng) };
+        if rng.chance(if looped { 2 } else { 15 }) {
             generate::damage(rng, &mut recipe);
         }
         let sheet = some_sheet(rng, &field_types(&recipe));
         let (limit, choices) = (generate::limit(rng), Choices::of_bytes(generate::choices(rng)));
-        Inputs { recipe, sheet, limit, choices }
+        Inputs { looped, recipe, sheet, limit, choices }
     }
 
     /// The run as the other implementation has it.
@@ -116,8 +133,13 @@ impl Bench {
     }
 
     /// The condition of a recipe: the same file or the same refusal, and nothing else touched.
-    fn derive(&mut self, rng: &mut Rng, recipe: &[u8]) -> Result<Vec<u8>, u8> {
-        let expected = gate_oracle::derive(recipe);
+    fn derive(&mut self, rng: &mut Rng, inputs: &Inputs) -> Result<Vec<u8>, u8> {
+        let recipe = &inputs.recipe;
+        let expected = if inputs.looped { gate_oracle::derive_quickly(recipe) } else { gate_oracle::derive(recipe) };
+        if inputs.looped {
+            let words = expected.as_ref().map_or_else(|number| format!("refused {number}"), |_| "a condition".into());
+            self.count("loops", &words);
+        }
         let length = CONDITION + rng.below(17);
         let answer = derive(recipe, &mut self.condition[..length], &mut self.scratch);
         match (&expected, answer) {
@@ -214,7 +236,7 @@ impl Bench {
     fn run(&mut self, inputs: &Inputs, length: usize) -> Result<Ran, Refusal> {
         let (mut log, mut other) = (vec![MARK; length], vec![MARK; length]);
         let expected = inputs.expected(&mut other);
-        let Inputs { recipe, sheet, limit, choices } = inputs;
+        let Inputs { recipe, sheet, limit, choices, .. } = inputs;
         let answer = run(recipe, sheet, *limit, choices, &mut log, &mut self.scratch);
         assert_eq!(expected, answer.map(numbers).map_err(Refusal::number));
         assert_eq!(log, other);
@@ -230,7 +252,7 @@ impl Bench {
         verdict: Option<Result<Verdict, u8>>,
     ) {
         let mut log = vec![MARK; length];
-        let Inputs { recipe, sheet, limit, choices } = inputs;
+        let Inputs { recipe, sheet, limit, choices, .. } = inputs;
         let answer = guarded(recipe, sheet, *limit, choices, &mut log, &mut self.condition, &mut self.scratch);
         let expected = match (derived, verdict) {
             (Err(number), _) => Err(*number),
@@ -260,7 +282,7 @@ impl Bench {
         let rng = &mut Rng::new(seed);
         let inputs = Inputs::of(rng);
         let length = generate::log_length(rng);
-        let derived = self.derive(rng, &inputs.recipe);
+        let derived = self.derive(rng, &inputs);
         let verdict = derived.as_ref().ok().map(|condition| self.check("derived", condition, &inputs.sheet));
         if self.run(&inputs, length) == Err(Refusal::Sheet) {
             self.count("runs", refused_sheet(&inputs.sheet, &field_types(&inputs.recipe)));
@@ -315,7 +337,8 @@ fn generated_cases() {
     let answers = ["derived", "other"].iter().flat_map(|kind| ANSWERS.map(|answer| format!("{kind}: {answer}")));
     let sheets = ["derived", "other", "runs"];
     let sheets = sheets.iter().flat_map(|kind| REFUSALS_OF_SHEETS.map(|answer| format!("{kind}: {answer}")));
-    for answer in answers.chain(sheets).chain(["other: refused 12".to_string()]) {
+    let loops = ["a condition", "refused 9", "refused 10", "refused 11"].map(|answer| format!("loops: {answer}"));
+    for answer in answers.chain(sheets).chain(loops).chain(["other: refused 12".to_string()]) {
         assert!(tally.contains_key(&answer) || cases < 10_000, "{answer} never occurs");
     }
 }

@@ -5,16 +5,25 @@
 //! the field number, and loaded values, with the load's label there and with n.
 
 use crate::condition::{field, file_order, kind, node, ty, MOST_CONJUNCTS, MOST_NODES, READING};
-use crate::recipe::{Block, Recipe, Statement};
+use crate::recipe::{Block, Recipe, Statement, MOST_VARIABLES};
 use crate::types::{CONSTANT, CONVERT, COPY, END, LOAD, READ, SITE, STORE, WHILE};
+use std::cell::Cell;
 use std::cmp::Ordering;
 
 /// Node kinds that occur only during the walk.
 const VARIABLE: u8 = 7;
 const LOADED: u8 = 8;
 
-/// Rounds of a loop that are worked out before giving up.
-const MOST_ROUNDS: usize = 16;
+/// What the analysis gives up at: nodes of a conjunct (9), conjuncts of a set (10), rounds of a while (11).
+#[derive(Clone, Copy, Debug)]
+pub struct Limits {
+    pub nodes: usize,
+    pub conjuncts: usize,
+    pub rounds: usize,
+}
+
+/// The limits of document 01.
+pub const LIMITS: Limits = Limits { nodes: MOST_NODES, conjuncts: MOST_CONJUNCTS, rounds: 16 };
 
 type Conjunct = Vec<u64>;
 
@@ -33,48 +42,34 @@ fn order(left: &Conjunct, right: &Conjunct) -> Ordering {
     left.len().cmp(&right.len()).then_with(|| left.cmp(right))
 }
 
-/// The conjuncts of a recipe in file order, or the refusal 9, 10 or 11.
+/// The conjuncts of a recipe in file order, or the refusal 9, 10 or 11, word by word as document 01 has it.
 pub fn conjuncts(recipe: &Recipe) -> Result<Vec<Conjunct>, u8> {
-    let walk = Walk { recipe };
-    let mut all = Set::default();
-    for (label, s) in recipe.statements.iter().enumerate() {
-        if s.kind == SITE {
-            let set = walk.site(label)?;
-            all = union(&all, set)?;
-        }
-    }
-    all.conjuncts.sort_unstable_by(|l, r| file_order(l, r));
-    Ok(all.conjuncts)
+    within(recipe, LIMITS, false)
 }
 
-/// The union of two sets, tested for their number (10).
-fn union(left: &Set, right: Set) -> Result<Set, u8> {
-    let mut conjuncts = Vec::with_capacity(left.conjuncts.len() + right.conjuncts.len());
-    let mut from_left = left.conjuncts.iter().peekable();
-    for conjunct in right.conjuncts {
-        while let Some(smaller) = from_left.next_if(|l| order(l, &conjunct) == Ordering::Less) {
-            conjuncts.push(smaller.clone());
-        }
-        from_left.next_if(|l| **l == conjunct);
-        conjuncts.push(conjunct);
-    }
-    conjuncts.extend(from_left.cloned());
-    if conjuncts.len() > MOST_CONJUNCTS {
-        return Err(10);
-    }
-    let variables = left.variables | right.variables;
-    Ok(Set { conjuncts, variables, trays: left.trays | right.trays })
+/// The same by way of shortcuts, which only ever say yes: a while walks what is new in each round, and is
+/// confirmed by one round on all of it; a site that repeats an earlier one is passed over.
+pub fn quickly(recipe: &Recipe) -> Result<Vec<Conjunct>, u8> {
+    within(recipe, LIMITS, true)
 }
 
-/// Adds a conjunct unless the set has it; 10 if it is one too many.
-fn insert(conjuncts: &mut Vec<Conjunct>, conjunct: Conjunct) -> Result<(), u8> {
-    if let Err(place) = conjuncts.binary_search_by(|c| order(c, &conjunct)) {
-        if conjuncts.len() == MOST_CONJUNCTS {
-            return Err(10);
-        }
-        conjuncts.insert(place, conjunct);
-    }
-    Ok(())
+/// The conjuncts within other limits, word by word or by way of the shortcuts.
+pub fn within(recipe: &Recipe, limits: Limits, quick: bool) -> Result<Vec<Conjunct>, u8> {
+    Walk { recipe, limits, quick, walked: &[] }.sites()
+}
+
+/// How often the body of each while is walked, by the label of the while.
+pub fn walks(recipe: &Recipe, limits: Limits, quick: bool) -> Vec<u64> {
+    let walked = vec![Cell::new(0); recipe.statements.len()];
+    // A refusal ends the walks that are counted.
+    let _ = Walk { recipe, limits, quick, walked: &walked }.sites();
+    walked.into_iter().map(Cell::into_inner).collect()
+}
+
+/// What the left set has and the right one has not.
+fn minus(left: Set, right: &Set) -> Set {
+    let has = |conjunct: &Conjunct| right.conjuncts.binary_search_by(|c| order(c, conjunct)).is_ok();
+    Set { conjuncts: left.conjuncts.into_iter().filter(|c| !has(c)).collect(), ..left }
 }
 
 /// Renumbers the atoms of a conjunct: n counts from 1 by first appearance.
@@ -112,15 +107,15 @@ fn swap(conjunct: &mut [u64], old: u64, new: u64) -> bool {
     found
 }
 
-/// Replaces a node wherever it occurs by several nodes; 9 if the conjunct gets too long.
-fn expand(conjunct: &mut Conjunct, old: u64, new: &[u64]) -> Result<bool, u8> {
+/// Replaces a node wherever it occurs by several nodes; 9 if the conjunct gets longer than `most`.
+fn expand(conjunct: &mut Conjunct, old: u64, new: &[u64], most: usize) -> Result<bool, u8> {
     let found = conjunct.iter().filter(|&&n| n == old).count();
     if found == 0 {
         return Ok(false);
     }
     let mut from = conjunct.len();
     let mut to = from + found * (new.len() - 1);
-    if to > MOST_NODES {
+    if to > most {
         return Err(9);
     }
     // From the back, so that nothing is written over before it is moved.
@@ -154,11 +149,41 @@ impl Set {
     }
 }
 
+/// How a piece is walked: as document 01 has it, or lightly, its whiles by what is new alone. A light walk
+/// meets the same sets, but its refusals say nothing.
+#[derive(Clone, Copy, PartialEq)]
+enum Way {
+    Word,
+    Light,
+}
+
 struct Walk<'a> {
     recipe: &'a Recipe,
+    limits: Limits,
+    quick: bool,
+    /// For each label how often the body of its while was walked, or nothing where it is not counted.
+    walked: &'a [Cell<u64>],
 }
 
 impl Walk<'_> {
+    /// The set of all sites, in file order.
+    fn sites(&self) -> Result<Vec<Conjunct>, u8> {
+        let mut all = Set::default();
+        let mut last = [None; MOST_VARIABLES];
+        for (label, s) in self.recipe.statements.iter().enumerate() {
+            if s.kind == SITE {
+                let earlier = last[s.a as usize].replace(label);
+                if self.quick && earlier.is_some_and(|earlier| self.repeats(earlier, label)) {
+                    continue;
+                }
+                let set = self.site(label)?;
+                all = self.union(&all, set)?;
+            }
+        }
+        all.conjuncts.sort_unstable_by(|l, r| file_order(l, r));
+        Ok(all.conjuncts)
+    }
+
     /// The set of one site at the recipe's start.
     fn site(&self, label: usize) -> Result<Set, u8> {
         let variable = self.recipe.statements[label].a;
@@ -171,30 +196,30 @@ impl Walk<'_> {
                 Some(middle) if middle < at => middle + 1,
                 _ => block.open + 1,
             };
-            set = self.back(start, at, set)?;
+            set = self.back(start, at, set, Way::Word)?;
             if self.recipe.statements[block.open].kind == WHILE {
-                set = self.settle(block, &set)?;
+                set = self.settle(block, &set, Way::Word)?;
             }
             at = block.open;
             inside = self.recipe.inside[at];
         }
-        set = self.back(0, at, set)?;
+        set = self.back(0, at, set, Way::Word)?;
         Self::start(set)
     }
 
     /// Walks back from the label `at` to the label `start` of the same block.
-    fn back(&self, start: usize, mut at: usize, mut set: Set) -> Result<Set, u8> {
+    fn back(&self, start: usize, mut at: usize, mut set: Set, way: Way) -> Result<Set, u8> {
         while at > start {
             at -= 1;
             if self.recipe.statements[at].kind == END {
                 let block = &self.recipe.blocks[self.recipe.block[at].unwrap()];
                 set = match block.middle {
                     Some(middle) => {
-                        let yes = self.back(block.open + 1, middle, set.clone())?;
-                        let no = self.back(middle + 1, block.end, set)?;
-                        union(&yes, no)?
+                        let yes = self.back(block.open + 1, middle, set.clone(), way)?;
+                        let no = self.back(middle + 1, block.end, set, way)?;
+                        self.union(&yes, no)?
                     }
-                    None => self.settle(block, &set)?,
+                    None => self.settle(block, &set, way)?,
                 };
                 at = block.open;
             } else {
@@ -204,20 +229,96 @@ impl Walk<'_> {
         Ok(set)
     }
 
-    /// The whole of a while, from the set after it. S(0) is that set, S(k+1) is
-    /// S(0) joined with the body's walk of S(k); the first S(k) equal to S(k-1),
-    /// k from 1 to 16, is the result.
-    fn settle(&self, block: &Block, after: &Set) -> Result<Set, u8> {
+    /// The whole of a while, from the set after it.
+    fn settle(&self, block: &Block, after: &Set, way: Way) -> Result<Set, u8> {
+        if way == Way::Light {
+            return self.closure(block, after);
+        }
+        if self.quick {
+            if let Ok(set) = self.closure(block, after) {
+                if self.body(block, set.clone(), Way::Word).is_ok() {
+                    return Ok(set);
+                }
+            }
+        }
+        self.rounds(block, after)
+    }
+
+    /// S(0) is the set after the while, S(k+1) is S(0) joined with the body's walk of S(k); the first S(k)
+    /// equal to S(k-1), k from 1 to 16, is the result.
+    fn rounds(&self, block: &Block, after: &Set) -> Result<Set, u8> {
         let mut last = after.clone();
-        for _ in 0..MOST_ROUNDS {
-            let body = self.back(block.open + 1, block.end, last.clone())?;
-            let next = union(after, body)?;
+        for _ in 0..self.limits.rounds {
+            let body = self.body(block, last.clone(), Way::Word)?;
+            let next = self.union(after, body)?;
             if next.conjuncts == last.conjuncts {
                 return Ok(next);
             }
             last = next;
         }
         Err(11)
+    }
+
+    /// The same sets where each round walks only what is new.
+    fn closure(&self, block: &Block, after: &Set) -> Result<Set, u8> {
+        let mut all = after.clone();
+        let mut new = after.clone();
+        for _ in 0..self.limits.rounds {
+            let body = self.body(block, new, Way::Light)?;
+            new = minus(body, &all);
+            if new.conjuncts.is_empty() {
+                return Ok(all);
+            }
+            all = self.union(&all, new.clone())?;
+        }
+        Err(11)
+    }
+
+    /// One walk of a while's body.
+    fn body(&self, block: &Block, set: Set, way: Way) -> Result<Set, u8> {
+        if let Some(times) = self.walked.get(block.open) {
+            times.set(times.get() + 1);
+        }
+        self.back(block.open + 1, block.end, set, way)
+    }
+
+    /// Whether a site repeats an earlier one on the same variable: what stands between is plain and does not
+    /// write it.
+    fn repeats(&self, earlier: usize, label: usize) -> bool {
+        let variable = self.recipe.statements[label].a;
+        self.recipe.statements[earlier + 1..label]
+            .iter()
+            .all(|s| s.kind == STORE || s.kind == SITE || s.kind < STORE && s.a != variable)
+    }
+
+    /// The union of two sets, tested for their number (10).
+    fn union(&self, left: &Set, right: Set) -> Result<Set, u8> {
+        let mut conjuncts = Vec::with_capacity(left.conjuncts.len() + right.conjuncts.len());
+        let mut from_left = left.conjuncts.iter().peekable();
+        for conjunct in right.conjuncts {
+            while let Some(smaller) = from_left.next_if(|l| order(l, &conjunct) == Ordering::Less) {
+                conjuncts.push(smaller.clone());
+            }
+            from_left.next_if(|l| **l == conjunct);
+            conjuncts.push(conjunct);
+        }
+        conjuncts.extend(from_left.cloned());
+        if conjuncts.len() > self.limits.conjuncts {
+            return Err(10);
+        }
+        let variables = left.variables | right.variables;
+        Ok(Set { conjuncts, variables, trays: left.trays | right.trays })
+    }
+
+    /// Adds a conjunct unless the set has it; 10 if it is one too many.
+    fn insert(&self, conjuncts: &mut Vec<Conjunct>, conjunct: Conjunct) -> Result<(), u8> {
+        if let Err(place) = conjuncts.binary_search_by(|c| order(c, &conjunct)) {
+            if conjuncts.len() == self.limits.conjuncts {
+                return Err(10);
+            }
+            conjuncts.insert(place, conjunct);
+        }
+        Ok(())
     }
 
     /// The rule of one statement. Kinds 0 to 6 put in no atoms with n and leave
@@ -247,7 +348,7 @@ impl Walk<'_> {
             CONVERT => {
                 set.variables |= 1 << s.b;
                 let new = [self.variable(s.b), node(CONVERT, ty, 0, 0)];
-                set.change(|c| expand(c, old, &new))
+                set.change(|c| expand(c, old, &new, self.limits.nodes))
             }
             READ | LOAD => {
                 // A fresh atom has n = 0 until it is renumbered.
@@ -268,7 +369,7 @@ impl Walk<'_> {
             _ => {
                 set.variables |= 1 << s.b | 1 << s.c;
                 let new = [self.variable(s.b), self.variable(s.c), node(s.kind, ty, 0, 0)];
-                set.change(|c| expand(c, old, &new))
+                set.change(|c| expand(c, old, &new, self.limits.nodes))
             }
         }
     }
@@ -294,7 +395,7 @@ impl Walk<'_> {
                 Ok(found)
             });
         }
-        let mut conjuncts = Vec::with_capacity(MOST_CONJUNCTS);
+        let mut conjuncts = Vec::with_capacity(self.limits.conjuncts);
         for conjunct in std::mem::take(&mut set.conjuncts) {
             let mut atoms: Vec<u64> = Vec::new();
             for &n in &conjunct {
@@ -304,7 +405,7 @@ impl Walk<'_> {
             }
             // Subsets differ in which nodes are the stored variable, so 7 atoms
             // give 128 conjuncts.
-            if 1 << atoms.len().min(7) > MOST_CONJUNCTS {
+            if 1 << atoms.len().min(7) > self.limits.conjuncts {
                 return Err(10);
             }
             for subset in 1..1 << atoms.len() {
@@ -317,9 +418,9 @@ impl Walk<'_> {
                     }
                 }
                 renumber(&mut replaced);
-                insert(&mut conjuncts, replaced)?;
+                self.insert(&mut conjuncts, replaced)?;
             }
-            insert(&mut conjuncts, conjunct)?;
+            self.insert(&mut conjuncts, conjunct)?;
         }
         set.conjuncts = conjuncts;
         Ok(())

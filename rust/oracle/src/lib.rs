@@ -24,6 +24,8 @@ pub mod condition;
 pub mod failures;
 pub mod gate;
 pub mod generate;
+pub mod loops;
+pub mod nests;
 pub mod recipe;
 pub mod run;
 pub mod sheet;
@@ -41,6 +43,13 @@ pub use whole::{whole_bits, whole_run, Noted};
 pub fn derive(recipe: &[u8]) -> Result<Vec<u8>, u8> {
     let recipe = recipe::Recipe::read(recipe)?;
     let conjuncts = analysis::conjuncts(&recipe)?;
+    Ok(condition::write(&recipe.fields, &conjuncts))
+}
+
+/// The same by way of the analysis's shortcuts, for recipes that take too long word by word.
+pub fn derive_quickly(recipe: &[u8]) -> Result<Vec<u8>, u8> {
+    let recipe = recipe::Recipe::read(recipe)?;
+    let conjuncts = analysis::quickly(&recipe)?;
     Ok(condition::write(&recipe.fields, &conjuncts))
 }
 
