@@ -34,6 +34,16 @@ atomsOf ws = map atomOf ws
 abbrev pub Atoms : List ℕ → Type 0
 Atoms ws = every isAtom ws ≡ true
 
+-- the first m words are there, and they are atoms'
+pub record SeenAtoms (seen : List ℕ) (m : ℕ) : Type 0 where
+  pub there : m ≤ length seen
+  pub atoms : Atoms (take m seen)
+
+-- the first m words are atoms', and there is room for one more
+pub record RoomBehind (seen : List ℕ) (m : ℕ) : Type 0 where
+  pub room : m < length seen
+  pub atoms : Atoms (take m seen)
+
 -- what is found of an atom among the words of atoms
 pub record Ranked (ks : List ℕ) (w : ℕ) (r : Rank) : Type 0 where
   pub known : r .known ≡ has (atomOf w) (atomsOf ks)

@@ -8,7 +8,7 @@
 -- A number with a higher first byte is a load with a type above 255.
 use mathlib.Core.Bool.{Bool, cond}
 use mathlib.Core.List.{List, [], _∷_, map}
-use Prim.Native.Nat.{ℕ, _+_, _-_, _*_, _/_, _%_}
+use Prim.Native.Nat.{ℕ, _+_, _-_, _*_, _/_, _%_, _≤_, _<_, _^_}
 use lib.Dec.{ltb, leb}
 use Rattle.model.specs.Conjunct.{Source, field, cell, Atom, Node, const, atom, var, op, conv, Conj}
 use Rattle.model.specs.Values.{add, sub, mul, div}
@@ -112,6 +112,19 @@ nodeOf w = cond (isAtom w) (atom (atomOf w)) (plainOf w)
 -- the nodes of words
 abbrev pub nodesOf : List ℕ → Conj
 nodesOf ws = map nodeOf ws
+
+-- what a load is made of fits its bytes: a label, an array with its length, and a type
+pub record LoadFits (l t k ty : ℕ) : Type 0 where
+  pub label : l < 2 ^ 16
+  pub array : t < 2 ^ 8
+  pub len : k < 2 ^ 16
+  pub type : ty < 2 ^ 8
+
+-- a kind is an operation's, and the type fits its bytes
+pub record OperationFits (kind ty : ℕ) : Type 0 where
+  pub first : 2 ≤ kind
+  pub last : kind ≤ 5
+  pub type : ty < 2 ^ 56
 
 -- the 8 bytes of a number, from the highest on
 unfoldable pub fileBytes : ℕ → List ℕ

@@ -3,13 +3,13 @@
 ghost use mathlib.Core.Path.{_≡_};
 ghost use mathlib.Core.Bool.{true};
 ghost use mathlib.Core.List.{List};
-ghost use Prim.Native.Nat.{ℕ, _+_, _<_, _≤_, _^_};
+ghost use Prim.Native.Nat.{ℕ, _+_, _<_, _^_};
 ghost use Rattle.model.specs.Values.{Operation, operationKind};
 ghost use Rattle.model.specs.Conjunct.{field, cell, const, atom, var, op, conv, bytes};
 ghost use Rattle.model.specs.Walk.{zeroed};
 ghost use Rattle.model.specs.Formed.{FileNode};
 ghost use Rattle.model.specs.Touch.{isVar, isLoad};
-ghost use Rattle.conjunct.specs.Word.{isAtom, sourceOf, keyOf, nodeOf, low4, fileBytes};
+ghost use Rattle.conjunct.specs.Word.{isAtom, sourceOf, keyOf, nodeOf, low4, fileBytes, LoadFits, OperationFits};
 
 // the first word of each kind after the constants; the sums begin the operations
 const READING: u64 = 0x01_00_0000_0000_0000;
@@ -55,7 +55,7 @@ pub fn reading(f: u64, ty: u64) -> u64
 
 // a load at the label with n 0
 pub fn load(label: u64, array: u64, len: u64, ty: u64) -> u64
-    requires { ⌜ (label < 2 ^ 16) × (array < 2 ^ 8) × (len < 2 ^ 16) × (ty < 2 ^ 8) ⌝ }
+    requires { ⌜ LoadFits label array len ty ⌝ }
     ensures { λ r. ⌜ nodeOf r ≡ atom (record { src = cell label array len ty; n = 0 }) ⌝ }
 {
     LOAD
@@ -68,7 +68,7 @@ pub fn load(label: u64, array: u64, len: u64, ty: u64) -> u64
 
 // an operation by its kind
 pub fn operation(kind: u64, ty: u64) -> u64
-    requires { ⌜ (2 ≤ kind) × (kind ≤ 5) × (ty < 2 ^ 56) ⌝ }
+    requires { ⌜ OperationFits kind ty ⌝ }
     ensures { λ r. ⌜ ((o : Operation) → operationKind o ≡ kind → nodeOf r ≡ op o ty) ⌝ }
 {
     kind * 0x01_00_0000_0000_0000 + ty

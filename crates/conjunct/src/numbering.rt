@@ -10,8 +10,8 @@ ghost use Rattle.model.specs.Walk.{loads};
 ghost use Rattle.model.specs.Sizes.{mostNodes};
 ghost use Rattle.model.specs.Touch.{some};
 ghost use Rattle.conjunct.specs.Word.{isAtom, keyOf};
-ghost use Rattle.conjunct.specs.Value.{conjOf};
-ghost use Rattle.conjunct.specs.Behind.{Atoms, Ranked, Behind, LoadBehind, rightWords, Substitutable, Replaced};
+ghost use Rattle.conjunct.specs.Value.{conjOf, ConjunctIn};
+ghost use Rattle.conjunct.specs.Behind.{SeenAtoms, RoomBehind, Ranked, Behind, LoadBehind, rightWords, Substitutable, Replaced};
 use super::MOST_NODES;
 use super::node;
 
@@ -46,7 +46,7 @@ fn tick(k: u64, s: u64) -> u64
 }
 
 fn look_up(seen: &[u64], m: usize, w: u64) -> Rank
-    requires { ⌜ (m ≤ length (now seen)) × Atoms (take m (now seen)) × (isAtom w ≡ true) ⌝ }
+    requires { ⌜ SeenAtoms (now seen) m × (isAtom w ≡ true) ⌝ }
     ensures { λ r. ⌜ Ranked (take m (now (seen .entry))) w r ⌝ }
 {
     let s = node::source(w);
@@ -64,7 +64,7 @@ fn look_up(seen: &[u64], m: usize, w: u64) -> Rank
 }
 
 fn note(seen: &mut [u64], m: usize, w: u64) -> Noted
-    requires { ⌜ (m < mostNodes) × (m < length (now seen)) × Atoms (take m (now seen)) ⌝ }
+    requires { ⌜ (m < mostNodes) × RoomBehind (now seen) m ⌝ }
     ensures { λ r. ⌜ Behind (take m (now (seen .entry))) w m (now (seen .exit)) r ⌝ }
 {
     if !node::is_atom(w) {
@@ -84,7 +84,7 @@ fn note(seen: &mut [u64], m: usize, w: u64) -> Noted
 
 // the n of each source count from 1 by first appearance; `seen` is room to work in
 pub fn renumber(words: &mut [u64], n: usize, seen: &mut [u64])
-    requires { ⌜ (n ≤ mostNodes) × (n ≤ length (now words)) × (mostNodes ≤ length (now seen)) ⌝ }
+    requires { ⌜ ConjunctIn (now words) n × (mostNodes ≤ length (now seen)) ⌝ }
     ensures { λ _. ⌜ conjOf (now (words .exit)) n ≡ renumber (conjOf (now (words .entry)) n) ⌝ }
 {
     let mut m: usize = 0;
@@ -171,7 +171,7 @@ pub fn substitute(
 }
 
 fn note_load(seen: &mut [u64], m: usize, w: u64, array: u64, len: u64) -> usize
-    requires { ⌜ (m < length (now seen)) × Atoms (take m (now seen)) ⌝ }
+    requires { ⌜ RoomBehind (now seen) m ⌝ }
     ensures { λ r. ⌜ (r ≤ m + 1) × LoadBehind array len (take m (now (seen .entry))) w (take r (now (seen .exit))) ⌝ }
 {
     if !node::is_load(w, array, len) {
@@ -188,7 +188,7 @@ fn note_load(seen: &mut [u64], m: usize, w: u64, array: u64, len: u64) -> usize
 // the distinct loads from the array in the first n words of e by first appearance, as nodes, to `out`;
 // how many they are
 pub fn loads(e: &[u64], n: usize, array: u64, len: u64, out: &mut [u64]) -> usize
-    requires { ⌜ (n ≤ mostNodes) × (n ≤ length (now e)) × (mostNodes ≤ length (now out)) ⌝ }
+    requires { ⌜ ConjunctIn (now e) n × (mostNodes ≤ length (now out)) ⌝ }
     ensures { λ m. ⌜ (m ≤ n) × (conjOf (now (out .exit)) m ≡ map atom (loads array len (atoms (conjOf (now (e .entry)) n)))) ⌝ }
 {
     let mut m: usize = 0;

@@ -110,7 +110,7 @@ load-requires c κs =
     let g = entered-else c in
     let k : OfKind aLoad (g .args .d) = omega arith in
     let n = g .pre .known .loads k in
-    (omega arith, omega arith, omega arith, omega arith)
+    record { label = omega arith; array = omega arith; len = omega arith; type = omega arith }
 
 one-node-requires-4 : tie.Need-one-node-requires-4
 one-node-requires-4 c κs = search needs

@@ -32,7 +32,7 @@ add-result-5 : tie.Need-add-result-5
 add-result-5 c = search needs
 
 returns : tie.Need-returns
-returns c = made-load (c .args .label) (c .args .array) (c .args .len) (c .args .ty) (c .pre .0) (c .pre .1) (c .pre .2) (c .pre .3)
+returns c = made-load (c .args .label) (c .args .array) (c .args .len) (c .args .ty) (c .pre .label) (c .pre .array) (c .pre .len) (c .pre .type)
 
 pub load-spec : {M : Type 1} → statement M
 load-spec =

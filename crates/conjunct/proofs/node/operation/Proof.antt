@@ -11,7 +11,7 @@ add-result : tie.Need-add-result
 add-result c = search needs
 
 returns : tie.Need-returns
-returns c = made-operation (c .args .kind) (c .args .ty) (c .pre .2)
+returns c = made-operation (c .args .kind) (c .args .ty) (c .pre .type)
 
 pub operation-spec : {M : Type 1} → statement M
 operation-spec = tie.close (tie.spec mul-result add-result returns)

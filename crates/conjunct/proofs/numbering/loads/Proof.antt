@@ -38,7 +38,7 @@ shared-slice-read-w : tie.Need-shared-slice-read-w Inv-loop μ-loop
 shared-slice-read-w c = search needs
 
 note-load-requires : tie.Need-note-load-requires Inv-loop μ-loop
-note-load-requires c κs = let lp = c .before .before .before .loop in (omega arith, lp .inv .6)
+note-load-requires c κs = let lp = c .before .before .before .loop in record { room = omega arith; atoms = lp .inv .6 }
 
 add-i : tie.Need-add-i Inv-loop μ-loop
 add-i c = search needs

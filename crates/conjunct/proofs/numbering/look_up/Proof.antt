@@ -48,10 +48,10 @@ returns c =
     let start = entered (head c) in
     let a = start .args in
     let p = start .pre in
-    let h : a .m ≤ length (a .seen .now) = p .0 in
+    let h : a .m ≤ length (a .seen .now) = p .0 .there in
     let len : length (take (a .m) (a .seen .now)) ≡ a .m = length-take-le (a .m) (a .seen .now) (omega arith) in
     let lp = head c .loop in
-    let f = left-met (a .seen .now) (a .m) (a .w) (omega arith) (p .1) (p .2) (lp .j) (lp .n) (lp .inv .3) (omega arith) (c .if1 .taken) in
+    let f = left-met (a .seen .now) (a .m) (a .w) (omega arith) (p .0 .atoms) (p .1) (lp .j) (lp .n) (lp .inv .3) (omega arith) (c .if1 .taken) in
     record { known = f .1; number = f .0; small = omega arith }
 
 tick-requires : tie.Need-tick-requires Inv-loop μ-loop
@@ -71,14 +71,14 @@ loop-again c =
     let start = entered (head-past c) in
     let a = start .args in
     let p = start .pre in
-    let h : a .m ≤ length (a .seen .now) = p .0 in
+    let h : a .m ≤ length (a .seen .now) = p .0 .there in
     let len : length (take (a .m) (a .seen .now)) ≡ a .m = length-take-le (a .m) (a .seen .now) (omega arith) in
     let lp = head-past c .loop in (
       omega arith,
       omega arith,
       lp .inv .2,
       rw (c .tick .ensures .0, lp .inv .2)
-          (left-past (a .seen .now) (a .m) (a .w) (omega arith) (p .1) (p .2) (lp .j) (lp .n) (lp .inv .3) (omega arith) (c .before .if1 .left)),
+          (left-past (a .seen .now) (a .m) (a .w) (omega arith) (p .0 .atoms) (p .1) (lp .j) (lp .n) (lp .inv .3) (omega arith) (c .before .if1 .left)),
     )
 
 returns-2 : tie.Need-returns-2 Inv-loop μ-loop
@@ -86,10 +86,10 @@ returns-2 c =
     let start = entered (c .before) in
     let a = start .args in
     let p = start .pre in
-    let h : a .m ≤ length (a .seen .now) = p .0 in
+    let h : a .m ≤ length (a .seen .now) = p .0 .there in
     let len : length (take (a .m) (a .seen .now)) ≡ a .m = length-take-le (a .m) (a .seen .now) (omega arith) in
     let lp = c .before .loop in
-    let f = left-none (a .seen .now) (a .m) (a .w) (omega arith) (p .1) (p .2) (lp .j) (lp .n) (lp .inv .3) (omega arith) (omega arith) in
+    let f = left-none (a .seen .now) (a .m) (a .w) (omega arith) (p .0 .atoms) (p .1) (lp .j) (lp .n) (lp .inv .3) (omega arith) (omega arith) in
     record { known = f .1; number = f .0; small = omega arith }
 
 pub look-up-spec : {M : Type 1} → statement M

@@ -24,11 +24,11 @@ is-atom-requires c κs = search needs
 returns : tie.Need-returns
 returns c =
     let a = c .before .before .before .args in
-    noted-other (a .seen .now) (a .m) (a .w) (c .before .before .before .pre .2) (sym (c .before .is-atom .ensures) ∙ not-true _ (c .if1 .taken))
+    noted-other (a .seen .now) (a .m) (a .w) (c .before .before .before .pre .1 .atoms) (sym (c .before .is-atom .ensures) ∙ not-true _ (c .if1 .taken))
 
 look-up-requires : tie.Need-look-up-requires
 look-up-requires c κs =
-    (search needs, c .before .before .before .before .pre .2, sym (c .before .before .is-atom .ensures) ∙ not-false _ (c .before .if1 .left))
+    (record { there = search needs; atoms = c .before .before .before .before .pre .1 .atoms }, sym (c .before .before .is-atom .ensures) ∙ not-false _ (c .before .if1 .left))
 
 add-numbered : tie.Need-add-numbered
 add-numbered c =
@@ -57,7 +57,7 @@ returns-2 c =
     let a = start .args in
     let r = c .before .before .before .look-up in
     let i : isAtom (a .w) ≡ true = sym (after-is-atom .is-atom .ensures) ∙ not-false _ (else1 .if1 .left) in
-    noted-known (a .seen .now) (a .m) (a .w) (start .pre .2) i (c .before .numbered .result) (r .result .n) (c .before .numbered .ensures)
+    noted-known (a .seen .now) (a .m) (a .w) (start .pre .1 .atoms) i (c .before .numbered .result) (r .result .n) (c .before .numbered .ensures)
     (r .ensures .number) (sym (c .if2 .taken) ∙ r .ensures .known)
 
 mul-seen : tie.Need-mul-seen
@@ -80,8 +80,8 @@ returns-3 c =
     let a = start .args in
     let r = c .before .before .before .look-up in
     let i : isAtom (a .w) ≡ true = sym (after-is-atom .is-atom .ensures) ∙ not-false _ (else1 .if1 .left) in
-    noted-new (a .seen .now) (a .m) (a .w) (start .pre .2) i (c .before .numbered .result) (r .result .n) (c .before .numbered .ensures)
-    (r .ensures .number) (start .pre .1) (sym (c .if2 .left) ∙ r .ensures .known)
+    noted-new (a .seen .now) (a .m) (a .w) (start .pre .1 .atoms) i (c .before .numbered .result) (r .result .n) (c .before .numbered .ensures)
+    (r .ensures .number) (start .pre .1 .room) (sym (c .if2 .left) ∙ r .ensures .known)
 
 pub note-spec : {M : Type 1} → statement M
 note-spec =

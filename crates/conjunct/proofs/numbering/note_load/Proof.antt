@@ -21,15 +21,14 @@ returns : tie.Need-returns
 returns c =
     let a = c .before .before .before .args in (
       omega arith,
-      load-other (a .array) (a .len) (a .seen .now) (a .m) (a .w) (c .before .before .before .pre .1)
+      load-other (a .array) (a .len) (a .seen .now) (a .m) (a .w) (c .before .before .before .pre .atoms)
           (sym (c .before .is-load .ensures) ∙ not-true _ (c .if1 .taken)),
     )
 
 look-up-requires : tie.Need-look-up-requires
 look-up-requires c κs =
     let a = c .before .before .before .before .args in (
-      search needs,
-      c .before .before .before .before .pre .1,
+      record { there = search needs; atoms = c .before .before .before .before .pre .atoms },
       load-atom (a .array) (a .len) (a .w) (sym (c .before .before .is-load .ensures) ∙ not-false _ (c .before .if1 .left)),
     )
 
@@ -43,7 +42,7 @@ returns-2 c =
     let r = c .before .look-up in
     let i : isLoad (a .array) (a .len) (nodeOf (a .w)) ≡ true =
     sym (c .before .before .before .before .is-load .ensures) ∙ not-false _ (c .before .before .before .if1 .left) in
-    (omega arith, load-known (a .array) (a .len) (a .seen .now) (a .m) (a .w) (start .pre .1) i (sym (c .if2 .taken) ∙ r .ensures .known))
+    (omega arith, load-known (a .array) (a .len) (a .seen .now) (a .m) (a .w) (start .pre .atoms) i (sym (c .if2 .taken) ∙ r .ensures .known))
 
 mul-seen : tie.Need-mul-seen
 mul-seen c = search needs
@@ -65,7 +64,7 @@ returns-3 c =
     let i : isLoad (a .array) (a .len) (nodeOf (a .w)) ≡ true =
     sym (c .before .before .before .before .is-load .ensures) ∙ not-false _ (c .before .before .before .if1 .left) in (
       omega arith,
-      load-new (a .array) (a .len) (a .seen .now) (a .m) (a .w) (start .pre .1) (start .pre .0) i (sym (c .if2 .left) ∙ r .ensures .known),
+      load-new (a .array) (a .len) (a .seen .now) (a .m) (a .w) (start .pre .atoms) (start .pre .room) i (sym (c .if2 .left) ∙ r .ensures .known),
     )
 
 pub note-load-spec : {M : Type 1} → statement M

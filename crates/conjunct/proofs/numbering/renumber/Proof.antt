@@ -40,7 +40,7 @@ slice-read-w : tie.Need-slice-read-w Inv-loop μ-loop
 slice-read-w c = search needs
 
 note-requires : tie.Need-note-requires Inv-loop μ-loop
-note-requires c κs = let lp = c .before .before .before .loop in (omega arith, omega arith, lp .inv .6 .all)
+note-requires c κs = let lp = c .before .before .before .loop in (omega arith, record { room = omega arith; atoms = lp .inv .6 .all })
 
 mul-words : tie.Need-mul-words Inv-loop μ-loop
 mul-words c = search needs
