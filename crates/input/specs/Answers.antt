@@ -1,12 +1,12 @@
 -- What the answers of the input's reader stand for, and the places of a field in an input that is read.
 use mathlib.Core.Path.{_≡_}
 use mathlib.Core.List.{List}
-use Prim.Native.Nat.{ℕ, _*_}
+use Prim.Native.Nat.{ℕ, _*_, _≤_}
 use lib.IntN.{ℤ}
 use lib.ListN.{getD}
 use Rattle.model.specs.Refusals.{Out, ok, refused, mapped}
 use Rattle.model.specs.Bytes.{part, pairAt}
-use Rattle.model.specs.Input.{readingsOf, readInput}
+use Rattle.model.specs.Input.{width, readingsOf, readInput}
 use Rattle.input.specs.declared.InputRead.{InputRead}
 use Rattle.input.specs.declared.InputRead.the-variants.{Yes, Refused}
 
@@ -18,6 +18,12 @@ inputAnswer (Refused n) = refused n
 -- the input is in its form
 abbrev pub InputIsRead : List ℕ → List ℕ → Type 0
 InputIsRead types s = mapped (λ I. tt {0}) (readInput types s) ≡ ok tt
+
+-- how many bytes a reading of a type has: 1 to 8
+pub record WidthIs (ty w : ℕ) : Type 0 where
+  pub is : w ≡ width ty
+  pub some : 1 ≤ w
+  pub few : w ≤ 8
 
 -- the bytes of a field's readings
 abbrev pub fieldPart : List ℕ → ℕ → List ℕ

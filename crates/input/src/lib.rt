@@ -10,7 +10,7 @@ ghost use Rattle.model.specs.Sizes.{mostReadings};
 ghost use Rattle.model.specs.Refusals.{mapped};
 ghost use Rattle.model.specs.Bytes.{pairAt};
 ghost use Rattle.model.specs.Input.{width, bitsAt, readingAt, readInput};
-ghost use Rattle.input.specs.Answers.{inputAnswer, InputIsRead, fieldPart, fieldReadings};
+ghost use Rattle.input.specs.Answers.{inputAnswer, InputIsRead, WidthIs, fieldPart, fieldReadings};
 ghost use Rattle.input.specs.FirstWrong.{PartIs, PairsAre};
 use arith::Range;
 
@@ -34,7 +34,7 @@ enum Pairs {
 
 // How many bytes a reading of a type has; a type's code counts modulo 8.
 fn width_of(ty: u8) -> usize
-    ensures { λ w. ⌜ (w ≡ width ty) × (1 ≤ w) × (w ≤ 8) ⌝ }
+    ensures { λ w. ⌜ WidthIs ty w ⌝ }
 {
     let range = arith::range_of(ty % 8);
     (range.bits / 8) as usize

@@ -34,7 +34,7 @@ returns : tie.Need-returns
 returns c =
     let s = start c in
     counted (s .args .types .now) (s .args .input .now) (s .args .field) _ _ (s .pre .0) (s .pre .1) (c .u32-at .ensures .0)
-    (c .before .width-of .ensures .0)
+    (c .before .width-of .ensures .is)
 
 pub count-spec : {M : Type 1} → statement M
 count-spec =

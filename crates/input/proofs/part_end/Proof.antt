@@ -14,7 +14,7 @@ start c = c .before .before .before .before
 -- the length that was read, and the width, are the pair's and the type's
 remainder : (c : tie.After-width-of)
     → (c .before .u32-at2 .result % c .width-of .result) ≡ (pairAt (start c .args .input .now) (start c .args .at) .len % width (start c .args .ty))
-remainder c = ap₂ (λ (l w : ℕ). l % w) (c .before .u32-at2 .ensures .0) (c .width-of .ensures .0)
+remainder c = ap₂ (λ (l w : ℕ). l % w) (c .before .u32-at2 .ensures .0) (c .width-of .ensures .is)
 
 u32-at-requires : tie.Need-u32-at-requires
 u32-at-requires c κs = search needs

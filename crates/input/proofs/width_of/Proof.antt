@@ -1,9 +1,8 @@
 -- `input::width_of` meets its contract.
-use mathlib.Core.Path.{_≡_, _∙_}
-use Prim.Native.Nat.{_/_, _%_}
+use mathlib.Core.Path.{_∙_}
+use Prim.Native.Nat.{_%_}
 use native.Mathlib.Omega.{arith}
 use borrow.Author.Needs.{needs}
-use Rattle.model.specs.Input.{width}
 use Rattle.input.proofs.Fields.{row-width, width-modulo, some-width, width-le}
 use Rattle.input.proofs.width_of.Statement.{statement}
 use Rattle.input.proofs.width_of.Tie as tie
@@ -18,7 +17,7 @@ returns : tie.Need-returns
 returns c =
     let t = c .before .before .args .ty in
     let w = row-width (t % 8) _ (c .before .range-of .ensures) ∙ width-modulo t in
-    (w, omega (arith, w, some-width t), omega (arith, w, width-le t))
+    record { is = w; some = omega (arith, w, some-width t); few = omega (arith, w, width-le t) }
 
 pub width-of-spec : {M : Type 1} → statement M
 width-of-spec = tie.close (tie.spec range-of-requires cast-result returns)
