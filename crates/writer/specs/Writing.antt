@@ -2,7 +2,7 @@
 -- its nodes have a place in one (`FileNode`); where it ends is known in any case.
 use mathlib.Core.List.{List, flatMap}
 use mathlib.Core.Path.{_≡_}
-use Prim.Native.Nat.{ℕ, _+_, _*_, _≤_}
+use Prim.Native.Nat.{ℕ, _+_, _*_, _≤_, _<_, _^_}
 use lib.ListN.{length}
 use Rattle.model.specs.Condition.{conjunctBytes, encode, conditionBytes}
 use Rattle.model.specs.Conjunct.{Conj, Conjuncts}
@@ -27,6 +27,17 @@ conjunctsRoom = mostConjuncts * conjunctRoom
 -- where the first conjunct begins at the latest: behind two counts, the types of the fields and the pairs
 abbrev pub lastBegin : ℕ
 lastBegin = countsSize + mostFields + pairsRoom
+
+-- room for a pair from a on, and the pair's numbers: where a conjunct begins, and how many nodes it has
+pub record PairFits (out : List ℕ) (a place n : ℕ) : Type 0 where
+  pub room : a + pairSize ≤ length out
+  pub begin : place < 2 ^ 32
+  pub few : n ≤ mostNodes
+
+-- a set in the region at b of s, and room for so many bytes from a on
+pub record SetAndRoom (bytes : ℕ) (s : List ℕ) (b : ℕ) (out : List ℕ) (a : ℕ) : Type 0 where
+  pub region : b + regionWords ≤ length s
+  pub room : a + bytes ≤ length out
 
 -- a conjunct is written from a on, to r
 pub record ConjunctWritten (e : Conj) (a : ℕ) (before after : List ℕ) (r : ℕ) : Type 0 where

@@ -2,7 +2,7 @@
 // the file stays as it was.
 ghost use mathlib.Core.Path.{_≡_};
 ghost use mathlib.Core.List.{_++_};
-ghost use Prim.Native.Nat.{_+_, _*_, _≤_, _<_, _^_};
+ghost use Prim.Native.Nat.{_+_, _*_, _≤_};
 ghost use lib.ListN.{length};
 ghost use Rattle.model.specs.Bytes.{bytes4};
 ghost use Rattle.model.specs.Condition.{pairBytes};
@@ -10,10 +10,10 @@ ghost use Rattle.model.specs.Sizes.{mostNodes};
 ghost use Rattle.bytes_le.specs.Overlay.{overlay};
 ghost use Rattle.program.specs.Reading.{tablesOf};
 ghost use Rattle.conjunct.specs.Word.{fileBytes};
-ghost use Rattle.conjunct.specs.Value.{conjOf};
-ghost use Rattle.sets.specs.Region.{setOf, regionWords};
+ghost use Rattle.conjunct.specs.Value.{conjOf, ConjunctIn};
+ghost use Rattle.sets.specs.Region.{setOf};
 ghost use Rattle.writer.specs.Writing.{conjunctRoom, pairsRoom, conjunctsRoom, lastBegin};
-ghost use Rattle.writer.specs.Writing.{ConjunctWritten, ConjunctsWritten, Writable, FileWritten};
+ghost use Rattle.writer.specs.Writing.{PairFits, SetAndRoom, ConjunctWritten, ConjunctsWritten, Writable, FileWritten};
 use conjunct::MOST_NODES;
 use program::Layout;
 
@@ -34,7 +34,7 @@ fn put_high_first(out: &mut [u8], a: usize, v: u64)
 
 // the nodes of the conjunct of the first n words; where the next one begins
 fn put_conjunct(out: &mut [u8], a: usize, w: &[u64], n: usize) -> usize
-    requires { ⌜ (a + conjunctRoom ≤ length (now out)) × (n ≤ mostNodes) × (n ≤ length (now w)) ⌝ }
+    requires { ⌜ (a + conjunctRoom ≤ length (now out)) × ConjunctIn (now w) n ⌝ }
     ensures { λ r. ⌜ ConjunctWritten (conjOf (now (w .entry)) n) a (now (out .entry)) (now (out .exit)) r ⌝ }
 {
     let mut i: usize = 0;
@@ -47,7 +47,7 @@ fn put_conjunct(out: &mut [u8], a: usize, w: &[u64], n: usize) -> usize
 
 // the pair of a conjunct of n nodes that begins at a place
 fn put_pair(out: &mut [u8], a: usize, place: usize, n: usize)
-    requires { ⌜ (a + 8 ≤ length (now out)) × (place < 2 ^ 32) × (n ≤ mostNodes) ⌝ }
+    requires { ⌜ PairFits (now out) a place n ⌝ }
     ensures { λ _. ⌜ now (out .exit) ≡ overlay (now (out .entry)) a (bytes4 place ++ bytes4 (8 * n)) ⌝ }
 {
     bytes_le::put_u32(out, a, place as u64);
@@ -56,7 +56,7 @@ fn put_pair(out: &mut [u8], a: usize, place: usize, n: usize)
 
 // the pairs of the conjuncts of a set, of which the first begins at a place
 fn put_pairs(out: &mut [u8], a: usize, s: &[u64], b: usize, begin: usize)
-    requires { ⌜ (b + regionWords ≤ length (now s)) × (a + pairsRoom ≤ length (now out)) × (begin ≤ lastBegin) ⌝ }
+    requires { ⌜ SetAndRoom pairsRoom (now s) b (now out) a × (begin ≤ lastBegin) ⌝ }
     ensures { λ _. ⌜ now (out .exit) ≡ overlay (now (out .entry)) a (pairBytes begin (setOf (now (s .entry)) b)) ⌝ }
 {
     let count = sets::size(s, b);
@@ -72,7 +72,7 @@ fn put_pairs(out: &mut [u8], a: usize, s: &[u64], b: usize, begin: usize)
 
 // the conjuncts of a set, one after the other; where the last one ends. `words` is room to work in.
 fn put_conjuncts(out: &mut [u8], a: usize, s: &[u64], b: usize, words: &mut [u64]) -> usize
-    requires { ⌜ (b + regionWords ≤ length (now s)) × (a + conjunctsRoom ≤ length (now out)) × (mostNodes ≤ length (now words)) ⌝ }
+    requires { ⌜ SetAndRoom conjunctsRoom (now s) b (now out) a × (mostNodes ≤ length (now words)) ⌝ }
     ensures { λ r. ⌜ ConjunctsWritten (setOf (now (s .entry)) b) a (now (out .entry)) (now (out .exit)) r ⌝ }
 {
     let count = sets::size(s, b);

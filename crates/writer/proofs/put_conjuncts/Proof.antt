@@ -29,9 +29,9 @@ Inv-loop out₀ a s b words₀ count place₀ i₀ out words place i =
 abbrev μ-loop : tie.MeasureT-loop
 μ-loop out₀ a s b words₀ count place₀ i₀ out words place i = count - i
 
--- places on the way, by the place from which they are seen
-abbrev start-from-at-loop : tie.At-loop Inv-loop μ-loop → tie.Start Inv-loop μ-loop
-start-from-at-loop c = c .before .before .before .before .before
+-- where the function begins, and behind the conjunct that was got
+abbrev entered : tie.At-loop Inv-loop μ-loop → tie.Start Inv-loop μ-loop
+entered c = c .before .before .before .before .before
 
 abbrev get-done : tie.After-slice-known4 Inv-loop μ-loop → tie.After-get Inv-loop μ-loop
 get-done c = c .before .before .before .before .before .before .before
@@ -70,7 +70,7 @@ loop-again : tie.Need-loop-again Inv-loop μ-loop
 loop-again c =
     let after-get = get-done c in
     let at-loop = after-get .before .before .before in
-    let start = start-from-at-loop at-loop in
+    let start = entered at-loop in
     let a = start .args in
     let lp = at-loop .loop in
     let got = after-get .get in
@@ -101,7 +101,7 @@ same-length-2 c = c .before .loop .inv .4
 
 returns : tie.Need-returns Inv-loop μ-loop
 returns c =
-    let a = start-from-at-loop (c .before) .args in
+    let a = entered (c .before) .args in
     let lp = c .before .loop in
     let S = setOf (a .s .now) (a .b) in
     let all = take-all (lp .i) S (omega arith) in

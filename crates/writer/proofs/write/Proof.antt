@@ -72,7 +72,8 @@ add-put-pairs c = search needs
 put-pairs-requires : tie.Need-put-pairs-requires
 put-pairs-requires c κs =
     let t = fields-next (types-next c) in
-    omega (arith, few-types (after-types t), t .before)
+    let few = few-types (after-types t) in
+    (record { region = omega (arith, few, t .before); room = omega (arith, few, t .before) }, omega (arith, few, t .before))
 
 slice-aggregate-put-conjuncts : tie.Need-slice-aggregate-put-conjuncts
 slice-aggregate-put-conjuncts c = search needs
@@ -80,7 +81,8 @@ slice-aggregate-put-conjuncts c = search needs
 put-conjuncts-requires : tie.Need-put-conjuncts-requires
 put-conjuncts-requires c κs =
     let t = fields-next (types-next (pairs-next c)) in
-    omega (arith, few-types (after-types t), t .before)
+    let few = few-types (after-types t) in
+    (record { region = omega (arith, few, t .before); room = omega (arith, few, t .before) }, omega (arith, few, t .before))
 
 same-length : tie.Need-same-length
 same-length c = search needs
