@@ -7,13 +7,17 @@ use Rattle.model.specs.Code.{Code}
 use Rattle.model.specs.Conjunct.{Conjuncts}
 use Rattle.model.specs.Enclosing.{Enclosing, walkOut}
 use Rattle.model.specs.Refusals.{Out, _>>=_}
+use Rattle.model.specs.Sizes.{mostNested}
 use Rattle.model.specs.TidySets.{Tidy}
 use Rattle.model.specs.Walk.{walk}
-use Rattle.code_table.specs.Table.{tableWords, stmtIn, mateIn, KnownBelow}
+use Rattle.code_table.specs.Table.{tableWords, tableOf, stmtIn, mateIn, KnownBelow, stmts, mates, Knows}
 use Rattle.sets.specs.Region.{regionWords, setOf}
 use Rattle.rules.specs.Answers.{answered, Below}
 use Rattle.rules.specs.declared.Answer.{Answer}
 use Rattle.rules.specs.declared.Answer.the-variants.{Done}
+use Rattle.walk.specs.Piece.{Piece}
+use Rattle.enclosing.specs.declared.Block.the-variants.{At}
+use Rattle.enclosing.specs.Blocks.{Innermost}
 
 -- the blocks that enclose the label i, of n statements; the statements of the innermost end at q
 abbrev pub EnclosedIn : List ℕ → (n i q : ℕ) → Type 0
@@ -53,6 +57,21 @@ pub record Workable (s : List ℕ) (b : ℕ) : Type 0 where
   pub behind : tableWords ≤ b
   pub room : b + 10 * regionWords ≤ length s
   pub tidy : Tidy (setOf s b)
+
+-- words to work in, and two pieces of known statements, on the labels from p up to i and from r up to q
+pub record TwoPieces (s : List ℕ) (b p i r q : ℕ) : Type 0 where
+  pub words : Workable s b
+  pub first-known : Knows i s
+  pub second-known : Knows q s
+  pub first : Piece s mostNested p i
+  pub second : Piece s mostNested r q
+
+-- words to work in, a label i of a program with its number of statements, and the innermost block around it, which begins at r
+pub record InBlock (s : List ℕ) (b i r : ℕ) : Type 0 where
+  pub words : Workable s b
+  pub statements : ℕ
+  pub enclosed : Enclosed (tableOf 0 s) statements i
+  pub innermost : Innermost (stmts s) (mates s) i (At r)
 
 -- the words s became t with the answer a: what is said of the sets is so, the set is tidy again, and nothing before the region differs
 pub record Moved (F : Type 0) (a : Answer) (b : ℕ) (s t : List ℕ) : Type 0 where

@@ -4,14 +4,13 @@ ghost use mathlib.Core.Path.{_≡_};
 ghost use Prim.Native.Nat.{ℕ, _+_, _≤_, _<_};
 ghost use lib.ListN.{length};
 ghost use Rattle.model.specs.Code.{Code};
-ghost use Rattle.model.specs.Sizes.{mostStatements, mostNested};
-ghost use Rattle.code_table.specs.Table.{tableWords, tableOf, stmts, mates, Knows};
+ghost use Rattle.model.specs.Sizes.{mostStatements};
+ghost use Rattle.code_table.specs.Table.{tableWords, tableOf, stmts, mates};
 ghost use Rattle.sets.specs.Region.{setOf};
 ghost use Rattle.rules.specs.Answers.{answered, Below};
-ghost use Rattle.walk.specs.Piece.{Lies, Piece};
+ghost use Rattle.walk.specs.Piece.{Lies};
 ghost use Rattle.enclosing.specs.Blocks.{blockEnd, Innermost};
-ghost use Rattle.enclosing.specs.declared.Block.the-variants.{At};
-ghost use Rattle.enclosing.specs.Enclosing.{walkBoth, Enclosed, WalksOut, LeavesBlock, Workable, Moved};
+ghost use Rattle.enclosing.specs.Enclosing.{walkBoth, Enclosed, WalksOut, LeavesBlock, Workable, TwoPieces, InBlock, Moved};
 use rules::Answer;
 
 // Where the innermost block begins, at its if or while; or the statement stands in no block.
@@ -61,7 +60,7 @@ fn innermost(s: &[u64], i: usize) -> Block
 
 // The walks of two pieces, the one on the labels from p up to i and then the one from r up to q.
 fn walk_both(s: &mut [u64], b: usize, p: usize, i: usize, r: usize, q: usize) -> Answer
-    requires { ⌜ Workable (now s) b × (Knows i (now s) × Knows q (now s)) × Piece (now s) mostNested p i × Piece (now s) mostNested r q ⌝ }
+    requires { ⌜ TwoPieces (now s) b p i r q ⌝ }
     ensures { λ a. ⌜
         Moved ((c d : Code) → Lies (now (s .entry)) c p i → Lies (now (s .entry)) d r q → walkBoth c d (setOf (now (s .entry)) b) ≡ answered a (setOf (now (s .exit)) b))
         a b (now (s .entry)) (now (s .exit))
@@ -77,9 +76,7 @@ fn walk_both(s: &mut [u64], b: usize, p: usize, i: usize, r: usize, q: usize) ->
 // From the label i to the beginning r of the innermost block around it: the part of the block before
 // i, and then, out of the body of a while, the whole while.
 fn leave_block(s: &mut [u64], b: usize, i: usize, r: usize) -> Answer
-    requires { ⌜
-        Workable (now s) b × ((n : ℕ) × Enclosed (tableOf 0 (now s)) n i) × Innermost (stmts (now s)) (mates (now s)) i (At r)
-        ⌝ }
+    requires { ⌜ InBlock (now s) b i r ⌝ }
     ensures { λ a. ⌜
         Moved ((n : ℕ) → LeavesBlock (tableOf 0 (now (s .entry))) n i r (setOf (now (s .entry)) b) a (setOf (now (s .exit)) b))
         a b (now (s .entry)) (now (s .exit))

@@ -30,21 +30,21 @@ refused-at c = c .before .before .before .before .before
 first-table : (c : tie.After-walk) → tableOf 0 (c .walk .last .0) ≡ tableOf 0 (entered c .args .s .now)
 first-table c =
     let g = entered c in
-    below-table (g .args .b) (g .args .s .now) (c .walk .last .0) (g .pre .0 .behind) (omega (arith, g .pre .0 .room)) (c .walk .kept .0) (c .walk .ensures .1)
+    below-table (g .args .b) (g .args .s .now) (c .walk .last .0) (g .pre .words .behind) (omega (arith, g .pre .words .room)) (c .walk .kept .0) (c .walk .ensures .1)
 
 -- and the set is tidy
 first-tidy : (c : tie.After-walk) → c .walk .result ≡ Done → Tidy (setOf (c .walk .last .0) (entered c .args .b))
 first-tidy c e =
     let g = entered c in
-    let piece = g .pre .2 in
+    let piece = g .pre .first in
     walked-tidy (piece .code) (setOf (g .args .s .now) (g .args .b)) (setOf (c .walk .last .0) (g .args .b)) (c .walk .result)
-    (c .walk .ensures .0 (piece .code) (piece .lies)) (g .pre .0 .tidy) e
+    (c .walk .ensures .0 (piece .code) (piece .lies)) (g .pre .words .tidy) e
 
 walk-requires : tie.Need-walk-requires
 walk-requires c κs =
     let g = c .before .before in
-    let w = g .pre .0 in
-    (record { knows = g .pre .1 .0; shallow = omega arith; behind = w .behind; room = omega (arith, w .room); tidy = w .tidy }, g .pre .2)
+    let w = g .pre .words in
+    (record { knows = g .pre .first-known; shallow = omega arith; behind = w .behind; room = omega (arith, w .room); tidy = w .tidy }, g .pre .first)
 
 enum-known-first : tie.Need-enum-known-first
 enum-known-first c = search needs
@@ -58,13 +58,13 @@ walk-requires-2 c κs =
     let g = entered w in
     let t = first-table w in (
       record {
-        knows = knows-on (g .args .s .now) (w .walk .last .0) t (g .args .q) (g .pre .1 .1);
+        knows = knows-on (g .args .s .now) (w .walk .last .0) t (g .args .q) (g .pre .second-known);
         shallow = omega arith;
-        behind = g .pre .0 .behind;
-        room = omega (arith, g .pre .0 .room, w .walk .kept .0);
+        behind = g .pre .words .behind;
+        room = omega (arith, g .pre .words .room, w .walk .kept .0);
         tidy = first-tidy w (c .before .enum-told .given .1);
       },
-      piece-on (g .args .s .now) (w .walk .last .0) t 4 (g .args .r) (g .args .q) (g .pre .3),
+      piece-on (g .args .s .now) (w .walk .last .0) t 4 (g .args .r) (g .args .q) (g .pre .second),
     )
 
 same-length : tie.Need-same-length
@@ -100,7 +100,7 @@ returns-2 c =
     record {
       does = λ x y h k. both-walked x S (setOf s₁ (g .args .b)) (w .walk .result) (w .walk .ensures .0 x h) y (setOf s₂ (g .args .b)) (v .result) (d .enum-told .given .1) (second y k);
       tidy =
-          walked-tidy (g .pre .3 .code) (setOf s₁ (g .args .b)) (setOf s₂ (g .args .b)) (v .result) (second (g .pre .3 .code) (g .pre .3 .lies))
+          walked-tidy (g .pre .second .code) (setOf s₁ (g .args .b)) (setOf s₂ (g .args .b)) (v .result) (second (g .pre .second .code) (g .pre .second .lies))
           (first-tidy w (d .enum-told .given .1));
       below = below-trans (g .args .b) (g .args .s .now) s₁ s₂ (w .walk .ensures .1) (v .ensures .1);
     }

@@ -2,12 +2,11 @@
 use mathlib.Core.Path.{subst, _∙_}
 use Prim.Native.Nat.{_≤_, _<_}
 use native.Mathlib.Omega.{arith}
-use Rattle.model.specs.Sizes.{mostNested, mostStatements}
-use Rattle.code_table.specs.Table.{tableWords, tableOf, stmts, mates}
+use Rattle.model.specs.Sizes.{mostStatements}
+use Rattle.code_table.specs.Table.{tableOf, stmts, mates}
 use Rattle.sets.specs.Region.{setOf}
 use Rattle.walk.proofs.Regions.{knows-less}
 use Rattle.enclosing.specs.Blocks.{NoneFrom, Innermost}
-use Rattle.enclosing.specs.declared.Block.{Block}
 use Rattle.enclosing.proofs.Leaving.{label-below, top-known, walks-out-top}
 use Rattle.enclosing.proofs.WalkingOut.{Outward, outward-first, enclosed-here, outward-start, outward-refused, outward-next}
 use borrow.Author.Needs.{needs}
@@ -91,11 +90,13 @@ leave-block-requires c κs =
     let k = c .before .before in
     let h = head (k .before .before) in
     let lp = h .loop in
-    let g = h .before .before in (
-      record { behind = g .pre .0 .behind; room = omega (arith, g .pre .0 .room, lp .inv .same-length); tidy = lp .inv .tidy },
-      (lp .inv .statements, enclosed-here (g .args .s .now) (g .args .b) (g .args .i) (lp .s) (lp .at) (lp .inv)),
-      subst (Innermost (stmts (lp .s)) (mates (lp .s)) (lp .at)) (k .block .given .1) (k .before .before .innermost .ensures),
-    )
+    let g = h .before .before in
+    record {
+      words = record { behind = g .pre .0 .behind; room = omega (arith, g .pre .0 .room, lp .inv .same-length); tidy = lp .inv .tidy };
+      statements = lp .inv .statements;
+      enclosed = enclosed-here (g .args .s .now) (g .args .b) (g .args .i) (lp .s) (lp .at) (lp .inv);
+      innermost = subst (Innermost (stmts (lp .s)) (mates (lp .s)) (lp .at)) (k .block .given .1) (k .before .before .innermost .ensures);
+    }
 
 enum-known-a : tie.Need-enum-known-a Inv-loop μ-loop
 enum-known-a c = search needs
