@@ -14,7 +14,7 @@ use Rattle.model.specs.TidySets.{Canon, Sub, Numbered}
 use Rattle.code_table.specs.declared.Decoded.{Decoded}
 use Rattle.code_table.specs.Statements.{numberOf, OtherThan, Known}
 use Rattle.conjunct.specs.Value.{conjOf}
-use Rattle.sets.specs.Region.{setOf, regionWords}
+use Rattle.sets.specs.Region.{setOf, Room, regionWords}
 use Rattle.rules.specs.declared.Answer.{Answer}
 use Rattle.rules.specs.declared.Answer.the-variants.{Done, Refused}
 
@@ -47,11 +47,6 @@ NoneLong G = long G ≡ false
 abbrev pub Added : Answer → (Conjuncts → Type 0) → Conjuncts → ℕ → List ℕ → List ℕ → Type 0
 Added Done P R b s t = setOf t b ≡ unionOf R (setOf s b)
 Added (Refused n) P R b s t = (G : Conjuncts) → Canon G → Sub (unionOf R (setOf s b)) G → P G → limits G ≡ refused n
-
--- a region to add to: it lies in the words, and its set is canonical
-pub record Room (s : List ℕ) (b : ℕ) : Type 0 where
-  pub there : b + regionWords ≤ length s
-  pub canon : Canon (setOf s b)
 
 -- two lists of words to work in, each of 120 or more
 abbrev pub Buffers : List ℕ → List ℕ → Type 0

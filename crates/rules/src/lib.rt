@@ -15,8 +15,8 @@ ghost use Rattle.code_table.specs.Statements.{numberOf, OfKind, instrOf, Known}
 ghost use Rattle.conjunct.specs.Word.{nodeOf, nodesOf};
 ghost use Rattle.conjunct.specs.Value.{conjOf};
 ghost use Rattle.conjunct.specs.Behind.{rightOf};
-ghost use Rattle.sets.specs.Region.{setOf, Within, Inserted, regionWords};
-ghost use Rattle.rules.specs.Adding.{sideOf, NoneLong, Added, Room, Buffers, Given, GivenStatement, GivenSet, Labelled};
+ghost use Rattle.sets.specs.Region.{setOf, Within, Room, Inserted, regionWords};
+ghost use Rattle.rules.specs.Adding.{sideOf, NoneLong, Added, Buffers, Given, GivenStatement, GivenSet, Labelled};
 ghost use Rattle.rules.specs.Answers.{answered, Below};
 use code_table::Decoded;
 use conjunct::MOST_NODES;

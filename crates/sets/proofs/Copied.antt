@@ -22,7 +22,7 @@ module _ (s₀ : List ℕ) (to from : ℕ) (h : to + slotWords ≤ length s₀) 
   part-length : (j : ℕ) → j ≤ slotWords → length (take j (drop from s₀)) ≡ j
   part-length j k = length-take-le j (drop from s₀) (rw length-drop (omega arith))
 
-  pub word-copied : (to + slotWords ≤ from) ⊎ (from + slotWords ≤ to) → (s : List ℕ) (j : ℕ) → j < slotWords
+  pub word-copied : Apart slotWords to from → (s : List ℕ) (j : ℕ) → j < slotWords
       → s ≡ overlay s₀ to (take j (drop from s₀))
       → set s (to + j) (getD s (from + j) 0) ≡ overlay s₀ to (take (j + 1) (drop from s₀))
   word-copied apart s j k e =
@@ -30,7 +30,7 @@ module _ (s₀ : List ℕ) (to from : ℕ) (h : to + slotWords ≤ length s₀) 
       let word : getD s (from + j) 0 ≡ getD (drop from s₀) j 0 = ap (λ l. getD l (from + j) 0) e ∙ kept apart ∙ sym (getD-drop from s₀ j 0) in
       rw word (ap (λ l. set l (to + j) (getD (drop from s₀) j 0)) e ∙ overlay-more s₀ to (drop from s₀) j d)
     where
-      kept : (to + slotWords ≤ from) ⊎ (from + slotWords ≤ to) → getD (overlay s₀ to (take j (drop from s₀))) (from + j) 0 ≡ getD s₀ (from + j) 0
+      kept : Apart slotWords to from → getD (overlay s₀ to (take j (drop from s₀))) (from + j) 0 ≡ getD s₀ (from + j) 0
       kept (inl p) = overlay-beyond (take j (drop from s₀)) s₀ to (from + j) (omega (arith, part-length j (omega arith)))
       kept (inr p) = overlay-before (take j (drop from s₀)) s₀ to (from + j) (omega arith)
 
@@ -170,12 +170,11 @@ region-copied s₀ s to from n sized fits e c = (
     wider x (inr d) = inr (omega (arith, most))
 
 -- the i-th slots of two regions have no word in common, nor has the one any with those before the other
-pub slots-apart : (to from i : ℕ) → i < mostConjuncts → Apart to from
-    → (to + 1 + slotWords * i + slotWords ≤ from + 1 + slotWords * i) ⊎ (from + 1 + slotWords * i + slotWords ≤ to + 1 + slotWords * i)
+pub slots-apart : (to from i : ℕ) → i < mostConjuncts → Apart regionWords to from → Apart slotWords (to + 1 + slotWords * i) (from + 1 + slotWords * i)
 slots-apart to from i h (inl p) = inl (omega arith)
 slots-apart to from i h (inr p) = inr (omega arith)
 
-pub slots-before : (to from i : ℕ) → i < mostConjuncts → Apart to from
+pub slots-before : (to from i : ℕ) → i < mostConjuncts → Apart regionWords to from
     → (from + 1 + slotWords * i + slotWords ≤ to + 1 + slotWords * 0) ⊎ (to + 1 + slotWords * i ≤ from + 1 + slotWords * i)
 slots-before to from i h (inl p) = inr (omega arith)
 slots-before to from i h (inr p) = inl (omega arith)

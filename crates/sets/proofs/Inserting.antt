@@ -2,7 +2,7 @@
 use mathlib.Core.Bool.{Bool, true, false, _&&_}
 use mathlib.Core.List.{List, [], _∷_, _++_, map}
 use mathlib.Core.Path.{_≡_, refl, sym, ap, ap₂, _∙_, subst}
-use Prim.Native.Nat.{ℕ, _+_, _-_, _<_, _≤_}
+use Prim.Native.Nat.{ℕ, _+_, _<_, _≤_}
 use native.Mathlib.Numerals.{add-one}
 use native.Mathlib.Omega.{arith}
 use lib.Dec.{isEq}
@@ -73,7 +73,7 @@ same-end A B i h k =
 
 -- ---- a turn of a union
 
-module _ (s₀ s t : List ℕ) (to from k : ℕ) (d : Conj) (fit : from + regionWords ≤ length s₀) (apart : Apart to from) (canon : Canon (setOf s₀ to))
+module _ (s₀ s t : List ℕ) (to from k : ℕ) (d : Conj) (fit : from + regionWords ≤ length s₀) (apart : Apart regionWords to from) (canon : Canon (setOf s₀ to))
     (len : length s ≡ length s₀) (in′ : Within to s₀ s)
     (few′ : k < length (setOf s₀ from)) (e : d ≡ getD (setOf s from) k [])
     (so : setOf s to ≡ unionOf (take k (setOf s₀ from)) (setOf s₀ to)) where

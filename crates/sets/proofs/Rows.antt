@@ -3,7 +3,7 @@ use mathlib.Core.Bool.{cond}
 use mathlib.Core.List.{List, [], _∷_, map}
 use mathlib.Core.Logic.{_⊎_, inl, inr}
 use mathlib.Core.Path.{_≡_, refl, sym, ap, ap₂, _∙_}
-use Prim.Native.Nat.{ℕ, zero, suc, _+_, _-_, _*_, _<_, _≤_}
+use Prim.Native.Nat.{ℕ, zero, suc, _+_, _*_, _<_, _≤_}
 use native.Mathlib.Omega.{arith}
 use lib.Dec.{ltb}
 use lib.ListN.{length, getD, take, drop, set, length-drop, length-map, List·getD-map, List·getD-eq-default}
@@ -110,10 +110,10 @@ set-same s t a b h k f =
     ap (λ i. getD t i 0) (sym v) ∙ f (x + 1) (omega arith) ∙ ap (λ i. getD s i 0) u))
 
 -- a change inside of one region changes no other
-pub frame : (s t : List ℕ) (a b : ℕ) → length t ≡ length s → b + regionWords ≤ length s → Apart a b → Within a s t → setOf t b ≡ setOf s b
+pub frame : (s t : List ℕ) (a b : ℕ) → length t ≡ length s → b + regionWords ≤ length s → Apart regionWords a b → Within a s t → setOf t b ≡ setOf s b
 frame s t a b e h d w = set-same s t b b h (omega arith) (λ x g. w (b + x) (side d x g))
   where
-    side : Apart a b → (x : ℕ) → x < 1 + slotWords * few (getD s b 0) → (b + x < a) ⊎ (a + regionWords ≤ b + x)
+    side : Apart regionWords a b → (x : ℕ) → x < 1 + slotWords * few (getD s b 0) → (b + x < a) ⊎ (a + regionWords ≤ b + x)
     side (inl p) x g = inr (omega arith)
     side (inr p) x g = inl (omega (arith, few-most (getD s b 0)))
 

@@ -55,13 +55,56 @@ Outside b n s t = (i : ℕ) → (i < b) ⊎ (b + n ≤ i) → getD t i 0 ≡ get
 abbrev pub Within : ℕ → List ℕ → List ℕ → Type 0
 Within b s t = Outside b regionWords s t
 
--- two regions have no word in common
-abbrev pub Apart : ℕ → ℕ → Type 0
-Apart a b = (a + regionWords ≤ b) ⊎ (b + regionWords ≤ a)
+-- two parts of n words each have no word in common
+abbrev pub Apart : (n a b : ℕ) → Type 0
+Apart n a b = (a + n ≤ b) ⊎ (b + n ≤ a)
 
--- two regions that lie in the words and have no word in common
+-- two such parts that lie in the words
+pub record TwoApart (n : ℕ) (s : List ℕ) (a b : ℕ) : Type 0 where
+  pub first : a + n ≤ length s
+  pub second : b + n ≤ length s
+  pub apart : Apart n a b
+
+-- two slots that lie in the words and have no word in common
+abbrev pub TwoSlots : List ℕ → ℕ → ℕ → Type 0
+TwoSlots s a b = TwoApart slotWords s a b
+
+-- two such regions
 abbrev pub TwoRegions : List ℕ → ℕ → ℕ → Type 0
-TwoRegions s a b = (a + regionWords ≤ length s) × (b + regionWords ≤ length s) × Apart a b
+TwoRegions s a b = TwoApart regionWords s a b
+
+-- a region that is added to, or searched: it lies in the words, and its set is canonical
+pub record Room (s : List ℕ) (b : ℕ) : Type 0 where
+  pub there : b + regionWords ≤ length s
+  pub canon : Canon (setOf s b)
+
+-- such a region, and another one, apart from it
+pub record RoomBeside (s : List ℕ) (b other : ℕ) : Type 0 where
+  pub regions : TwoRegions s b other
+  pub canon : Canon (setOf s b)
+
+-- a region with space for one conjunct more
+pub record Space (s : List ℕ) (b : ℕ) : Type 0 where
+  pub there : b + regionWords ≤ length s
+  pub space : length (setOf s b) < mostConjuncts
+
+-- such a region, and another one, apart from it, whose set is canonical
+pub record SpaceBeside (s : List ℕ) (b other : ℕ) : Type 0 where
+  pub regions : TwoRegions s b other
+  pub space : length (setOf s b) < mostConjuncts
+  pub canon : Canon (setOf s other)
+
+-- a place before the i-th of the first n conjuncts of a region, which has space for one more
+pub record PlaceIn (s : List ℕ) (b n i : ℕ) : Type 0 where
+  pub there : b + regionWords ≤ length s
+  pub space : n < mostConjuncts
+  pub place : i ≤ n
+
+-- a region to write to, and two others, each apart from it: one whose set is taken, and one whose set is left out of it, and canonical
+pub record ThreeRegions (s : List ℕ) (to from known : ℕ) : Type 0 where
+  pub taken : TwoRegions s to from
+  pub left-out : TwoRegions s to known
+  pub canon : Canon (setOf s known)
 
 -- what a search is given: the first n conjuncts of a region, which rise, and a conjunct in the first m of other words
 pub record Search (s : List ℕ) (b n : ℕ) (w : List ℕ) (m : ℕ) : Type 0 where

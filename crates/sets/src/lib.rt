@@ -2,17 +2,16 @@
 // operation leaves what lies outside of the region that it names.
 ghost use mathlib.Core.Path.{_≡_};
 ghost use mathlib.Core.List.{[], _∷_, _++_};
-ghost use mathlib.Core.Logic.{_⊎_};
 ghost use Prim.Native.Nat.{_+_, _*_, _<_, _≤_};
 ghost use lib.Dec.{isEq};
 ghost use lib.ListN.{length, getD, take, drop};
 ghost use Rattle.model.specs.Conjunct.{order, orderNodes, same};
 ghost use Rattle.model.specs.Sizes.{mostConjuncts, mostNodes};
-ghost use Rattle.model.specs.TidySets.{Canon};
 ghost use Rattle.bytes_le.specs.Overlay.{overlay};
 ghost use Rattle.conjunct.specs.Word.{nodesOf};
-ghost use Rattle.conjunct.specs.Value.{conjOf, orderingOf};
-ghost use Rattle.sets.specs.Region.{few, slotAt, rowsFrom, firstOf, setOf, Outside, Within, TwoRegions, Search, Spotted, Inserted, Joined};
+ghost use Rattle.conjunct.specs.Value.{conjOf, orderingOf, ConjunctIn};
+ghost use Rattle.sets.specs.Region.{few, slotAt, rowsFrom, firstOf, setOf, Outside, Within, Search, Spotted, Inserted, Joined};
+ghost use Rattle.sets.specs.Region.{TwoSlots, TwoRegions, ThreeRegions, Room, RoomBeside, Space, SpaceBeside, PlaceIn};
 ghost use Rattle.sets.specs.Region.{regionWords, slotWords};
 ghost use Rattle.sets.specs.Minus.{has, minus};
 use conjunct::MOST_NODES;
@@ -61,7 +60,7 @@ fn read_slot(s: &[u64], a: usize, out: &mut [u64]) -> usize
 
 // n words to the slot at a
 fn write_slot(s: &mut [u64], a: usize, w: &[u64], n: usize)
-    requires { ⌜ (a + slotWords ≤ length (now s)) × (n ≤ mostNodes) × (n ≤ length (now w)) ⌝ }
+    requires { ⌜ (a + slotWords ≤ length (now s)) × ConjunctIn (now w) n ⌝ }
     ensures { λ _. ⌜ now (s .exit) ≡ overlay (now (s .entry)) a (n ∷ take n (now (w .entry))) ⌝ }
 {
     s[a] = n as u64;
@@ -74,7 +73,7 @@ fn write_slot(s: &mut [u64], a: usize, w: &[u64], n: usize)
 
 // the conjunct of the slot at `from` to the slot at `to`
 fn copy_slot(s: &mut [u64], to: usize, from: usize)
-    requires { ⌜ (to + slotWords ≤ length (now s)) × (from + slotWords ≤ length (now s)) × ((to + slotWords ≤ from) ⊎ (from + slotWords ≤ to)) ⌝ }
+    requires { ⌜ TwoSlots (now s) to from ⌝ }
     ensures { λ _. ⌜ (slotAt (now (s .exit)) to ≡ slotAt (now (s .entry)) from) × Outside to slotWords (now (s .entry)) (now (s .exit)) ⌝ }
 {
     let n = 1 + conjunct::capped(s[from] as usize);
@@ -187,7 +186,7 @@ fn find(s: &[u64], base: usize, n: usize, w: &[u64], m: usize) -> Spot
 
 // m words put before the i-th conjunct of the n of a region
 fn place_at(s: &mut [u64], base: usize, n: usize, i: usize, w: &[u64], m: usize)
-    requires { ⌜ (n < mostConjuncts) × (i ≤ n) × (base + regionWords ≤ length (now s)) × (m ≤ mostNodes) × (m ≤ length (now w)) ⌝ }
+    requires { ⌜ PlaceIn (now s) base n i × ConjunctIn (now w) m ⌝ }
     ensures { λ _. ⌜
         (setOf (now (s .exit)) base
         ≡ take i (firstOf (now (s .entry)) base n) ++ (conjOf (now (w .entry)) m ∷ drop i (firstOf (now (s .entry)) base n)))
@@ -202,7 +201,7 @@ fn place_at(s: &mut [u64], base: usize, n: usize, i: usize, w: &[u64], m: usize)
 
 // the first m words as one conjunct more; false where the set would have over 64
 pub fn insert(s: &mut [u64], base: usize, w: &[u64], m: usize) -> bool
-    requires { ⌜ (base + regionWords ≤ length (now s)) × (m ≤ mostNodes) × (m ≤ length (now w)) × Canon (setOf (now s) base) ⌝ }
+    requires { ⌜ Room (now s) base × ConjunctIn (now w) m ⌝ }
     ensures { λ r. ⌜ Inserted r base (conjOf (now (w .entry)) m) (now (s .entry)) (now (s .exit)) × Within base (now (s .entry)) (now (s .exit)) ⌝ }
 {
     let n = at_most(s[base]);
@@ -236,7 +235,7 @@ pub fn copy(s: &mut [u64], to: usize, from: usize)
 // with all conjuncts of another region, from the first to the last; false where the set would have
 // over 64. `words` is room to work in.
 fn join(s: &mut [u64], to: usize, from: usize, words: &mut [u64]) -> bool
-    requires { ⌜ TwoRegions (now s) to from × (mostNodes ≤ length (now words)) × Canon (setOf (now s) to) ⌝ }
+    requires { ⌜ RoomBeside (now s) to from × (mostNodes ≤ length (now words)) ⌝ }
     ensures { λ r. ⌜ Joined r from to (now (s .entry)) (now (s .exit)) × Within to (now (s .entry)) (now (s .exit)) ⌝ }
 {
     let count = size(s, from);
@@ -253,7 +252,7 @@ fn join(s: &mut [u64], to: usize, from: usize, words: &mut [u64]) -> bool
 
 // with all conjuncts of another region; false where the set would have over 64
 pub fn union(s: &mut [u64], to: usize, from: usize) -> bool
-    requires { ⌜ TwoRegions (now s) to from × Canon (setOf (now s) to) ⌝ }
+    requires { ⌜ RoomBeside (now s) to from ⌝ }
     ensures { λ r. ⌜ Joined r from to (now (s .entry)) (now (s .exit)) × Within to (now (s .entry)) (now (s .exit)) ⌝ }
 {
     let mut words: [u64; MOST_NODES] = [0; MOST_NODES];
@@ -298,7 +297,7 @@ pub fn equal(s: &[u64], a: usize, b: usize) -> bool
 
 // are the first m words a conjunct of the region?
 fn holds(s: &[u64], base: usize, w: &[u64], m: usize) -> bool
-    requires { ⌜ (base + regionWords ≤ length (now s)) × (m ≤ length (now w)) × Canon (setOf (now s) base) ⌝ }
+    requires { ⌜ Room (now s) base × (m ≤ length (now w)) ⌝ }
     ensures { λ r. ⌜ r ≡ has (conjOf (now (w .entry)) m) (setOf (now (s .entry)) base) ⌝ }
 {
     let n = at_most(s[base]);
@@ -311,7 +310,7 @@ fn holds(s: &[u64], base: usize, w: &[u64], m: usize) -> bool
 
 // the first m words put behind the last conjunct of a region
 fn append(s: &mut [u64], base: usize, w: &[u64], m: usize)
-    requires { ⌜ (length (setOf (now s) base) < mostConjuncts) × (base + regionWords ≤ length (now s)) × (m ≤ mostNodes) × (m ≤ length (now w)) ⌝ }
+    requires { ⌜ Space (now s) base × ConjunctIn (now w) m ⌝ }
     ensures { λ _. ⌜
         (setOf (now (s .exit)) base ≡ setOf (now (s .entry)) base ++ (conjOf (now (w .entry)) m ∷ [])) × Within base (now (s .entry)) (now (s .exit))
         ⌝ }
@@ -322,9 +321,7 @@ fn append(s: &mut [u64], base: usize, w: &[u64], m: usize)
 
 // the first m words put behind the last conjunct of the region at `to`, unless that at `known` has them
 fn keep(s: &mut [u64], to: usize, known: usize, w: &[u64], m: usize)
-    requires { ⌜
-        (length (setOf (now s) to) < mostConjuncts) × TwoRegions (now s) to known × Canon (setOf (now s) known) × (m ≤ mostNodes) × (m ≤ length (now w))
-        ⌝ }
+    requires { ⌜ SpaceBeside (now s) to known × ConjunctIn (now w) m ⌝ }
     ensures { λ _. ⌜
         (setOf (now (s .exit)) to ≡ setOf (now (s .entry)) to ++ minus (conjOf (now (w .entry)) m ∷ []) (setOf (now (s .entry)) known))
         × Within to (now (s .entry)) (now (s .exit))
@@ -338,9 +335,7 @@ fn keep(s: &mut [u64], to: usize, known: usize, w: &[u64], m: usize)
 
 // to the region at `to`, what that at `from` has and that at `known` has not. `words` is room to work in.
 fn sift(s: &mut [u64], to: usize, from: usize, known: usize, words: &mut [u64])
-    requires { ⌜
-        TwoRegions (now s) to from × TwoRegions (now s) to known × Canon (setOf (now s) known) × (mostNodes ≤ length (now words))
-        ⌝ }
+    requires { ⌜ ThreeRegions (now s) to from known × (mostNodes ≤ length (now words)) ⌝ }
     ensures { λ _. ⌜
         (setOf (now (s .exit)) to ≡ minus (setOf (now (s .entry)) from) (setOf (now (s .entry)) known)) × Within to (now (s .entry)) (now (s .exit))
         ⌝ }
@@ -357,7 +352,7 @@ fn sift(s: &mut [u64], to: usize, from: usize, known: usize, words: &mut [u64])
 
 // to the region at `to`, what that at `from` has and that at `known` has not
 pub fn subtract(s: &mut [u64], to: usize, from: usize, known: usize)
-    requires { ⌜ TwoRegions (now s) to from × TwoRegions (now s) to known × Canon (setOf (now s) known) ⌝ }
+    requires { ⌜ ThreeRegions (now s) to from known ⌝ }
     ensures { λ _. ⌜
         (setOf (now (s .exit)) to ≡ minus (setOf (now (s .entry)) from) (setOf (now (s .entry)) known)) × Within to (now (s .entry)) (now (s .exit))
         ⌝ }

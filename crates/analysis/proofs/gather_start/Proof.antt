@@ -61,10 +61,11 @@ insert-requires c κs =
     let lp = at-loop .loop in
     let n = after-get .get .ensures .0 in
     let words = after-renumber .renumber .kept .0 ∙ after-at-start .at-start .kept .0 ∙ after-get .get .kept .1 .1 .1 .0 ∙ lp .inv .2 in (
-      omega (arith, lp .inv .1, g .pre .1),
-      n,
-      omega (arith, n, words, g .pre .3),
-      gathered-canon atStart (setOf (g .args .s .now) (g .args .b)) (setOf (lp .s) (g .args .room)) (lp .k) (lp .inv .5),
+      record {
+        there = omega (arith, lp .inv .1, g .pre .1);
+        canon = gathered-canon atStart (setOf (g .args .s .now) (g .args .b)) (setOf (lp .s) (g .args .room)) (lp .k) (lp .inv .5);
+      },
+      record { few = n; there = omega (arith, n, words, g .pre .3) },
     )
 
 add-k : tie.Need-add-k Inv-loop μ-loop

@@ -36,7 +36,7 @@ union-requires c κs =
     let f = after-start-set .start-set in
     let k = f .kept .0 in
     let canon = start-canon (setOf (start .args .s .now) (start .args .b + regionWords)) (setOf (f .last .0) (start .args .b + regionWords)) (f .ensures .0) in
-    ((omega (arith, p .0, k), omega (arith, p .0, k), inr (omega arith)), canon)
+    record { regions = record { first = omega (arith, p .0, k); second = omega (arith, p .0, k); apart = inr (omega arith) }; canon = canon }
 
 same-length : tie.Need-same-length
 same-length c = search needs
@@ -62,7 +62,7 @@ copy-requires c κs =
     let p = start .pre in
     let k = after-start-set .start-set .kept .0 in
     let l = after-union .union .kept .0 in
-    (omega (arith, p .0, k, l), omega (arith, p .0, k, l), inl (omega arith))
+    record { first = omega (arith, p .0, k, l); second = omega (arith, p .0, k, l); apart = inl (omega arith) }
 
 same-length-2 : tie.Need-same-length-2
 same-length-2 c = search needs

@@ -22,7 +22,7 @@ slice-aggregate-insert c = search needs
 insert-requires : tie.Need-insert-requires
 insert-requires c κs =
     let none = c .before .before .before .before .clear .ensures .0 in
-    (search needs, search needs, search needs, subst Canon (sym none) tt)
+    (record { there = search needs; canon = subst Canon (sym none) tt }, search needs)
 
 same-length : tie.Need-same-length
 same-length c = search needs

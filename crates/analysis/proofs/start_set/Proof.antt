@@ -42,7 +42,7 @@ copy-requires c κs =
     let after-clear = cleared after-gather-start in
     let u = after-clear .clear in
     let t = after-gather-start .gather-start in
-    (omega (arith, u .kept .0, t .kept .0), omega (arith, u .kept .0, t .kept .0), inl (omega arith))
+    record { first = omega (arith, u .kept .0, t .kept .0); second = omega (arith, u .kept .0, t .kept .0); apart = inl (omega arith) }
 
 same-length : tie.Need-same-length
 same-length c =

@@ -70,7 +70,7 @@ insert-requires c κs =
     let u = t .substitute in
     let m = after-t .t .given in
     let few = assigned-few (u .result) (m .0 .0) (m .1) (whole t) (start .args .d .a) r (u .last .1 .1 .1 .1 .0) (u .ensures) in
-    (given .room .there, few, omega (arith, few, u .kept .1 .1 .1 .1 .0, given .buffers .0), given .room .canon)
+    (given .room, record { few = few; there = omega (arith, few, u .kept .1 .1 .1 .1 .0, given .buffers .0) })
 
 same-length : tie.Need-same-length
 same-length c = search needs

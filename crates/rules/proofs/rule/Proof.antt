@@ -74,7 +74,7 @@ copy-requires : tie.Need-copy-requires
 copy-requires c κs =
     let t = gathered c .gather-all in
     let u = cleared (gathered c) .clear in
-    (omega (arith, u .kept .0, t .kept .0), omega (arith, u .kept .0, t .kept .0), inl (omega arith))
+    record { first = omega (arith, u .kept .0, t .kept .0); second = omega (arith, u .kept .0, t .kept .0); apart = inl (omega arith) }
 
 enum-known-answer : tie.Need-enum-known-answer
 enum-known-answer c = search needs

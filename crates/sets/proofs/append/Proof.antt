@@ -1,6 +1,6 @@
 -- `sets::append` meets its contract: behind the last conjunct nothing moves.
 use mathlib.Core.List.{[], _∷_, _++_}
-use mathlib.Core.Path.{_≡_, sym, ap, ap₂, _∙_}
+use mathlib.Core.Path.{_≡_, sym, ap₂, _∙_}
 use native.Mathlib.Omega.{arith}
 use lib.ListN.{length, take, drop}
 use lib.Seq.{take-length, drop-length}
@@ -33,7 +33,8 @@ place-at-requires : tie.Need-place-at-requires
 place-at-requires c κs =
     let n = c .before in
     let g = entry n in
-    (omega (arith, g .pre .0, n .at-most .ensures .0, set-length (g .args .s .now) (g .args .base)), omega arith, g .pre .1, g .pre .2, g .pre .3)
+    let count = set-length (g .args .s .now) (g .args .base) in
+    (record { there = g .pre .0 .there; space = omega (arith, g .pre .0 .space, n .at-most .ensures .0, count); place = omega arith }, g .pre .1)
 
 same-length : tie.Need-same-length
 same-length c = search needs

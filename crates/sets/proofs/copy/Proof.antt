@@ -62,7 +62,7 @@ copy-slot-requires c κs =
     let a = start .args in
     let p = start .pre in
     let lp = c .before .before .loop in
-    (omega arith, omega arith, slots-apart (a .to) (a .from) (lp .i) (omega arith) (p .2))
+    record { first = omega arith; second = omega arith; apart = slots-apart (a .to) (a .from) (lp .i) (omega arith) (p .apart) }
 
 add-i : tie.Need-add-i Inv-loop μ-loop
 add-i c = search needs
@@ -83,7 +83,7 @@ loop-again c =
     let next = copied-next (a .s .now) (lp .s) (r .last .0) (a .to + 1) (a .from + 1) 0 (lp .i) 0 (lp .i + 1) (lp .i) (lp .inv .3) (r .kept .0)
     (omega arith) (omega arith) (omega arith) (omega arith) (omega arith) (omega arith)
     (λ i x y. absurd (omega arith)) (λ i x y. (omega arith, y)) (lp .inv .4)
-    (slots-before (a .to) (a .from) (lp .i) (omega arith) (p .2)) target source refl refl (r .ensures) in
+    (slots-before (a .to) (a .from) (lp .i) (omega arith) (p .apart)) target source refl refl (r .ensures) in
     (omega arith, lp .inv .1, lp .inv .2, r .kept .0 ∙ lp .inv .3, next)
 
 mul-s : tie.Need-mul-s Inv-loop μ-loop
@@ -105,7 +105,7 @@ returns c =
     let n = c .before .before .at-most .result in
     let lp = c .before .loop in
     let e : lp .i ≡ n = omega arith in
-    region-copied (a .s .now) (lp .s) (a .to) (a .from) n (lp .inv .3) (p .0) (lp .inv .1) (rw e at (lp .inv .4))
+    region-copied (a .s .now) (lp .s) (a .to) (a .from) n (lp .inv .3) (p .first) (lp .inv .1) (rw e at (lp .inv .4))
 
 pub copy-spec : {M : Type 1} → statement M
 copy-spec =

@@ -69,7 +69,7 @@ loop-again c =
       omega arith,
       lp .inv .1,
       length-set (lp .s) (a .to + lp .j) (getD (lp .s) (a .from + lp .j) 0) ∙ lp .inv .2,
-      word-copied (a .s .now) (a .to) (a .from) (p .0) (p .1) (p .2) (lp .s) (lp .j) (omega arith) (lp .inv .3),
+      word-copied (a .s .now) (a .to) (a .from) (p .first) (p .second) (p .apart) (lp .s) (lp .j) (omega arith) (lp .inv .3),
     )
 
 same-length : tie.Need-same-length Inv-loop μ-loop
@@ -83,7 +83,7 @@ returns c =
     let cap = c .before .before .capped in
     let lp = c .before .loop in
     let e : lp .j ≡ 1 + cap .result = omega arith in
-    slot-copied (a .s .now) (a .to) (a .from) (p .0) (p .1) (lp .s) (cap .result) (cap .ensures .0) (cap .ensures .1) (rw e at (lp .inv .3))
+    slot-copied (a .s .now) (a .to) (a .from) (p .first) (p .second) (lp .s) (cap .result) (cap .ensures .0) (cap .ensures .1) (rw e at (lp .inv .3))
 
 pub copy-slot-spec : {M : Type 1} → statement M
 copy-slot-spec =

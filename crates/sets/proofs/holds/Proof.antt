@@ -29,8 +29,8 @@ find-requires c κs =
     let start = c .before .before .before .before in
     let a = start .args in
     let n = c .at-most in
-    let rising = subst Canon (set-rows (a .s .now) (a .base) (n .result) (n .ensures .0)) (start .pre .2) in
-    record { few = n .ensures .1; there = start .pre .0; words = start .pre .1; canon = rising }
+    let rising = subst Canon (set-rows (a .s .now) (a .base) (n .result) (n .ensures .0)) (start .pre .0 .canon) in
+    record { few = n .ensures .1; there = start .pre .0 .there; words = start .pre .1; canon = rising }
 
 enum-told : tie.Need-enum-told
 enum-told c = search needs
@@ -55,7 +55,7 @@ returns-2 c =
     let n = f .before .at-most in
     let d = conjOf (a .w .now) (a .m) in
     let given = c .before .spot .given in
-    spotted-before d (setOf (a .s .now) (a .base)) (given .0 .0) (g .pre .2)
+    spotted-before d (setOf (a .s .now) (a .base)) (given .0 .0) (g .pre .0 .canon)
     (spotted (f .find .result) (Before (given .0 .0)) (given .1) (a .s .now) (a .base) (n .result) d (n .ensures .0) (f .find .ensures))
 
 pub holds-spec : {M : Type 1} → statement M

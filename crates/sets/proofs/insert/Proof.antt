@@ -40,8 +40,8 @@ find-requires c κs =
     let n = c .before in
     let start = n .before .before .before .before in
     let a = start .args in
-    let rising = subst Canon (set-rows (a .s .now) (a .base) (n .at-most .result) (n .at-most .ensures .0)) (start .pre .3) in
-    record { few = n .at-most .ensures .1; there = start .pre .0; words = start .pre .2; canon = rising }
+    let rising = subst Canon (set-rows (a .s .now) (a .base) (n .at-most .result) (n .at-most .ensures .0)) (start .pre .0 .canon) in
+    record { few = n .at-most .ensures .1; there = start .pre .0 .there; words = start .pre .1 .there; canon = rising }
 
 enum-told : tie.Need-enum-told
 enum-told c = search needs
@@ -79,7 +79,7 @@ place-at-requires c κs =
     let i = given .0 .0 in
     let sp : Spotted (Before i) (conjOf (a .w .now) (a .m)) (setOf (a .s .now) (a .base)) =
     spotted (f .result) (Before i) (given .1) (a .s .now) (a .base) (n .result) (conjOf (a .w .now) (a .m)) (n .ensures .0) (f .ensures) in
-    (omega arith, omega (arith, sp .0, set-length (a .s .now) (a .base)), p .0, p .1, p .2)
+    (record { there = p .0 .there; space = omega arith; place = omega (arith, sp .0, set-length (a .s .now) (a .base)) }, p .1)
 
 same-length-2 : tie.Need-same-length-2
 same-length-2 c = search needs

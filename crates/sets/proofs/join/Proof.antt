@@ -85,11 +85,9 @@ insert-requires c κs =
     let start = entry-of-loop l in
     let a = start .args in
     let lp = l .loop in
-    let canon = union-canon (take (lp .k) (setOf (a .s .now) (a .from))) (setOf (a .s .now) (a .to)) (start .pre .2) in (
-      omega (arith, lp .inv .2, start .pre .0 .0),
-      g .get .ensures .0,
-      omega (arith, g .get .ensures .0, g .get .kept .1 .1 .1 .0, lp .inv .3, start .pre .1),
-      subst Canon (sym (lp .inv .5)) canon,
+    let canon = union-canon (take (lp .k) (setOf (a .s .now) (a .from))) (setOf (a .s .now) (a .to)) (start .pre .0 .canon) in (
+      record { there = omega (arith, lp .inv .2, start .pre .0 .regions .first); canon = subst Canon (sym (lp .inv .5)) canon },
+      record { few = g .get .ensures .0; there = omega (arith, g .get .ensures .0, g .get .kept .1 .1 .1 .0, lp .inv .3, start .pre .1) },
     )
 
 same-length : tie.Need-same-length Inv-loop μ-loop
@@ -107,7 +105,7 @@ returns c =
     let e = got t .get in
     let i = inserted t .insert in
     let over =
-    turn-over (a .s .now) (lp .s) (i .last .0) (a .to) (a .from) (lp .k) (this t) (p .1) (p .2) (entry t .pre .2) (lp .inv .2) (lp .inv .4)
+    turn-over (a .s .now) (lp .s) (i .last .0) (a .to) (a .from) (lp .k) (this t) (p .regions .second) (p .regions .apart) (p .canon) (lp .inv .2) (lp .inv .4)
     (few t) (e .ensures .1) (lp .inv .5) (i .result) (not-true _ (c .if1 .taken)) (i .ensures .0) in
     (over, outside t)
 
@@ -126,7 +124,7 @@ loop-again c =
     let e = got t .get in
     let i = inserted t .insert in
     let done =
-    turn-done (a .s .now) (lp .s) (i .last .0) (a .to) (a .from) (lp .k) (this t) (p .1) (p .2) (entry t .pre .2) (lp .inv .2) (lp .inv .4)
+    turn-done (a .s .now) (lp .s) (i .last .0) (a .to) (a .from) (lp .k) (this t) (p .regions .second) (p .regions .apart) (p .canon) (lp .inv .2) (lp .inv .4)
     (few t) (e .ensures .1) (lp .inv .5) (i .result) (not-false _ (c .if1 .left)) (i .ensures .0) in
     (omega arith, lp .inv .1, i .kept .0 ∙ lp .inv .2, e .kept .1 .1 .1 .0 ∙ lp .inv .3, outside t, done)
 

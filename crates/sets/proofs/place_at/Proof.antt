@@ -57,13 +57,13 @@ returns c =
     let a = start .args in
     let p = start .pre in
     let ws = take (a .m) (a .w .now) in
-    let count : length ws ≡ a .m = length-take-le (a .m) (a .w .now) (p .4) in
+    let count : length ws ≡ a .m = length-take-le (a .m) (a .w .now) (p .1 .there) in
     let A = a .base + 1 + slotWords * a .i in
     let after = c .before .before .write-slot .last .0 in
     let moved = after-shift .shift in
     let u = moved .last .0 in
     let e : after ≡ overlay u A (length ws ∷ ws) = c .before .before .write-slot .ensures ∙ ap (λ k. overlay u A (k ∷ ws)) (sym count) in
-    placed (a .s .now) u (a .base) (a .n) (a .i) ws (p .0) (p .1) (p .2) (omega arith) (moved .kept .0) (moved .ensures .0) (moved .ensures .1)
+    placed (a .s .now) u (a .base) (a .n) (a .i) ws (p .0 .space) (p .0 .place) (p .0 .there) (omega arith) (moved .kept .0) (moved .ensures .0) (moved .ensures .1)
     (set after (a .base) (a .n + 1)) (ap (λ l. set l (a .base) (a .n + 1)) e)
 
 pub place-at-spec : {M : Type 1} → statement M

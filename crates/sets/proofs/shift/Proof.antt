@@ -45,7 +45,7 @@ add-copy-slot-3 c = search needs
 
 copy-slot-requires : tie.Need-copy-slot-requires Inv-loop μ-loop
 copy-slot-requires c κs =
-    (omega arith, omega arith, inr (omega arith))
+    record { first = omega arith; second = omega arith; apart = inr (omega arith) }
 
 loop-less : tie.Need-loop-less Inv-loop μ-loop
 loop-less c = search needs

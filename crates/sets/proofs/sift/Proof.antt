@@ -1,13 +1,12 @@
 -- `sets::sift` meets its contract: after k turns the region has what the first k conjuncts leave.
 use mathlib.Core.List.{[], _∷_, _++_}
 use mathlib.Core.Path.{_≡_, refl, sym, ap, ap₂, subst, _∙_}
-use Prim.Native.Nat.{_-_, _≤_, _<_}
+use Prim.Native.Nat.{_-_, _≤_}
 use native.Mathlib.Omega.{arith}
 use lib.ListN.{length, getD, take}
 use lib.Seq.{take-length, length-take-le}
 use borrow.Author.Needs.{needs}
 use Rattle.model.specs.TidySets.{Canon}
-use Rattle.conjunct.specs.Value.{conjOf}
 use Rattle.sets.proofs.Differing.{minus-few, minus-none, minus-next}
 use Rattle.sets.proofs.Rows.{frame, set-few, within-trans}
 use Rattle.sets.specs.Minus.{minus}
@@ -42,12 +41,12 @@ module _ (c : tie.After-clear Inv-loop μ-loop) where
   same-from : setOf (c .clear .last .0) (entry c .args .from) ≡ setOf (entry c .args .s .now) (entry c .args .from)
   same-from =
       let g = entry c in
-      frame (g .args .s .now) (c .clear .last .0) (g .args .to) (g .args .from) (c .clear .kept .0) (g .pre .0 .1) (g .pre .0 .2) (c .clear .ensures .1)
+      frame (g .args .s .now) (c .clear .last .0) (g .args .to) (g .args .from) (c .clear .kept .0) (g .pre .0 .taken .second) (g .pre .0 .taken .apart) (c .clear .ensures .1)
 
   same-known : setOf (c .clear .last .0) (entry c .args .known) ≡ setOf (entry c .args .s .now) (entry c .args .known)
   same-known =
       let g = entry c in
-      frame (g .args .s .now) (c .clear .last .0) (g .args .to) (g .args .known) (c .clear .kept .0) (g .pre .1 .1) (g .pre .1 .2) (c .clear .ensures .1)
+      frame (g .args .s .now) (c .clear .last .0) (g .args .to) (g .args .known) (c .clear .kept .0) (g .pre .0 .left-out .second) (g .pre .0 .left-out .apart) (c .clear .ensures .1)
 
 module _ (c : tie.After-get Inv-loop μ-loop) where
   -- those of the turn's beginning too
@@ -57,7 +56,7 @@ module _ (c : tie.After-get Inv-loop μ-loop) where
       let e = emptied (at-loop c .before) in
       let g = entry e in
       let lp = at-loop c .loop in
-      frame (e .clear .last .0) (lp .s) (g .args .to) (g .args .known) (lp .inv .2) (omega (arith, g .pre .1 .1, e .clear .kept .0)) (g .pre .1 .2) (lp .inv .4)
+      frame (e .clear .last .0) (lp .s) (g .args .to) (g .args .known) (lp .inv .2) (omega (arith, g .pre .0 .left-out .second, e .clear .kept .0)) (g .pre .0 .left-out .apart) (lp .inv .4)
 
   from-here : setOf (at-loop c .loop .s) (entry (emptied (at-loop c .before)) .args .from)
       ≡ setOf (emptied (at-loop c .before) .clear .last .0) (entry (emptied (at-loop c .before)) .args .from)
@@ -65,7 +64,7 @@ module _ (c : tie.After-get Inv-loop μ-loop) where
       let e = emptied (at-loop c .before) in
       let g = entry e in
       let lp = at-loop c .loop in
-      frame (e .clear .last .0) (lp .s) (g .args .to) (g .args .from) (lp .inv .2) (omega (arith, g .pre .0 .1, e .clear .kept .0)) (g .pre .0 .2) (lp .inv .4)
+      frame (e .clear .last .0) (lp .s) (g .args .to) (g .args .from) (lp .inv .2) (omega (arith, g .pre .0 .taken .second, e .clear .kept .0)) (g .pre .0 .taken .apart) (lp .inv .4)
 
 clear-requires : tie.Need-clear-requires Inv-loop μ-loop
 clear-requires c κs = search needs
@@ -93,12 +92,14 @@ keep-requires c κs =
     let I = setOf t (g .args .from) in
     let few = minus-few (take (lp .k) I) (setOf t (g .args .known)) in
     let shorter : length (take (lp .k) I) ≡ lp .k = length-take-le (lp .k) I (omega (arith, lp .inv .0, lp .inv .1)) in
-    let room : length (lp .s) ≡ length (g .args .s .now) = lp .inv .2 ∙ e .clear .kept .0 in (
-      omega (arith, ap length (lp .inv .5), few, shorter, w .before .before .before .loop-test .taken, lp .inv .1, set-few t (g .args .from)),
-      (omega (arith, room, g .pre .1 .0), omega (arith, room, g .pre .1 .1), g .pre .1 .2),
-      subst Canon (sym (known-here w ∙ same-known e)) (g .pre .2),
-      w .get .ensures .0,
-      omega (arith, w .get .ensures .0, w .get .kept .1 .1 .1 .0, lp .inv .3, g .pre .3),
+    let room : length (lp .s) ≡ length (g .args .s .now) = lp .inv .2 ∙ e .clear .kept .0 in
+    let two = g .pre .0 .left-out in (
+      record {
+        regions = record { first = omega (arith, room, two .first); second = omega (arith, room, two .second); apart = two .apart };
+        space = omega (arith, ap length (lp .inv .5), few, shorter, w .before .before .before .loop-test .taken, lp .inv .1, set-few t (g .args .from));
+        canon = subst Canon (sym (known-here w ∙ same-known e)) (g .pre .0 .canon);
+      },
+      record { few = w .get .ensures .0; there = omega (arith, w .get .ensures .0, w .get .kept .1 .1 .1 .0, lp .inv .3, g .pre .1) },
     )
 
 add-k : tie.Need-add-k Inv-loop μ-loop

@@ -610,7 +610,7 @@ settle-copy-requires : (t : ℕ) → settle-lts.Need-copy-requires (settle-told 
 settle-copy-requires t c κs =
     let w = light-of t (c .before) in
     let g = settle-start t w in
-    (omega (arith, g .pre .1 .0 .room, w .rounds .kept .0), omega (arith, g .pre .1 .0 .room, w .rounds .kept .0), inr (omega arith))
+    record { first = omega (arith, g .pre .1 .0 .room, w .rounds .kept .0); second = omega (arith, g .pre .1 .0 .room, w .rounds .kept .0); apart = inr (omega arith) }
 
 settle-walk-in-requires : (t : ℕ) → settle-lts.Need-walk-in-requires (settle-told t) (settle-at t) settle.Post
 settle-walk-in-requires t c κs =

@@ -28,7 +28,7 @@ add-other : tie.Need-add-other
 add-other c = search needs
 
 unite-requires : tie.Need-unite-requires
-unite-requires c κs = ((search needs, search needs, inr (omega arith)), c .before .before .pre .1, c .before .before .pre .2)
+unite-requires c κs = (record { first = search needs; second = search needs; apart = inr (omega arith) }, c .before .before .pre .1, c .before .before .pre .2)
 
 enum-known-united : tie.Need-enum-known-united
 enum-known-united c = search needs
@@ -37,7 +37,7 @@ enum-told : tie.Need-enum-told
 enum-told c = search needs
 
 copy-requires : tie.Need-copy-requires
-copy-requires c κs = (search needs, search needs, inl (omega arith))
+copy-requires c κs = record { first = search needs; second = search needs; apart = inl (omega arith) }
 
 same-length : tie.Need-same-length
 same-length c = search needs

@@ -52,7 +52,11 @@ add-new c = search needs
 subtract-requires : tie.Need-subtract-requires
 subtract-requires c κs =
     let g = c .before .before in
-    ((search needs, search needs, inr (omega arith)), (search needs, search needs, inr (omega arith)), g .pre .1 .canon)
+    record {
+      taken = record { first = search needs; second = search needs; apart = inr (omega arith) };
+      left-out = record { first = search needs; second = search needs; apart = inr (omega arith) };
+      canon = g .pre .1 .canon;
+    }
 
 size-requires : tie.Need-size-requires
 size-requires c κs = search needs
@@ -73,7 +77,7 @@ unite-requires c κs =
     let g = entered d in
     let new = new-tidy (g .args .s .now) (d .subtract .last .0) (g .args .b) (g .pre .0) (d .subtract .kept .0) (d .subtract .ensures .0) (d .subtract .ensures .1) (g .pre .2) in
     let all = all-tidy (g .args .s .now) (d .subtract .last .0) (g .args .b) (g .pre .0) (d .subtract .kept .0) (d .subtract .ensures .0) (d .subtract .ensures .1) (g .pre .1) in
-    ((search needs, search needs, inl (omega arith)), new, all)
+    (record { first = search needs; second = search needs; apart = inl (omega arith) }, new, all)
 
 enum-known-united : tie.Need-enum-known-united
 enum-known-united c = search needs
@@ -82,7 +86,7 @@ enum-told : tie.Need-enum-told
 enum-told c = search needs
 
 copy-requires : tie.Need-copy-requires
-copy-requires c κs = (search needs, search needs, inl (omega arith))
+copy-requires c κs = record { first = search needs; second = search needs; apart = inl (omega arith) }
 
 same-length-2 : tie.Need-same-length-2
 same-length-2 c = search needs

@@ -37,7 +37,7 @@ add-next : tie.Need-add-next
 add-next c = search needs
 
 unite-requires : tie.Need-unite-requires
-unite-requires c κs = ((search needs, search needs, inr (omega arith)), c .before .before .pre .1, c .before .before .pre .2)
+unite-requires c κs = (record { first = search needs; second = search needs; apart = inr (omega arith) }, c .before .before .pre .1, c .before .before .pre .2)
 
 enum-known-united : tie.Need-enum-known-united
 enum-known-united c = search needs
@@ -49,7 +49,7 @@ equal-requires : tie.Need-equal-requires
 equal-requires c κs = search needs
 
 copy-requires : tie.Need-copy-requires
-copy-requires c κs = (search needs, search needs, inl (omega arith))
+copy-requires c κs = record { first = search needs; second = search needs; apart = inl (omega arith) }
 
 same-length : tie.Need-same-length
 same-length c = search needs

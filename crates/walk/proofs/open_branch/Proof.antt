@@ -17,7 +17,7 @@ add-copy : tie.Need-add-copy
 add-copy c = search needs
 
 copy-requires : tie.Need-copy-requires
-copy-requires c κs = (search needs, search needs, inr (omega arith))
+copy-requires c κs = record { first = search needs; second = search needs; apart = inr (omega arith) }
 
 same-length : tie.Need-same-length
 same-length c = search needs

@@ -18,7 +18,7 @@ add-copy : tie.Need-add-copy
 add-copy c = search needs
 
 copy-requires : tie.Need-copy-requires
-copy-requires c κs = (search needs, search needs, inr (omega arith))
+copy-requires c κs = record { first = search needs; second = search needs; apart = inr (omega arith) }
 
 mul-copy : tie.Need-mul-copy
 mul-copy c = search needs
@@ -27,7 +27,7 @@ add-copy-2 : tie.Need-add-copy-2
 add-copy-2 c = search needs
 
 copy-requires-2 : tie.Need-copy-requires-2
-copy-requires-2 c κs = (search needs, search needs, inr (omega arith))
+copy-requires-2 c κs = record { first = search needs; second = search needs; apart = inr (omega arith) }
 
 same-length : tie.Need-same-length
 same-length c = search needs

@@ -24,10 +24,10 @@ add-copy : tie.Need-add-copy
 add-copy c = search needs
 
 copy-requires : tie.Need-copy-requires
-copy-requires c κs = (search needs, search needs, inl (omega arith))
+copy-requires c κs = record { first = search needs; second = search needs; apart = inl (omega arith) }
 
 copy-requires-2 : tie.Need-copy-requires-2
-copy-requires-2 c κs = (search needs, search needs, inr (omega arith))
+copy-requires-2 c κs = record { first = search needs; second = search needs; apart = inr (omega arith) }
 
 same-length : tie.Need-same-length
 same-length c = search needs

@@ -20,7 +20,7 @@ add-copy : tie.Need-add-copy
 add-copy c = search needs
 
 copy-requires : tie.Need-copy-requires
-copy-requires c κs = (search needs, search needs, inl (omega arith))
+copy-requires c κs = record { first = search needs; second = search needs; apart = inl (omega arith) }
 
 returns : tie.Need-returns
 returns c =
