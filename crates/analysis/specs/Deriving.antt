@@ -10,6 +10,8 @@ use Rattle.model.specs.Refusals.{Out, ok, refused, check, lentTooShort, wrongBl
 use Rattle.model.specs.Demands.{ResultOrRefusal, OrLent, AnalysisRefusal}
 use Rattle.model.specs.Lent.{ScratchLeft}
 use Rattle.bytes_le.specs.Overlay.{overlay}
+use Rattle.program.specs.Reading.{ProgramIsRead}
+use Rattle.program.specs.declared.Layout.{Layout}
 use Rattle.code_table.specs.Table.{tableWords}
 use Rattle.sets.specs.Region.{regionWords}
 use Rattle.analysis.specs.declared.Derived.{Derived}
@@ -34,6 +36,12 @@ derivation output scratch program = check (leb conditionBytes output && leb anal
 -- demand 1 of it: there is always an answer, and these are the numbers
 abbrev pub DerivationAnswers : Type 0
 DerivationAnswers = (output scratch : ℕ) (program : List ℕ) → ResultOrRefusal (OrLent AnalysisRefusal) (derivation output scratch program)
+
+-- a program that is read, an output with room for the longest file, and scratch with its words
+pub record Derivable (program : List ℕ) (layout : Layout) (output scratch : List ℕ) : Type 0 where
+  pub read : ProgramIsRead program layout
+  pub room : conditionBytes ≤ length output
+  pub words : analysisWords ≤ length scratch
 
 -- an answer, with the output afterwards: the file, which is its first n bytes, or the number of the refusal
 abbrev pub fileOf : Derived → List ℕ → Out (List ℕ)

@@ -6,15 +6,18 @@ use lib.ListN.{length}
 use Rattle.model.specs.Code.{assign, store, site, Stmt, plain, if, else, end, while}
 use Rattle.model.specs.Conjunct.{Conjuncts, unionOf, limits, var}
 use Rattle.model.specs.Refusals.{Out, ok, _>>=_}
+use Rattle.model.specs.Sizes.{mostNested}
 use Rattle.model.specs.Walk.{start, join}
 use Rattle.model.specs.Enclosing.{From}
 use Rattle.model.specs.TidySets.{Sub, Tidy}
-use Rattle.code_table.specs.Table.{stmtIn, mateIn}
-use Rattle.sets.specs.Region.{setOf}
+use Rattle.code_table.specs.Statements.{variableNumbers}
+use Rattle.code_table.specs.Table.{tableOf, stmtIn, mateIn, KnownBelow}
+use Rattle.sets.specs.Region.{setOf, regionWords}
 use Rattle.rules.specs.Answers.{answered}
 use Rattle.rules.specs.declared.Answer.{Answer}
 use Rattle.rules.specs.declared.Answer.the-variants.{Done}
-use Rattle.enclosing.specs.Enclosing.{EnclosedIn, walkedOut}
+use Rattle.walk.specs.Piece.{Piece}
+use Rattle.enclosing.specs.Enclosing.{EnclosedIn, Enclosed, walkedOut}
 use Rattle.analysis.specs.Deriving.{unionAt, analysisWords}
 
 -- the union so far R, with the set S of one site at the program's start
@@ -76,3 +79,32 @@ PassedLabel k n i R a Q = AllJoined k n i R → (L : List (Out Conjuncts)) → S
 pub record Uniting (s : List ℕ) : Type 0 where
   pub room : analysisWords ≤ length s
   pub tidy : Tidy (setOf s unionAt)
+
+-- the region at b, and after it an empty room
+pub record EmptyRoom (s : List ℕ) (b room : ℕ) : Type 0 where
+  pub apart : b + regionWords ≤ room
+  pub there : room + regionWords ≤ length s
+  pub empty : setOf s room ≡ []
+
+-- a union so far, and a site at the label i, on a variable x of a type, in a program with its number of statements
+pub record SiteIn (s : List ℕ) (i x ty : ℕ) : Type 0 where
+  pub words : Uniting s
+  pub variable : x < variableNumbers
+  pub type : ty < 8
+  pub statements : ℕ
+  pub enclosed : Enclosed (tableOf 0 s) statements i
+
+-- a union so far, and a label i of a program with its number of statements, and with what the sites from that label on come to
+pub record LabelIn (s : List ℕ) (i : ℕ) : Type 0 where
+  pub words : Uniting s
+  pub statements : ℕ
+  pub known : KnownBelow statements (tableOf 0 s)
+  pub inside : i < statements
+  pub results : List (Out Conjuncts)
+  pub sites : SitesFrom (tableOf 0 s) statements i results
+
+-- scratch with its words, and in its table the n known statements of a program
+pub record ProgramIn (s : List ℕ) (n : ℕ) : Type 0 where
+  pub room : analysisWords ≤ length s
+  pub known : KnownBelow n (tableOf 0 s)
+  pub piece : Piece s mostNested 0 n

@@ -1,30 +1,28 @@
 // The analysis: from a program's bytes to the condition file that it needs, or a numbered refusal.
 ghost use mathlib.Core.Path.{_≡_};
 ghost use mathlib.Core.Bool.{true};
-ghost use mathlib.Core.List.{List, [], _∷_};
+ghost use mathlib.Core.List.{[], _∷_};
 ghost use Prim.Native.Nat.{ℕ, _+_, _*_, _≤_, _<_};
 ghost use lib.ListN.{length};
 ghost use Rattle.model.specs.Code.{Code};
-ghost use Rattle.model.specs.Condition.{conditionBytes, encode, analysis};
-ghost use Rattle.model.specs.Conjunct.{Conjuncts};
-ghost use Rattle.model.specs.Formed.{Formed};
-ghost use Rattle.model.specs.Lists.{All};
+ghost use Rattle.model.specs.Condition.{encode, analysis};
 ghost use Rattle.model.specs.Nesting.{Nested};
-ghost use Rattle.model.specs.Refusals.{Out, ok};
-ghost use Rattle.model.specs.Sizes.{mostNodes, mostNested, mostStatements};
+ghost use Rattle.model.specs.Refusals.{ok};
+ghost use Rattle.model.specs.Sizes.{mostNested, mostStatements};
 ghost use Rattle.model.specs.TidySets.{Tidy};
 ghost use Rattle.model.specs.Walk.{start, derived};
-ghost use Rattle.program.specs.Reading.{ProgramIsRead, tablesOf};
+ghost use Rattle.program.specs.Reading.{tablesOf};
 ghost use Rattle.code_table.specs.Statements.{variableNumbers};
-ghost use Rattle.code_table.specs.Table.{tableWords, tableOf, stmtIn, KnownBelow};
+ghost use Rattle.code_table.specs.Table.{tableWords, tableOf, stmtIn};
 ghost use Rattle.conjunct.specs.Word.{nodeOf};
 ghost use Rattle.sets.specs.Region.{setOf, Within, regionWords};
+ghost use Rattle.rules.specs.Adding.{Buffers};
 ghost use Rattle.rules.specs.Answers.{answered, Below};
-ghost use Rattle.rules.specs.declared.Answer.the-variants.{Done};
-ghost use Rattle.walk.specs.Piece.{Lies, Piece};
-ghost use Rattle.enclosing.specs.Enclosing.{Enclosed, Moved};
-ghost use Rattle.analysis.specs.Deriving.{unionAt, siteAt, analysisWords, derivation, Filed, FileGiven, Derives};
-ghost use Rattle.analysis.specs.Joining.{joinedTo, SitesFrom, Sited, Keeps, KeptFrom, Repeats, PassedLabel, Uniting};
+ghost use Rattle.walk.specs.Piece.{Lies};
+ghost use Rattle.enclosing.specs.Enclosing.{Moved};
+ghost use Rattle.writer.specs.Writing.{Writable};
+ghost use Rattle.analysis.specs.Deriving.{unionAt, derivation, Derivable, Filed, FileGiven, Derives};
+ghost use Rattle.analysis.specs.Joining.{joinedTo, Sited, Keeps, KeptFrom, Repeats, PassedLabel, EmptyRoom, SiteIn, LabelIn, ProgramIn};
 use code_table::Decoded;
 use conjunct::MOST_NODES;
 use program::Layout;
@@ -55,7 +53,7 @@ fn single(s: &mut [u64], b: usize, w: u64)
 // What the conjuncts of the region at b come to at the program's start, gathered in the empty room
 // from the first to the last. `e` and `seen` are room to work in.
 fn gather_start(s: &mut [u64], b: usize, room: usize, e: &mut [u64], seen: &mut [u64])
-    requires { ⌜ (b + regionWords ≤ room) × (room + regionWords ≤ length (now s)) × (setOf (now s) room ≡ []) × (mostNodes ≤ length (now e)) × (mostNodes ≤ length (now seen)) ⌝ }
+    requires { ⌜ EmptyRoom (now s) b room × Buffers (now e) (now seen) ⌝ }
     ensures { λ _. ⌜ (start (setOf (now (s .entry)) b) ≡ ok (setOf (now (s .exit)) room)) × Within room (now (s .entry)) (now (s .exit)) ⌝ }
 {
     let count = sets::size(s, b);
@@ -86,8 +84,10 @@ fn start_set(s: &mut [u64], b: usize)
 // The set of the region after b, at the program's start, joined to the union so far at b.
 fn join_next(s: &mut [u64], b: usize) -> Answer
     requires { ⌜ (b + 3 * regionWords ≤ length (now s)) × Tidy (setOf (now s) b) ⌝ }
-    ensures { λ a. ⌜ (joinedTo (setOf (now (s .entry)) b) (setOf (now (s .entry)) (b + regionWords)) ≡ answered a (setOf (now (s .exit)) b))
-        × (a ≡ Done → Tidy (setOf (now (s .exit)) b)) × Below b (now (s .entry)) (now (s .exit)) ⌝ }
+    ensures { λ a. ⌜
+        Moved (joinedTo (setOf (now (s .entry)) b) (setOf (now (s .entry)) (b + regionWords)) ≡ answered a (setOf (now (s .exit)) b))
+        a b (now (s .entry)) (now (s .exit))
+        ⌝ }
 {
     let next = b + sets::REGION;
     start_set(s, next);
@@ -102,7 +102,7 @@ fn join_next(s: &mut [u64], b: usize) -> Answer
 // One site, on the variable x of type ty: its set at the program's start, joined to the union so far.
 // The first region behind the table holds that union, and from the next one on there is room to work in.
 fn site(s: &mut [u64], i: usize, x: usize, ty: u8) -> Answer
-    requires { ⌜ Uniting (now s) × ((x < variableNumbers) × (ty < 8)) × ((n : ℕ) × Enclosed (tableOf 0 (now s)) n i) ⌝ }
+    requires { ⌜ SiteIn (now s) i x ty ⌝ }
     ensures { λ a. ⌜
         Moved ((n : ℕ) → Sited (tableOf 0 (now (s .entry))) n i x ty (setOf (now (s .entry)) unionAt) a (setOf (now (s .exit)) unionAt))
         a unionAt (now (s .entry)) (now (s .exit))
@@ -179,10 +179,7 @@ fn repeats(s: &[u64], j: usize, i: usize, d: Decoded) -> bool
 // The statement with the label i, if it is a site. One that repeats an earlier one adds nothing; for
 // each variable `last` has the label where to look for that one.
 fn pass(s: &mut [u64], i: usize, last: &mut [usize]) -> Answer
-    requires { ⌜
-        Uniting (now s) × (variableNumbers ≤ length (now last))
-        × ((n : ℕ) × KnownBelow n (tableOf 0 (now s)) × (i < n) × ((L : List (Out Conjuncts)) × SitesFrom (tableOf 0 (now s)) n i L))
-        ⌝ }
+    requires { ⌜ LabelIn (now s) i × (variableNumbers ≤ length (now last)) ⌝ }
     ensures { λ a. ⌜
         Moved ((n : ℕ) → i < n → PassedLabel (tableOf 0 (now (s .entry))) n i (setOf (now (s .entry)) unionAt) a (setOf (now (s .exit)) unionAt))
         a unionAt (now (s .entry)) (now (s .exit))
@@ -205,7 +202,7 @@ fn pass(s: &mut [u64], i: usize, last: &mut [usize]) -> Answer
 // The set that the analysis derives from the n statements of the table, in the first region. `last` is
 // room to work in, whatever it has.
 fn join_sites(s: &mut [u64], n: usize, last: &mut [usize]) -> Answer
-    requires { ⌜ (analysisWords ≤ length (now s)) × (variableNumbers ≤ length (now last)) × KnownBelow n (tableOf 0 (now s)) × Piece (now s) mostNested 0 n ⌝ }
+    requires { ⌜ ProgramIn (now s) n × (variableNumbers ≤ length (now last)) ⌝ }
     ensures { λ a. ⌜ ((c : Code) → Lies (now (s .entry)) c 0 n → Nested mostNested c → derived c ≡ answered a (setOf (now (s .exit)) unionAt)) ⌝ }
 {
     sets::clear(s, UNION);
@@ -221,9 +218,10 @@ fn join_sites(s: &mut [u64], n: usize, last: &mut [usize]) -> Answer
     Answer::Done
 }
 
-// The same.
+// The set that the analysis derives from the n statements of the table, in the first region, with
+// room to work in of its own.
 fn sites(s: &mut [u64], n: usize) -> Answer
-    requires { ⌜ (analysisWords ≤ length (now s)) × KnownBelow n (tableOf 0 (now s)) × Piece (now s) mostNested 0 n ⌝ }
+    requires { ⌜ ProgramIn (now s) n ⌝ }
     ensures { λ a. ⌜ ((c : Code) → Lies (now (s .entry)) c 0 n → Nested mostNested c → derived c ≡ answered a (setOf (now (s .exit)) unionAt)) ⌝ }
 {
     let mut last: [usize; VARIABLES] = [0; VARIABLES];
@@ -248,10 +246,7 @@ pub enum Derived {
 
 // The file of the union, at the start of the output.
 fn write_file(program: &[u8], layout: Layout, s: &[u64], condition: &mut [u8]) -> Derived
-    requires { ⌜
-        ProgramIsRead (now program) layout × ((siteAt ≤ length (now s)) × (conditionBytes ≤ length (now condition)))
-        × All (Formed (tablesOf (now program) .fields)) (setOf (now s) unionAt)
-        ⌝ }
+    requires { ⌜ Writable (now program) layout (now s) unionAt (now condition) ⌝ }
     ensures { λ r. ⌜
         Filed (encode (tablesOf (now (program .entry)) .fields) (setOf (now (s .entry)) unionAt)) r (now (condition .entry)) (now (condition .exit))
         ⌝ }
@@ -262,7 +257,7 @@ fn write_file(program: &[u8], layout: Layout, s: &[u64], condition: &mut [u8]) -
 
 // Of a program that is read.
 fn derive_read(program: &[u8], layout: Layout, condition: &mut [u8], scratch: &mut [u64]) -> Derived
-    requires { ⌜ ProgramIsRead (now program) layout × (conditionBytes ≤ length (now condition)) × (analysisWords ≤ length (now scratch)) ⌝ }
+    requires { ⌜ Derivable (now program) layout (now condition) (now scratch) ⌝ }
     ensures { λ r. ⌜ FileGiven (analysis (now (program .entry))) r (now (condition .entry)) (now (condition .exit)) ⌝ }
 {
     code_table::load(program, layout, scratch, 0);

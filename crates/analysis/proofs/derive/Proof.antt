@@ -77,7 +77,11 @@ part-derive-read-end c = search needs
 derive-read-requires : tie.Need-derive-read-requires
 derive-read-requires c κs =
     let p = program-found (asked c) in
-    (program-is-read (asked c), p .before .before .if1 .left, documented-part analysisWords (start (lent p) .args .scratch .now) (p .before .if2 .left))
+    record {
+      read = program-is-read (asked c);
+      room = p .before .before .if1 .left;
+      words = documented-part analysisWords (start (lent p) .args .scratch .now) (p .before .if2 .left);
+    }
 
 returns-3 : tie.Need-returns-3
 returns-3 c = record { answer = search (needs, not-read); output = search needs; scratch = search (needs, scratch-as-it-was) }

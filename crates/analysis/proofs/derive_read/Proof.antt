@@ -1,7 +1,6 @@
 -- `analysis::derive_read` meets its contract.
 use mathlib.Core.Path.{_≡_, ap, _∙_}
 use native.Mathlib.Omega.{arith}
-use Rattle.model.specs.Refusals.{Out}
 use Rattle.model.specs.Walk.{derived}
 use Rattle.model.proofs.walks.Depth.{program-nested}
 use Rattle.code_table.specs.Table.{tableOf, Coded}
@@ -24,18 +23,18 @@ abbrev found : tie.After-enum-told → tie.After-sites
 found c = c .before .before .before .before
 
 -- the table holds the program's code
-coded : (c : tie.After-load) → let g = entered c in Coded (g .args .layout .statements) (tableOf 0 (c .load .last .1 .1 .0)) (g .pre .0 .program .code)
-coded c = let r = entered c .pre .0 in c .load .ensures .coded (r .program) (r .read)
+coded : (c : tie.After-load) → let g = entered c in Coded (g .args .layout .statements) (tableOf 0 (c .load .last .1 .1 .0)) (g .pre .read .program .code)
+coded c = let r = entered c .pre .read in c .load .ensures .coded (r .program) (r .read)
 
 -- behind the sites, one of which was refused
 abbrev refused-at : tie.After-known-told → tie.After-sites
 refused-at c = c .before .before .before .before .before
 
 -- the sites come to what is derived from it
-derives : (c : tie.After-sites) → derived (entered (loaded c) .pre .0 .program .code) ≡ answered (c .sites .result) (setOf (c .sites .last .0) unionAt)
+derives : (c : tie.After-sites) → derived (entered (loaded c) .pre .read .program .code) ≡ answered (c .sites .result) (setOf (c .sites .last .0) unionAt)
 derives c =
     let g = entered (loaded c) in
-    let r = g .pre .0 in
+    let r = g .pre .read in
     c .sites .ensures (r .program .code) (coded (loaded c) .laid) (program-nested (g .args .program .now) (r .program) (r .read))
 
 load-requires : tie.Need-load-requires
@@ -45,9 +44,13 @@ sites-requires : tie.Need-sites-requires
 sites-requires c κs =
     let l = c .before .before .before in
     let g = entered l in
-    let r = g .pre .0 in
+    let r = g .pre .read in
     let k = coded l in
-    (omega (arith, g .pre .2, l .load .kept .1 .1 .0), k .below, record { code = r .program .code; lies = k .laid; nested = program-nested (g .args .program .now) (r .program) (r .read) })
+    record {
+      room = omega (arith, g .pre .words, l .load .kept .1 .1 .0);
+      known = k .below;
+      piece = record { code = r .program .code; lies = k .laid; nested = program-nested (g .args .program .now) (r .program) (r .read) };
+    }
 
 enum-known-a : tie.Need-enum-known-a
 enum-known-a c = search needs
@@ -59,12 +62,14 @@ write-file-requires : tie.Need-write-file-requires
 write-file-requires c κs =
     let t = found (c .before .before) in
     let g = entered (loaded t) in
-    let r = g .pre .0 in
-    let S = setOf (t .sites .last .0) unionAt in (
-      r,
-      (omega (arith, g .pre .2, loaded t .load .kept .1 .1 .0, t .sites .kept .0), g .pre .1),
-      set-formed (g .args .program .now) (r .program) (r .read) S (derives t ∙ ap (λ x. answered x S) (c .before .before .enum-told .given .1)),
-    )
+    let r = g .pre .read in
+    let S = setOf (t .sites .last .0) unionAt in
+    record {
+      read = r;
+      region = omega (arith, g .pre .words, loaded t .load .kept .1 .1 .0, t .sites .kept .0);
+      room = g .pre .room;
+      formed = set-formed (g .args .program .now) (r .program) (r .read) S (derives t ∙ ap (λ x. answered x S) (c .before .before .enum-told .given .1));
+    }
 
 same-length : tie.Need-same-length
 same-length c = search needs
@@ -73,7 +78,7 @@ returns : tie.Need-returns
 returns c =
     let t = refused-at c in
     let g = entered (loaded t) in
-    let r = g .pre .0 in
+    let r = g .pre .read in
     derives-refusal (g .args .program .now) (r .program) (r .read) _ (g .args .condition .now)
     (derives t ∙ ap (λ x. answered x (setOf (t .sites .last .0) unionAt)) (c .before .a .given .1))
 
@@ -89,10 +94,10 @@ returns-2 c =
     let d = w .before .before .before in
     let t = found d in
     let g = entered (loaded t) in
-    let r = g .pre .0 in
+    let r = g .pre .read in
     let S = setOf (t .sites .last .0) unionAt in
     derives-file (g .args .program .now) (r .program) (r .read) S (derives t ∙ ap (λ x. answered x S) (d .enum-told .given .1)) (w .write-file .result)
-    (g .args .condition .now) (w .write-file .last .1 .1 .1 .0) (g .pre .1) (w .write-file .ensures)
+    (g .args .condition .now) (w .write-file .last .1 .1 .1 .0) (g .pre .room) (w .write-file .ensures)
 
 pub derive-read-spec : {M : Type 1} → statement M
 derive-read-spec =

@@ -40,7 +40,7 @@ loop-holds : tie.Need-loop-holds Inv-loop μ-loop
 loop-holds c =
     let g = entered c in
     let a = g .args in
-    (omega arith, refl, refl, refl, λ i h. refl, g .pre .2 ∙ sym (started-none (setOf (a .s .now) (a .b))), c .size .ensures .0)
+    (omega arith, refl, refl, refl, λ i h. refl, g .pre .0 .empty ∙ sym (started-none (setOf (a .s .now) (a .b))), c .size .ensures .0)
 
 get-requires : tie.Need-get-requires Inv-loop μ-loop
 get-requires c κs = search needs
@@ -62,10 +62,10 @@ insert-requires c κs =
     let n = after-get .get .ensures .0 in
     let words = after-renumber .renumber .kept .0 ∙ after-at-start .at-start .kept .0 ∙ after-get .get .kept .1 .1 .1 .0 ∙ lp .inv .2 in (
       record {
-        there = omega (arith, lp .inv .1, g .pre .1);
+        there = omega (arith, lp .inv .1, g .pre .0 .there);
         canon = gathered-canon atStart (setOf (g .args .s .now) (g .args .b)) (setOf (lp .s) (g .args .room)) (lp .k) (lp .inv .5);
       },
-      record { few = n; there = omega (arith, n, words, g .pre .3) },
+      record { few = n; there = omega (arith, n, words, g .pre .1) },
     )
 
 add-k : tie.Need-add-k Inv-loop μ-loop
@@ -94,7 +94,7 @@ loop-again c =
       r .kept .0 ∙ z .kept .0 ∙ e .kept .1 .1 .1 .0 ∙ lp .inv .2,
       r .kept .1 .1 .0 ∙ lp .inv .3,
       within-trans (a .room) (a .s .now) (lp .s) (t .last .0) (lp .inv .4) (t .ensures .1),
-      started-more (a .s .now) (a .b) (a .room) (g .pre .0) (g .pre .1) (lp .s) (t .last .0) (lp .k) (conjOf (r .last .0) (e .result)) (t .result)
+      started-more (a .s .now) (a .b) (a .room) (g .pre .0 .apart) (g .pre .0 .there) (lp .s) (t .last .0) (lp .k) (conjOf (r .last .0) (e .result)) (t .result)
           (lp .inv .1) (lp .inv .4) (omega (arith, in-loop .loop-test .taken, lp .inv .6)) this (lp .inv .5) (t .ensures .0),
       lp .inv .6,
     )

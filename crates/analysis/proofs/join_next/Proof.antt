@@ -48,11 +48,14 @@ returns c =
     let start = entered after-start-set in
     let a = start .args in
     let f = after-start-set .start-set in
-    let u = after-union .union in (
-      joined-over (a .s .now) (f .last .0) (a .b) (f .kept .0) (omega (arith, start .pre .0)) (f .ensures .1) (f .ensures .0) (u .last .0) (u .result) (not-true _ (c .if1 .taken)) (u .ensures .0),
-      λ e. absurd (refused-done _ e),
-      λ i h. u .ensures .1 i (inl (omega arith)) ∙ f .ensures .1 i (omega arith),
-    )
+    let u = after-union .union in
+    record {
+      does =
+          joined-over (a .s .now) (f .last .0) (a .b) (f .kept .0) (omega (arith, start .pre .0)) (f .ensures .1) (f .ensures .0) (u .last .0) (u .result)
+          (not-true _ (c .if1 .taken)) (u .ensures .0);
+      tidy = λ e. absurd (refused-done _ e);
+      below = λ i h. u .ensures .1 i (inl (omega arith)) ∙ f .ensures .1 i (omega arith);
+    }
 
 copy-requires : tie.Need-copy-requires
 copy-requires c κs =
@@ -77,13 +80,16 @@ returns-2 c =
     let f = after-start-set .start-set in
     let u = after-union .union in
     let v = c .before .before .copy in
-    let fits : a .b + regionWords ≤ length (a .s .now) = omega (arith, p .0) in (
-      joined-done (a .s .now) (f .last .0) (a .b) (f .kept .0) fits (f .ensures .1) (f .ensures .0) (u .last .0) (v .last .0) (u .result)
-          (not-false _ (c .before .before .before .before .if1 .left)) (u .ensures .0) (v .ensures .0),
-      λ e. joined-tidy (a .s .now) (f .last .0) (a .b) (f .kept .0) fits (f .ensures .1) (f .ensures .0) (u .last .0) (v .last .0) (u .result)
-          (not-false _ (c .before .before .before .before .if1 .left)) (u .ensures .0) (v .ensures .0) (p .1),
-      λ i h. v .ensures .1 i (inl h) ∙ u .ensures .1 i (inl (omega arith)) ∙ f .ensures .1 i (omega arith),
-    )
+    let fits : a .b + regionWords ≤ length (a .s .now) = omega (arith, p .0) in
+    record {
+      does =
+          joined-done (a .s .now) (f .last .0) (a .b) (f .kept .0) fits (f .ensures .1) (f .ensures .0) (u .last .0) (v .last .0) (u .result)
+          (not-false _ (c .before .before .before .before .if1 .left)) (u .ensures .0) (v .ensures .0);
+      tidy = λ e.
+          joined-tidy (a .s .now) (f .last .0) (a .b) (f .kept .0) fits (f .ensures .1) (f .ensures .0) (u .last .0) (v .last .0) (u .result)
+          (not-false _ (c .before .before .before .before .if1 .left)) (u .ensures .0) (v .ensures .0) (p .1);
+      below = λ i h. v .ensures .1 i (inl h) ∙ u .ensures .1 i (inl (omega arith)) ∙ f .ensures .1 i (omega arith);
+    }
 
 pub join-next-spec : {M : Type 1} → statement M
 join-next-spec =

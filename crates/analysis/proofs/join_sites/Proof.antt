@@ -37,7 +37,7 @@ refused-at c = c .before .before .before .before .before .before .before
 clear-table : (c : tie.After-clear Inv-loop μ-loop) → tableOf 0 (c .clear .last .0) ≡ tableOf 0 (entered c .args .s .now)
 clear-table c =
     let g = entered c in
-    below-table unionAt (g .args .s .now) (c .clear .last .0) (omega arith) (omega (arith, g .pre .0)) (c .clear .kept .0)
+    below-table unionAt (g .args .s .now) (c .clear .last .0) (omega arith) (omega (arith, g .pre .0 .room)) (c .clear .kept .0)
     (within-below unionAt unionAt (g .args .s .now) (c .clear .last .0) (omega arith) (c .clear .ensures .1))
 
 clear-requires : tie.Need-clear-requires Inv-loop μ-loop
@@ -64,16 +64,17 @@ pass-requires c κs =
     let lp = h .loop in
     let v = cleared h in
     let g = entered v in
-    let piece = g .pre .3 in
+    let piece = g .pre .0 .piece in
     let l = lp .inv .0 .left (piece .code) (lies-on (g .args .s .now) (v .clear .last .0) (clear-table v) (piece .code) 0 (g .args .n) (piece .lies)) (piece .nested) in (
-      record { room = omega (arith, g .pre .0, v .clear .kept .0, lp .inv .0 .same-length); tidy = lp .inv .0 .tidy },
+      record {
+        words = record { room = omega (arith, g .pre .0 .room, v .clear .kept .0, lp .inv .0 .same-length); tidy = lp .inv .0 .tidy };
+        statements = g .args .n;
+        known = subst (KnownBelow (g .args .n)) (sym (lp .inv .0 .table ∙ clear-table v)) (g .pre .0 .known);
+        inside = c .before .before .loop-test .taken;
+        results = l .0;
+        sites = subst (λ k. SitesFrom k (g .args .n) (lp .i) (l .0)) (sym (lp .inv .0 .table)) (l .1);
+      },
       omega (arith, lp .inv .1, g .pre .1),
-      (
-        g .args .n,
-        subst (KnownBelow (g .args .n)) (sym (lp .inv .0 .table ∙ clear-table v)) (g .pre .2),
-        c .before .before .loop-test .taken,
-        (l .0, subst (λ k. SitesFrom k (g .args .n) (lp .i) (l .0)) (sym (lp .inv .0 .table)) (l .1)),
-      ),
     )
 
 enum-known-a : tie.Need-enum-known-a Inv-loop μ-loop
@@ -113,9 +114,9 @@ loop-again c =
     let lp = head t .loop in
     let v = cleared (head t) in
     let g = entered v in
-    let piece = g .pre .3 in (
+    let piece = g .pre .0 .piece in (
       passed-next (v .clear .last .0) (g .args .n) (lp .s) (lp .i) (lp .inv .0) (t .pass .last .0) (t .pass .result) (t .before .before .before .loop-test .taken)
-          (t .pass .ensures .does) (c .enum-told .given .1) (omega (arith, g .pre .0, v .clear .kept .0)) (t .pass .kept .0)
+          (t .pass .ensures .does) (c .enum-told .given .1) (omega (arith, g .pre .0 .room, v .clear .kept .0)) (t .pass .kept .0)
           (t .pass .ensures .tidy (c .enum-told .given .1)) (t .pass .ensures .below) (piece .code)
           (lies-on (g .args .s .now) (v .clear .last .0) (clear-table v) (piece .code) 0 (g .args .n) (piece .lies)) (piece .nested),
       t .pass .kept .1 .1 .0 ∙ lp .inv .1,

@@ -1,6 +1,5 @@
 -- `analysis::pass` meets its contract.
 use mathlib.Core.Path.{_≡_, refl, sym, ap, subst, _∙_}
-use Prim.Native.Nat.{_<_}
 use native.Mathlib.Omega.{arith}
 use Rattle.code_table.specs.Statements.{Known}
 use Rattle.code_table.specs.Table.{tableOf, rowIn}
@@ -26,12 +25,12 @@ is-site c e = sym (ap (λ (r : Decoded). r .kind) (c .fetch .ensures)) ∙ e
 
 -- the row is one of the program
 known : (c : tie.After-fetch) → Known (c .fetch .result)
-known c = let g = entered c in subst Known (sym (c .fetch .ensures)) (g .pre .2 .1 .known (g .args .i) (g .pre .2 .2))
+known c = let g = entered c in subst Known (sym (c .fetch .ensures)) (g .pre .0 .known .known (g .args .i) (g .pre .0 .inside))
 
 fetch-requires : tie.Need-fetch-requires
 fetch-requires c κs =
     let g = c .before .before .before in
-    (omega (arith, g .pre .0 .room), omega (arith, g .pre .2 .1 .few, g .pre .2 .2))
+    (omega (arith, g .pre .0 .words .room), omega (arith, g .pre .0 .known .few, g .pre .0 .inside))
 
 same-length : tie.Need-same-length
 same-length c = search needs
@@ -43,7 +42,7 @@ returns c =
     record {
       does = λ m l.
           pass-other (tableOf 0 (g .args .s .now)) m (g .args .i) l (setOf (g .args .s .now) unionAt) (λ e. c .if1 .taken (ap (λ (r : Decoded). r .kind) (d .ensures) ∙ e));
-      tidy = λ e. g .pre .0 .tidy;
+      tidy = λ e. g .pre .0 .words .tidy;
       below = λ x h. refl;
     }
 
@@ -62,7 +61,7 @@ slice-write-last c = let f = c .before .before in omega (arith, known f .a, ente
 repeats-requires : tie.Need-repeats-requires
 repeats-requires c κs =
     let g = entered (c .before .before .before) in
-    (omega (arith, g .pre .0 .room), omega (arith, g .pre .2 .1 .few, g .pre .2 .2))
+    (omega (arith, g .pre .0 .words .room), omega (arith, g .pre .0 .known .few, g .pre .0 .inside))
 
 same-length-2 : tie.Need-same-length-2
 same-length-2 c = search needs
@@ -80,8 +79,8 @@ returns-2 c =
     record {
       does = λ m l.
           pass-repeated k m (g .args .i) l R (is-site f (r .before .before .before .if1 .left)) (f .fetch .result) (f .fetch .ensures)
-          (r .repeats .ensures (c .if2 .taken)) (g .pre .0 .tidy);
-      tidy = λ e. g .pre .0 .tidy;
+          (r .repeats .ensures (c .if2 .taken)) (g .pre .0 .words .tidy);
+      tidy = λ e. g .pre .0 .words .tidy;
       below = λ x h. refl;
     }
 
@@ -90,16 +89,16 @@ site-requires c κs =
     let r = c .before .before in
     let f = fetched r in
     let g = entered f in
-    let n = g .pre .2 .0 in
-    let sites = g .pre .2 .3 in (
-      g .pre .0,
-      (known f .a, known f .ty),
-      (
-        n,
-        site-leads (tableOf 0 (g .args .s .now)) n (g .args .i) (g .pre .2 .2) (setOf (g .args .s .now) unionAt) (is-site f (r .before .before .before .if1 .left)) (g .pre .2 .1)
-            (sites .0) (sites .1),
-      ),
-    )
+    let label = g .pre .0 in
+    record {
+      words = label .words;
+      variable = known f .a;
+      type = known f .ty;
+      statements = label .statements;
+      enclosed =
+          site-leads (tableOf 0 (g .args .s .now)) (label .statements) (g .args .i) (label .inside) (setOf (g .args .s .now) unionAt)
+          (is-site f (r .before .before .before .if1 .left)) (label .known) (label .results) (label .sites);
+    }
 
 same-length-4 : tie.Need-same-length-4
 same-length-4 c = search needs

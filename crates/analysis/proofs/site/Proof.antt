@@ -1,5 +1,5 @@
 -- `analysis::site` meets its contract.
-use mathlib.Core.Path.{_≡_, sym, subst, _∙_}
+use mathlib.Core.Path.{_≡_, sym, subst}
 use Prim.Native.Nat.{ℕ}
 use native.Mathlib.Omega.{arith}
 use Rattle.model.specs.TidySets.{Tidy}
@@ -33,7 +33,7 @@ refused-at c = c .before .before .before .before .before
 single-table : (c : tie.After-single) → tableOf 0 (c .single .last .0) ≡ tableOf 0 (entered c .args .s .now)
 single-table c =
     let g = entered c in
-    below-table siteAt (g .args .s .now) (c .single .last .0) (omega arith) (omega (arith, g .pre .0 .room)) (c .single .kept .0)
+    below-table siteAt (g .args .s .now) (c .single .last .0) (omega arith) (omega (arith, g .pre .words .room)) (c .single .kept .0)
     (within-below siteAt siteAt (g .args .s .now) (c .single .last .0) (omega arith) (c .single .ensures .1))
 
 -- the walk, by the table that there was at first
@@ -57,10 +57,10 @@ walk-out-requires c κs =
     let w = v .before .before .variable in (
       record {
         behind = omega arith;
-        room = omega (arith, g .pre .0 .room, v .single .kept .0);
+        room = omega (arith, g .pre .words .room, v .single .kept .0);
         tidy = region-tidy (g .args .x) (g .args .ty) (nodeOf (w .result)) (v .single .last .0) (w .ensures) (v .single .ensures .0);
       },
-      (g .pre .2 .0, subst (λ k. Enclosed k (g .pre .2 .0) (g .args .i)) (sym (single-table v)) (g .pre .2 .1)),
+      (g .pre .statements, subst (λ k. Enclosed k (g .pre .statements) (g .args .i)) (sym (single-table v)) (g .pre .enclosed)),
     )
 
 enum-known-a : tie.Need-enum-known-a
@@ -77,8 +77,8 @@ join-next-requires c κs =
     let w = made u .before .before .variable in
     let same =
     union-stays (tableOf 0 (g .args .s .now)) (g .args .i) (g .args .x) (g .args .ty) (nodeOf (w .result)) (g .args .s .now) (v .last .0) (u .walk-out .last .0) (u .walk-out .result)
-    (g .pre .0 .room) (w .ensures) (v .ensures .0) (v .kept .0) (v .ensures .1) (u .walk-out .kept .0) (u .walk-out .ensures .1) (site-walks u) in
-    (omega (arith, g .pre .0 .room, v .kept .0, u .walk-out .kept .0), subst Tidy (sym same) (g .pre .0 .tidy))
+    (g .pre .words .room) (w .ensures) (v .ensures .0) (v .kept .0) (v .ensures .1) (u .walk-out .kept .0) (u .walk-out .ensures .1) (site-walks u) in
+    (omega (arith, g .pre .words .room, v .kept .0, u .walk-out .kept .0), subst Tidy (sym same) (g .pre .words .tidy))
 
 same-length : tie.Need-same-length
 same-length c = search needs
@@ -92,12 +92,12 @@ returns c =
     record {
       does =
           sited-refused (tableOf 0 (g .args .s .now)) (g .args .i) (g .args .x) (g .args .ty) (nodeOf (w .result)) (g .args .s .now) (v .last .0) (u .walk-out .last .0) (u .walk-out .result)
-          (g .pre .0 .room) (w .ensures) (v .ensures .0) (v .kept .0) (v .ensures .1) (u .walk-out .kept .0) (u .walk-out .ensures .1) (site-walks u)
+          (g .pre .words .room) (w .ensures) (v .ensures .0) (v .kept .0) (v .ensures .1) (u .walk-out .kept .0) (u .walk-out .ensures .1) (site-walks u)
           _ (c .before .a .given .1) (setOf (u .walk-out .last .0) unionAt);
       tidy = λ e. absurd (refused-done _ e);
       below =
           site-below (tableOf 0 (g .args .s .now)) (g .args .i) (g .args .x) (g .args .ty) (nodeOf (w .result)) (g .args .s .now) (v .last .0) (u .walk-out .last .0) (u .walk-out .result)
-          (g .pre .0 .room) (w .ensures) (v .ensures .0) (v .kept .0) (v .ensures .1) (u .walk-out .kept .0) (u .walk-out .ensures .1) (site-walks u);
+          (g .pre .words .room) (w .ensures) (v .ensures .0) (v .kept .0) (v .ensures .1) (u .walk-out .kept .0) (u .walk-out .ensures .1) (site-walks u);
     }
 
 same-length-2 : tie.Need-same-length-2
@@ -114,13 +114,13 @@ returns-2 c =
     record {
       does =
           sited-done (tableOf 0 (g .args .s .now)) (g .args .i) (g .args .x) (g .args .ty) (nodeOf (w .result)) (g .args .s .now) (v .last .0) (u .walk-out .last .0) (u .walk-out .result)
-          (g .pre .0 .room) (w .ensures) (v .ensures .0) (v .kept .0) (v .ensures .1) (u .walk-out .kept .0) (u .walk-out .ensures .1) (site-walks u)
-          (d .enum-told .given .1) (j .result) (setOf (j .last .0) unionAt) (j .ensures .0);
-      tidy = j .ensures .1;
+          (g .pre .words .room) (w .ensures) (v .ensures .0) (v .kept .0) (v .ensures .1) (u .walk-out .kept .0) (u .walk-out .ensures .1) (site-walks u)
+          (d .enum-told .given .1) (j .result) (setOf (j .last .0) unionAt) (j .ensures .does);
+      tidy = j .ensures .tidy;
       below =
           below-trans unionAt (g .args .s .now) (u .walk-out .last .0) (j .last .0)
           (site-below (tableOf 0 (g .args .s .now)) (g .args .i) (g .args .x) (g .args .ty) (nodeOf (w .result)) (g .args .s .now) (v .last .0) (u .walk-out .last .0) (u .walk-out .result)
-          (g .pre .0 .room) (w .ensures) (v .ensures .0) (v .kept .0) (v .ensures .1) (u .walk-out .kept .0) (u .walk-out .ensures .1) (site-walks u)) (j .ensures .2);
+          (g .pre .words .room) (w .ensures) (v .ensures .0) (v .kept .0) (v .ensures .1) (u .walk-out .kept .0) (u .walk-out .ensures .1) (site-walks u)) (j .ensures .below);
     }
 
 pub site-spec : {M : Type 1} → statement M
