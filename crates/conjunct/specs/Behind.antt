@@ -2,7 +2,7 @@
 use mathlib.Core.Bool.{true, cond}
 use mathlib.Core.List.{List, [], _∷_, _++_, map, flatMap}
 use mathlib.Core.Path.{_≡_}
-use Prim.Native.Nat.{ℕ, _+_, _≤_, _<_}
+use Prim.Native.Nat.{ℕ, _+_, _≤_, _<_, _^_}
 use lib.ListN.{length, take}
 use Rattle.model.specs.Conjunct.{Atom, Node, const, atom, var, op, conv, Conj, rank, renamed, onAtom, renumber, has, AtAtom}
 use Rattle.model.specs.Lists.{All, every}
@@ -73,6 +73,19 @@ rightOf r = nodesOf (rightWords r)
 -- a word, or the right side in the place of the variable x
 unfoldable pub pieceOf : ℕ → List ℕ → ℕ → List ℕ
 pieceOf x r w = cond (isVar x (nodeOf w)) r (w ∷ [])
+
+-- a node, or u in the place of the variable x
+abbrev pub variableBy : ℕ → Node → Node → Node
+variableBy x u v = cond (isVar x v) u v
+
+-- what an exchange of the variable x for the one node of r is given: a conjunct that is numbered, fresh atoms, and words to work in
+pub record Exchangeable (ws : List ℕ) (x : ℕ) (r : Right) (seen : List ℕ) : Type 0 where
+  pub few : length ws ≤ mostNodes
+  pub space : mostNodes ≤ length seen
+  pub variable : x < 2 ^ 32
+  pub one : r .len ≡ 1
+  pub numbered : Numbered (nodesOf ws)
+  pub fresh : All (AtAtom (λ a. a .n ≡ 0)) (rightOf r)
 
 -- what a substitution of r in the first n words of e is given: a conjunct that is numbered, fresh atoms, and words to work in
 pub record Substitutable (e : List ℕ) (n : ℕ) (r : Right) (out seen : List ℕ) : Type 0 where

@@ -3,13 +3,13 @@
 ghost use mathlib.Core.Path.{_≡_};
 ghost use mathlib.Core.Bool.{true};
 ghost use mathlib.Core.List.{List};
-ghost use Prim.Native.Nat.{ℕ, _+_, _<_, _^_};
+ghost use Prim.Native.Nat.{ℕ, _+_, _<_, _^_, _-_, _*_, _/_, _%_};
 ghost use Rattle.model.specs.Values.{Operation, operationKind};
 ghost use Rattle.model.specs.Conjunct.{field, cell, const, atom, var, op, conv, bytes};
 ghost use Rattle.model.specs.Walk.{zeroed};
 ghost use Rattle.model.specs.Formed.{FileNode};
 ghost use Rattle.model.specs.Touch.{isVar, isLoad};
-ghost use Rattle.conjunct.specs.Word.{isAtom, sourceOf, keyOf, nodeOf, low4, fileBytes, LoadFits, OperationFits};
+ghost use Rattle.conjunct.specs.Word.{isAtom, sourceOf, keyOf, nodeOf, low4, fileBytes, LoadFits, OperationFits, place3, place4};
 
 // the first word of each kind after the constants; the sums begin the operations
 const READING: u64 = 0x01_00_0000_0000_0000;
@@ -112,6 +112,20 @@ pub fn is_variable(w: u64, x: u64) -> bool
         return false;
     }
     turned(w) == x
+}
+
+// a word without the three bytes below its kind, which a variable's type is
+fn untyped(w: u64) -> u64
+    ensures { λ r. ⌜ r ≡ w - w / place4 % place3 * place4 ⌝ }
+{
+    w - w / 0x01_0000_0000 % 0x0100_0000 * 0x01_0000_0000
+}
+
+// is w the variable that v is, of whatever type?
+pub fn same_variable(w: u64, v: u64) -> bool
+    ensures { λ r. ⌜ ((x ty : ℕ) → nodeOf v ≡ var x ty → r ≡ isVar x (nodeOf w)) ⌝ }
+{
+    untyped(w) == untyped(v)
 }
 
 pub fn is_load(w: u64, array: u64, len: u64) -> bool

@@ -1,17 +1,17 @@
 // The numbering of a conjunct's atoms, the substitution for a variable, and the loads of an array.
 ghost use mathlib.Core.Path.{_≡_};
 ghost use mathlib.Core.Bool.{true, cond};
-ghost use mathlib.Core.List.{map, _++_};
-ghost use Prim.Native.Nat.{_+_, _<_, _≤_};
+ghost use mathlib.Core.List.{map, flatMap, _++_};
+ghost use Prim.Native.Nat.{ℕ, _+_, _<_, _≤_};
 ghost use lib.Dec.{eqb};
 ghost use lib.ListN.{length, take};
-ghost use Rattle.model.specs.Conjunct.{atom, renumber, atoms};
-ghost use Rattle.model.specs.Walk.{loads};
+ghost use Rattle.model.specs.Conjunct.{atom, var, renumber, atoms};
+ghost use Rattle.model.specs.Walk.{replace, loads};
 ghost use Rattle.model.specs.Sizes.{mostNodes};
 ghost use Rattle.model.specs.Touch.{some};
-ghost use Rattle.conjunct.specs.Word.{isAtom, keyOf};
+ghost use Rattle.conjunct.specs.Word.{isAtom, keyOf, nodeOf, nodesOf};
 ghost use Rattle.conjunct.specs.Value.{conjOf, ConjunctIn};
-ghost use Rattle.conjunct.specs.Behind.{SeenAtoms, RoomBehind, Ranked, Behind, LoadBehind, rightWords, Substitutable, Replaced};
+ghost use Rattle.conjunct.specs.Behind.{SeenAtoms, RoomBehind, Ranked, Behind, LoadBehind, rightWords, Substitutable, Replaced, rightOf, variableBy, Exchangeable};
 use super::MOST_NODES;
 use super::node;
 
@@ -168,6 +168,32 @@ pub fn substitute(
     }
     renumber(out, m, seen);
     Substituted::Nodes(m)
+}
+
+// a word, or u where it is the variable that v is
+fn variable_swapped(w: u64, v: u64, u: u64) -> u64
+    ensures { λ r. ⌜ ((x ty : ℕ) → nodeOf v ≡ var x ty → nodeOf r ≡ variableBy x (nodeOf u) (nodeOf w)) ⌝ }
+{
+    if node::same_variable(w, v) { u } else { w }
+}
+
+// the one node of r for the variable x in the words, numbered anew; `seen` is room to work in. Without an
+// atom in r the numbers stay.
+pub fn replace_variable(words: &mut [u64], x: u64, r: Right, seen: &mut [u64])
+    requires { ⌜ Exchangeable (now words) x r (now seen) ⌝ }
+    ensures { λ _. ⌜ nodesOf (now (words .exit)) ≡ renumber (flatMap (replace x (rightOf r)) (nodesOf (now (words .entry)))) ⌝ }
+{
+    let v = node::variable(x, 0);
+    let u = r.nodes[0];
+    let n = words.len();
+    let mut i: usize = 0;
+    while i < n {
+        words[i] = variable_swapped(words[i], v, u);
+        i += 1;
+    }
+    if has_atom(r) {
+        renumber(words, n, seen);
+    }
 }
 
 fn note_load(seen: &mut [u64], m: usize, w: u64, array: u64, len: u64) -> usize

@@ -1,13 +1,14 @@
 -- The two answers of a substitution, from the words that it has put together.
-use mathlib.Core.Bool.{true, false}
-use mathlib.Core.List.{List, [], _∷_, _++_, flatMap}
-use mathlib.Core.Path.{_≡_, sym, ap, _∙_}
+use mathlib.Core.Bool.{true, false, cond}
+use mathlib.Core.List.{List, [], _∷_, _++_, map, flatMap}
+use mathlib.Core.Path.{_≡_, refl, sym, ap, _∙_}
 use Prim.Native.Nat.{ℕ, _+_, _<_, _≤_}
 use native.Mathlib.Numerals.{add-one}
 use native.Mathlib.Omega.{arith}
 use lib.ListN.{length, take, getD, set, length-append}
 use lib.Seq.{length-take-le, take-suc-set}
-use Rattle.model.specs.Conjunct.{renumber, AtAtom}
+use Rattle.model.specs.Conjunct.{Conj, renumber, AtAtom}
+use Rattle.model.proofs.basics.Tests.{case}
 use Rattle.model.specs.Lists.{All}
 use Rattle.model.specs.Walk.{replace}
 use Rattle.model.specs.Sizes.{mostNodes}
@@ -17,7 +18,7 @@ use Rattle.conjunct.specs.Word.{isAtom, nodeOf, nodesOf}
 use Rattle.conjunct.specs.Value.{conjOf}
 use Rattle.conjunct.proofs.numbering.Fresh.{flat-snoc, flat-part, fresh-length, fresh-renumber}
 use Rattle.conjunct.proofs.numbering.Plain.{none-taken, still-numbered}
-use Rattle.conjunct.specs.Behind.{rightWords, rightOf, pieceOf}
+use Rattle.conjunct.specs.Behind.{rightWords, rightOf, pieceOf, variableBy}
 use Rattle.conjunct.specs.declared.numbering.Right.{Right}
 
 -- ---- one word more
@@ -55,14 +56,34 @@ module _ (l : List ℕ) (n x : ℕ) (r : Right) (inside : n ≤ length l) (numbe
       omega (arith, fresh-length x (rightWords r) fresh (take n l) numbered)
 
   -- all words put together, and renumbered
-  pub replaced-done : (m : ℕ) (out after : List ℕ) → take m out ≡ flatMap (pieceOf x (rightWords r)) (take n l)
-      → conjOf after m ≡ renumber (conjOf out m)
-      → conjOf after m ≡ renumber (flatMap (replace x (rightOf r)) (conjOf l n))
-  replaced-done m out after t c = c ∙ ap (λ ws. renumber (nodesOf ws)) t ∙ fresh-renumber x (rightWords r) fresh (take n l) numbered
+  pub replaced-done : (put after : Conj) → put ≡ nodesOf (flatMap (pieceOf x (rightWords r)) (take n l)) → after ≡ renumber put
+      → after ≡ renumber (flatMap (replace x (rightOf r)) (conjOf l n))
+  replaced-done put after t c = c ∙ ap renumber t ∙ fresh-renumber x (rightWords r) fresh (take n l) numbered
 
   -- all words put together, where the right side has no atom
-  pub replaced-plain : (m : ℕ) (out : List ℕ) → take m out ≡ flatMap (pieceOf x (rightWords r)) (take n l) → some isAtom (r .nodes) ≡ false
-      → conjOf out m ≡ renumber (flatMap (replace x (rightOf r)) (conjOf l n))
-  replaced-plain m out t none =
+  pub replaced-plain : (put : Conj) → put ≡ nodesOf (flatMap (pieceOf x (rightWords r)) (take n l)) → some isAtom (r .nodes) ≡ false
+      → put ≡ renumber (flatMap (replace x (rightOf r)) (conjOf l n))
+  replaced-plain put t none =
       let kept = still-numbered x (rightWords r) (none-taken (r .len) (r .nodes) none) (take n l) numbered in
-      ap nodesOf t ∙ sym kept ∙ fresh-renumber x (rightWords r) fresh (take n l) numbered
+      t ∙ sym kept ∙ fresh-renumber x (rightWords r) fresh (take n l) numbered
+
+-- ---- a right side of one node
+
+first-word : (l : List ℕ) → length l ≡ 3 → take 1 l ≡ (getD l 0 0 ∷ [])
+first-word [] h = absurd (omega arith)
+first-word (w ∷ l) h = refl
+
+one-by-one : (x u : ℕ) (ws : List ℕ) → map (variableBy x (nodeOf u)) (nodesOf ws) ≡ nodesOf (flatMap (pieceOf x (u ∷ [])) ws)
+unfolding flatMap pieceOf
+one-by-one x u [] = refl
+one-by-one x u (w ∷ ws) =
+    case (isVar x (nodeOf w)) (λ z. (cond z (nodeOf u) (nodeOf w) ∷ map (variableBy x (nodeOf u)) (nodesOf ws))
+    ≡ nodesOf (cond z (u ∷ []) (w ∷ []) ++ flatMap (pieceOf x (u ∷ [])) ws))
+    (λ p. ap (nodeOf u ∷_) (one-by-one x u ws)) (λ p. ap (nodeOf w ∷_) (one-by-one x u ws))
+
+-- put in the places of the variable node by node
+pub exchanged : (x : ℕ) (r : Right) → r .len ≡ 1 → length (r .nodes) ≡ 3 → (ws : List ℕ)
+    → map (variableBy x (nodeOf (getD (r .nodes) 0 0))) (nodesOf ws) ≡ nodesOf (flatMap (pieceOf x (rightWords r)) ws)
+exchanged x r one three ws =
+    let u = getD (r .nodes) 0 0 in
+    one-by-one x u ws ∙ ap (λ l. nodesOf (flatMap (pieceOf x l) ws)) (sym (ap (λ k. take k (r .nodes)) one ∙ first-word (r .nodes) three))

@@ -11,6 +11,8 @@ use borrow.Author.Tests.{not-true}
 use Rattle.model.specs.Sizes.{mostNodes}
 use Rattle.conjunct.proofs.numbering.Replacing.{piece-there, piece-other, more-there, more-other, replaced-over, replaced-done, replaced-plain}
 use Rattle.conjunct.specs.Behind.{rightWords, pieceOf}
+use Rattle.conjunct.specs.Value.{conjOf}
+use Rattle.conjunct.specs.Word.{nodesOf}
 use Rattle.conjunct.proofs.numbering.substitute.Statement.{statement}
 use Rattle.conjunct.proofs.numbering.substitute.Tie as tie
 
@@ -157,7 +159,7 @@ returns-3 c =
     let plain = sym (c .before .has-atom .ensures) ∙ none in
     let e : lp .i ≡ a .n = omega arith in (
       lp .inv .2,
-      replaced-plain (a .e .now) (a .n) (a .x) (a .r) (p .there) (p .numbered) (p .fresh) (lp .m) (lp .out) (rw e at (lp .inv .5)) plain,
+      replaced-plain (a .e .now) (a .n) (a .x) (a .r) (p .there) (p .numbered) (p .fresh) (conjOf (lp .out) (lp .m)) (ap nodesOf (rw e at (lp .inv .5))) plain,
     )
 
 renumber-requires : tie.Need-renumber-requires Inv-loop μ-loop
@@ -181,7 +183,8 @@ returns-4 c =
     let q = after-renumber .renumber in
     let e : lp .i ≡ a .n = omega arith in (
       lp .inv .2,
-      replaced-done (a .e .now) (a .n) (a .x) (a .r) (p .there) (p .numbered) (p .fresh) (lp .m) (lp .out) (q .last .0) (rw e at (lp .inv .5)) (q .ensures),
+      replaced-done (a .e .now) (a .n) (a .x) (a .r) (p .there) (p .numbered) (p .fresh) (conjOf (lp .out) (lp .m)) (conjOf (q .last .0) (lp .m)) (ap nodesOf (rw e at (lp .inv .5)))
+          (q .ensures),
     )
 
 pub substitute-spec : {M : Type 1} → statement M
