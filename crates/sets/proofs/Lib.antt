@@ -6,3 +6,4 @@ pub mod Placed
 pub mod Inserting
 pub mod Copied
 pub mod Differing
+pub mod Arranging

@@ -1,10 +1,11 @@
 -- Where a conjunct goes in a canonical set: behind what is less, before what is more. One comparison settles all on one side of a place.
 use mathlib.Core.List.{[], _∷_, _++_}
 use mathlib.Core.Path.{_≡_, refl, sym, ap, subst, _∙_}
-use Prim.Native.Nat.{ℕ, _+_, _<_, Ordering·lt, Ordering·eq, Ordering·gt}
+use Prim.Native.Nat.{ℕ, _+_, _<_, _≤_, Ordering·lt, Ordering·eq, Ordering·gt}
 use native.Mathlib.Numerals.{add-one}
+use native.Mathlib.Omega.{arith}
 use lib.ListN.{length, getD, take, drop, take-append-drop}
-use lib.Seq.{drop-cons, take-suc, drop-length}
+use lib.Seq.{drop-cons, take-suc, take-all, drop-length}
 use Rattle.model.specs.Conjunct.{Conj, Conjuncts, order, place, withConjunct}
 use Rattle.model.specs.Lists.{All}
 use Rattle.model.specs.TidySets.{Less, Canon}
@@ -78,3 +79,30 @@ module _ (e : Conj) (S : Conjuncts) (i : ℕ) (c : Canon S) (h : i < length S) w
       let l : Less d e = order-flip e d ∙ ap flip o in
       let before = all-imp (λ x k. less-trans x d e k l) (take i S) (beside .0) in
       record { less = subst (All (λ x. Less x e)) (sym up-to-here) (all-append (λ x. Less x e) (take i S) (d ∷ []) before (l, tt)); more = b .more }
+
+-- ---- conjuncts of which each stands before the next
+
+canon-behind : (S : Conjuncts) (e : Conj) → Canon S → All (λ d. Less d e) S → Canon (S ++ (e ∷ []))
+canon-behind [] e c h = (tt, tt)
+canon-behind (d ∷ S) e c h = (all-append (Less d) S (e ∷ []) (c .0) (h .0, tt), canon-behind S e (c .1) (h .1))
+
+-- the first one
+pub rising-one : (S : Conjuncts) → Canon (take 1 S)
+rising-one [] = tt
+rising-one (e ∷ S) = (tt, tt)
+
+-- one more, before which the last one stands
+pub rising-next : (S : Conjuncts) (i : ℕ) → i + 1 < length S → Less (getD S i []) (getD S (i + 1) []) → Canon (take (i + 1) S) → Canon (take (i + 1 + 1) S)
+rising-next S i h l c =
+    let d = getD S i [] in
+    let e = getD S (i + 1) [] in
+    let last : take (i + 1) S ≡ take i S ++ (d ∷ []) = rw (add-one i) (take-suc S i [] (omega arith)) in
+    let next : take (i + 1 + 1) S ≡ take (i + 1) S ++ (e ∷ []) = rw (add-one (i + 1)) (take-suc S (i + 1) [] h) in
+    let before = sides (take i S) d [] (subst Canon last c) .0 in
+    let all : All (λ x. Less x e) (take (i + 1) S) =
+    subst (All (λ x. Less x e)) (sym last) (all-append (λ x. Less x e) (take i S) (d ∷ []) (all-imp (λ x g. less-trans x d e g l) (take i S) before) (l, tt)) in
+    subst Canon (sym next) (canon-behind (take (i + 1) S) e c all)
+
+-- all of them
+pub rising-all : (S : Conjuncts) (i : ℕ) → length S ≤ i + 1 → Canon (take (i + 1) S) → Canon S
+rising-all S i h c = subst Canon (take-all (i + 1) S h) c

@@ -1,12 +1,14 @@
 // Sets of conjuncts in regions of one lent slice. specs/Region.antt says what a region holds. Every
 // operation leaves what lies outside of the region that it names.
 ghost use mathlib.Core.Path.{_≡_};
+ghost use mathlib.Core.Bool.{true};
 ghost use mathlib.Core.List.{[], _∷_, _++_};
 ghost use Prim.Native.Nat.{_+_, _*_, _<_, _≤_};
 ghost use lib.Dec.{isEq};
 ghost use lib.ListN.{length, getD, take, drop};
-ghost use Rattle.model.specs.Conjunct.{order, orderNodes, same};
+ghost use Rattle.model.specs.Conjunct.{order, orderNodes, unionOf, same};
 ghost use Rattle.model.specs.Sizes.{mostConjuncts, mostNodes};
+ghost use Rattle.model.specs.TidySets.{Canon};
 ghost use Rattle.bytes_le.specs.Overlay.{overlay};
 ghost use Rattle.conjunct.specs.Word.{nodesOf};
 ghost use Rattle.conjunct.specs.Value.{conjOf, orderingOf, ConjunctIn};
@@ -59,7 +61,7 @@ fn read_slot(s: &[u64], a: usize, out: &mut [u64]) -> usize
 }
 
 // n words to the slot at a
-fn write_slot(s: &mut [u64], a: usize, w: &[u64], n: usize)
+pub fn write_slot(s: &mut [u64], a: usize, w: &[u64], n: usize)
     requires { ⌜ (a + slotWords ≤ length (now s)) × ConjunctIn (now w) n ⌝ }
     ensures { λ _. ⌜ now (s .exit) ≡ overlay (now (s .entry)) a (n ∷ take n (now (w .entry))) ⌝ }
 {
@@ -259,13 +261,21 @@ pub fn union(s: &mut [u64], to: usize, from: usize) -> bool
     join(s, to, from, &mut words)
 }
 
+// the conjunct of the slot at a against that of the slot at b
+fn order_slots(s: &[u64], a: usize, b: usize) -> Order
+    requires { ⌜ (a + slotWords ≤ length (now s)) × (b + slotWords ≤ length (now s)) ⌝ }
+    ensures { λ r. ⌜ orderingOf r ≡ order (nodesOf (slotAt (now (s .entry)) a)) (nodesOf (slotAt (now (s .entry)) b)) ⌝ }
+{
+    let n = conjunct::capped(s[a] as usize);
+    compare_slot(&s[a + 1..], n, s, b)
+}
+
 // are the conjuncts of two slots the same?
 fn same_slot(s: &[u64], a: usize, b: usize) -> bool
     requires { ⌜ (a + slotWords ≤ length (now s)) × (b + slotWords ≤ length (now s)) ⌝ }
     ensures { λ r. ⌜ r ≡ isEq (orderNodes (nodesOf (slotAt (now (s .entry)) a)) (nodesOf (slotAt (now (s .entry)) b))) ⌝ }
 {
-    let n = conjunct::capped(s[a] as usize);
-    let o = compare_slot(&s[a + 1..], n, s, b);
+    let o = order_slots(s, a, b);
     match o {
         Order::Less => false,
         Order::Same => true,
@@ -291,6 +301,43 @@ pub fn equal(s: &[u64], a: usize, b: usize) -> bool
         i += 1;
     }
     true
+}
+
+// ---- conjuncts out of their order
+
+// does each conjunct of the region stand before the next one?
+fn rises(s: &[u64], base: usize) -> bool
+    requires { ⌜ base + regionWords ≤ length (now s) ⌝ }
+    ensures { λ r. ⌜ (r ≡ true → Canon (setOf (now (s .entry)) base)) ⌝ }
+{
+    let n = at_most(s[base]);
+    let mut i: usize = 0;
+    while i + 1 < n {
+        let a = base + 1 + SLOT * i;
+        let o = order_slots(s, a, a + SLOT);
+        match o {
+            Order::Less => i += 1,
+            Order::Same => return false,
+            Order::More => return false,
+        }
+    }
+    true
+}
+
+// the conjuncts of the region at b, whatever their order, as a set; the region after it is room to work in
+pub fn arrange(s: &mut [u64], b: usize)
+    requires { ⌜ b + 2 * regionWords ≤ length (now s) ⌝ }
+    ensures { λ _. ⌜
+        (setOf (now (s .exit)) b ≡ unionOf (setOf (now (s .entry)) b) []) × Outside b (2 * regionWords) (now (s .entry)) (now (s .exit))
+        ⌝ }
+{
+    if rises(s, b) {
+        return;
+    }
+    let room = b + REGION;
+    clear(s, room);
+    union(s, room, b);
+    copy(s, b, room);
 }
 
 // ---- the difference of two sets

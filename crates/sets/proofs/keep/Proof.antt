@@ -1,8 +1,7 @@
 -- `sets::keep` meets its contract.
-use mathlib.Core.List.{[], _∷_, _++_}
+use mathlib.Core.List.{_++_}
 use mathlib.Core.Path.{refl, sym, ap, _∙_}
 use borrow.Author.Needs.{needs}
-use borrow.Author.Tests.{not-false}
 use Rattle.conjunct.specs.Value.{conjOf}
 use Rattle.sets.proofs.Differing.{append-none, minus-here, minus-new}
 use Rattle.sets.specs.Region.{setOf}
