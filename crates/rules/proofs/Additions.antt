@@ -1,47 +1,26 @@
 -- What an insertion, a refusal or the next of several insertions has added to the set of a region.
 use mathlib.Core.Bool.{Bool, true, false}
 use mathlib.Core.List.{List, [], _∷_, map}
-use mathlib.Core.Logic.{_≢_, inl, ⊎-elim}
-use mathlib.Core.Path.{_≡_, refl, sym, ap, ap₂, subst, _∙_}
-use Prim.Native.Nat.{ℕ, suc, _+_, _^_, _≤_, _<_}
+use mathlib.Core.Path.{_≡_, sym, ap, ap₂, subst, _∙_}
+use Prim.Native.Nat.{ℕ, suc, _+_, _^_, _≤_}
 use native.Mathlib.Omega.{arith}
-use lib.Dec.{eqb}
 use lib.ListN.{length, getD, take, drop, take-append-drop, length-map, List·getD-map}
 use lib.Seq.{drop-cons, drop-length}
-use borrow.Author.Tests.{eqb-true, eqb-false}
 use Rattle.model.specs.Conjunct.{Atom, Conj, Conjuncts, withConjunct, unionOf, atoms, renumber}
 use Rattle.model.specs.Walk.{loads, subsets}
-use Rattle.model.specs.Sizes.{mostConjuncts, mostNodes}
-use Rattle.model.specs.Refusals.{tooManyConjuncts, tooManyNodes}
-use Rattle.model.proofs.conjuncts.Canonical.{insert-canon, insert-length, union-append, union-canon, union-grows, union-left, sub-length}
-use Rattle.model.proofs.basics.Tests.{decide, true→T}
+use Rattle.model.specs.Refusals.{tooManyConjuncts}
+use Rattle.model.proofs.conjuncts.Canonical.{insert-canon, union-append, union-canon, union-grows, union-left, sub-length}
+use Rattle.model.proofs.basics.Tests.{true→T}
 use Rattle.model.specs.TidySets.{Canon}
 use Rattle.sets.specs.Region.{setOf, Inserted}
 use Rattle.rules.proofs.Distinct.{subsets-length, subsets-many, seven-many}
-use Rattle.rules.proofs.Limiting.{limits-nine, limits-ten}
+use Rattle.rules.proofs.Limiting.{limits-ten}
 use Rattle.rules.specs.Adding.{NoneLong, Added}
-use Rattle.rules.specs.declared.Answer.{Answer}
 use Rattle.rules.specs.declared.Answer.the-variants.{Done, Refused}
-
--- what is added for a store, with its premise as the other kinds have it
-pub added-store : (a : Answer) (K : Type 0) (R : Conjuncts) (b : ℕ) (s t : List ℕ) → K → Added a NoneLong R b s t
-    → Added a (λ G. K → NoneLong G) R b s t
-added-store Done K R b s t k h = h
-added-store (Refused n) K R b s t k h = λ G c f p. h G c f (p k)
 
 -- ---- one conjunct
 
 module _ (x : Conj) (b : ℕ) (s t : List ℕ) where
-  -- it has over 120 nodes
-  pub added-nine : (P : Conjuncts → Type 0) → mostNodes < length x → Added (Refused tooManyNodes) P (x ∷ []) b s t
-  added-nine P h G c f p = limits-nine G x (f x (union-left x (x ∷ []) (setOf s b) (inl refl))) h
-
-  -- it was inserted, for the set had fewer than 64
-  pub added-one : (r : Bool) (P : Conjuncts → Type 0) → length (setOf s b) < mostConjuncts → Inserted r b x s t → Added Done P (x ∷ []) b s t
-  unfolding unionOf
-  added-one true P h i = i
-  added-one false P h i = absurd (omega (arith, i .1, insert-length x (setOf s b)))
-
   pub added-in : (r : Bool) → r ≡ true → Inserted r b x s t → Added Done NoneLong (x ∷ []) b s t
   unfolding unionOf
   added-in true q i = i
@@ -53,16 +32,6 @@ module _ (x : Conj) (b : ℕ) (s t : List ℕ) where
   added-out true q d i = absurd (true→T (sym q))
   added-out false q d i =
       λ G c f p. limits-ten G p (omega (arith, i .1, sub-length (unionOf (x ∷ []) (setOf s b)) G (union-canon (x ∷ []) (setOf s b) d) c f))
-
-  -- there was no room for it, which happens for a store alone
-  pub added-full : (r : Bool) → r ≡ false → (k : ℕ) → (k ≢ 9 → length (setOf s b) < mostConjuncts) → Canon (setOf s b) → Inserted r b x s t
-      → Added (Refused tooManyConjuncts) (λ G. k ≡ 9 → NoneLong G) (x ∷ []) b s t
-  added-full true q k few d i = absurd (true→T (sym q))
-  added-full false q k few d i =
-      ⊎-elim
-      (λ p. added-store (Refused tooManyConjuncts) (k ≡ 9) (x ∷ []) b s t (eqb-true k 9 p) (added-out false q d i))
-      (λ p. absurd (omega (arith, i .1, few (eqb-false k 9 p), insert-length x (setOf s b))))
-      (decide (eqb k 9))
 
   -- a set that was canonical still is
   pub still-canon : (r : Bool) → r ≡ true → Canon (setOf s b) → Inserted r b x s t → Canon (setOf t b)

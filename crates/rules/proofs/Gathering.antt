@@ -5,16 +5,14 @@ use mathlib.Core.Path.{_≡_, refl, sym, ap, ap₂, subst, _∙_}
 use Prim.Native.Nat.{ℕ, zero, suc, _+_, _≤_, _<_}
 use native.Mathlib.Numerals.{add-one}
 use native.Mathlib.Omega.{arith}
-use lib.ListN.{length, getD, take, length-map}
-use lib.Seq.{take-suc, take-length, length-take-le}
+use lib.ListN.{length, getD, take}
+use lib.Seq.{take-suc, take-length}
 use Rattle.model.specs.Conjunct.{Conj, Conjuncts, unionOf, limits, renumber}
 use Rattle.model.specs.Lists.{All}
 use Rattle.model.specs.Code.{Instr}
 use Rattle.model.specs.Refusals.{ok, refused}
 use Rattle.model.specs.Kinds.{aStore}
 use Rattle.model.specs.Walk.{before, gather, back}
-use Rattle.model.specs.Sizes.{mostConjuncts}
-use Rattle.model.proofs.conjuncts.Canonical.{union-length}
 use Rattle.model.proofs.conjuncts.Gather.{gather-canon, gather-mono, gather-last}
 use Rattle.model.proofs.basics.Lists.{all-getD}
 use Rattle.model.specs.TidySets.{Sub, Canon, Mem, Numbered}
@@ -44,16 +42,6 @@ module _ (f : Conj → List Conj) where
   pub gather-none : (S : Conjuncts) → [] ≡ gather f (take 0 S)
   unfolding gather
   gather-none S = refl
-
-  -- no more than the set has, if each conjunct comes to one
-  module _ (one : (e : Conj) → length (f e) ≡ 1) where
-    gather-few : (S : Conjuncts) → length (gather f S) ≤ length S
-    unfolding gather
-    gather-few [] = omega arith
-    gather-few (e ∷ S) = omega (arith, union-length (map renumber (f e)) (gather f S), length-map (f e) renumber, one e, gather-few S)
-
-    pub gathered-few : (S T : Conjuncts) (k : ℕ) → k < length S → length S ≤ mostConjuncts → T ≡ gather f (take k S) → length T < mostConjuncts
-    gathered-few S T k h m e = omega (arith, ap length e, gather-few (take k S), length-take-le k S (omega arith))
 
   pub gathered-canon : (S T : Conjuncts) (k : ℕ) → T ≡ gather f (take k S) → Canon T
   gathered-canon S T k e = subst Canon (sym e) (gather-canon f (take k S))

@@ -1,7 +1,8 @@
 pub mod Distinct
 pub mod Limiting
+pub mod Stored
 pub mod Choices
 pub mod ByKind
 pub mod Additions
-pub mod Assigning
+pub mod Imaging
 pub mod Gathering

@@ -1,6 +1,7 @@
 -- What the functions for one conjunct are given and promise: the right side of an assignment, and what is added to the set of a region.
 use mathlib.Core.Bool.{false}
 use mathlib.Core.List.{List, []}
+use mathlib.Core.Logic.{_≢_}
 use mathlib.Core.Path.{_≡_}
 use Prim.Native.Nat.{ℕ, _+_, _≤_, _<_, _^_}
 use lib.ListN.{length}
@@ -9,11 +10,11 @@ use Rattle.model.specs.Conjunct.{Conjuncts, unionOf, long, limits}
 use Rattle.model.specs.Lists.{All}
 use Rattle.model.specs.Refusals.{refused}
 use Rattle.model.specs.Kinds.{Kind, aNumber, aCopy, anOperation, aConversion, aRead, aLoad, aStore, aSite, anIf, anElse, anEnd, aWhile, noKind, kindOf}
-use Rattle.model.specs.Sizes.{mostConjuncts, mostNodes}
+use Rattle.model.specs.Sizes.{mostNodes}
 use Rattle.model.specs.TidySets.{Canon, Sub, Numbered}
 use Rattle.code_table.specs.declared.Decoded.{Decoded}
-use Rattle.code_table.specs.Statements.{numberOf, OtherThan, Known}
-use Rattle.conjunct.specs.Value.{conjOf}
+use Rattle.code_table.specs.Statements.{numberOf, OfKind, Known}
+use Rattle.conjunct.specs.Value.{conjOf, ConjunctIn}
 use Rattle.sets.specs.Region.{setOf, Room, regionWords}
 use Rattle.rules.specs.declared.Answer.{Answer}
 use Rattle.rules.specs.declared.Answer.the-variants.{Done, Refused}
@@ -52,6 +53,23 @@ Added (Refused n) P R b s t = (G : Conjuncts) → Canon G → Sub (unionOf R (se
 abbrev pub Buffers : List ℕ → List ℕ → Type 0
 Buffers out seen = (mostNodes ≤ length out) × (mostNodes ≤ length seen)
 
+-- three such lists
+pub record Working (e out seen : List ℕ) : Type 0 where
+  pub conjunct : mostNodes ≤ length e
+  pub others : Buffers out seen
+
+-- a conjunct in the first n words that is to be numbered anew, and words to work in
+pub record Renumbered (e : List ℕ) (n : ℕ) (seen : List ℕ) : Type 0 where
+  pub conjunct : ConjunctIn e n
+  pub space : mostNodes ≤ length seen
+
+-- a choice among the subsets of k atoms, for a conjunct in the first n words: the j-th
+pub record Choosing (w : List ℕ) (n : ℕ) (ks : List ℕ) (k j : ℕ) : Type 0 where
+  pub conjunct : n ≤ length w
+  pub few : k ≤ 6
+  pub atoms : k ≤ length ks
+  pub subset : j < 2 ^ k
+
 -- what is given with one conjunct: a region to add to, the conjunct in the first n words of e, and words to work in
 pub record Given (s : List ℕ) (b : ℕ) (e : List ℕ) (n : ℕ) (out seen : List ℕ) : Type 0 where
   pub room : Room s b
@@ -65,18 +83,22 @@ pub record Labelled (l : ℕ) (d : Decoded) (last : Kind) : Type 0 where
   pub kind : d .kind ≤ numberOf last
   pub known : Known d
 
--- what is given with one conjunct and a statement of a kind up to the last: the conjunct is numbered, and where the statement is no
--- store, so that a conjunct comes to one, the set has room for one
-pub record GivenStatement (s : List ℕ) (b : ℕ) (e : List ℕ) (n : ℕ) (out seen : List ℕ) (label : ℕ) (d : Decoded) (last : Kind) : Type 0 where
+-- a store to an array of several cells
+pub record SeveralCells (d : Decoded) : Type 0 where
+  pub store : OfKind aStore d
+  pub several : d .len ≢ 1
+  pub known : Known d
+
+-- what is given with one conjunct, which is numbered, and such a store
+pub record GivenStore (s : List ℕ) (b : ℕ) (e : List ℕ) (n : ℕ) (out seen : List ℕ) (d : Decoded) : Type 0 where
   pub given : Given s b e n out seen
-  pub space : OtherThan aStore d → length (setOf s b) < mostConjuncts
-  pub statement : Labelled label d last
+  pub statement : SeveralCells d
   pub numbered : Numbered (conjOf e n)
 
--- what is given with the set of the region at b: a statement, an empty room after the region, and that each conjunct is numbered
-pub record GivenSet (s : List ℕ) (b room label : ℕ) (d : Decoded) : Type 0 where
+-- what is given with the set of the region at b: such a store, an empty room after the region, and that each conjunct is numbered
+pub record GivenSet (s : List ℕ) (b room : ℕ) (d : Decoded) : Type 0 where
   pub apart : b + regionWords ≤ room
   pub there : room + regionWords ≤ length s
   pub empty : setOf s room ≡ []
-  pub statement : Labelled label d aSite
+  pub statement : SeveralCells d
   pub numbered : All Numbered (setOf s b)

@@ -1,22 +1,20 @@
-// The rule of one statement on a set of conjuncts. A conjunct is the first n of lent words; `out` and
-// `seen` are room for 120 words each to work in.
+// The rule of one statement on a set of conjuncts. Before most statements a conjunct comes to one: that is
+// put in its place, and the set arranged anew. Before a store to an array of several cells it comes to several:
+// these are gathered in another region. `out` and `seen` are room for 120 words each to work in.
 ghost use mathlib.Core.Path.{_≡_};
-ghost use mathlib.Core.List.{List, [], _∷_, map};
+ghost use mathlib.Core.List.{List, [], _∷_, map, flatMap};
 ghost use Prim.Native.Nat.{ℕ, _+_, _*_, _≤_, _<_, _^_};
 ghost use lib.ListN.{length, getD, take};
 ghost use Rattle.model.specs.Conjunct.{Atom, atom, var, atoms, renumber};
-ghost use Rattle.model.specs.Kinds.{aLoad, aStore, aSite};
-ghost use Rattle.model.specs.Lists.{All};
-ghost use Rattle.model.specs.Walk.{nodes, loads, swapAll, subsets, before, back};
-ghost use Rattle.model.specs.Sizes.{mostNodes};
-ghost use Rattle.model.specs.TidySets.{Numbered};
-ghost use Rattle.model.specs.Touch.{writes};
-ghost use Rattle.code_table.specs.Statements.{numberOf, OfKind, instrOf, Known};
+ghost use Rattle.model.specs.Kinds.{aLoad, aSite};
+ghost use Rattle.model.specs.Walk.{nodes, replace, loads, subsets, before, back};
+ghost use Rattle.code_table.specs.Statements.{numberOf, instrOf};
 ghost use Rattle.conjunct.specs.Word.{nodeOf, nodesOf};
 ghost use Rattle.conjunct.specs.Value.{conjOf};
 ghost use Rattle.conjunct.specs.Behind.{rightOf};
-ghost use Rattle.sets.specs.Region.{setOf, Within, Room, Inserted, regionWords};
-ghost use Rattle.rules.specs.Adding.{sideOf, NoneLong, Added, Buffers, Given, GivenStatement, GivenSet, Labelled};
+ghost use Rattle.sets.specs.Region.{slotAt, setOf, Within, Room, Inserted};
+ghost use Rattle.rules.specs.Adding.{sideOf, NoneLong, Added, Buffers, Given, GivenStore, GivenSet, Labelled, SeveralCells, Renumbered, Choosing, Working};
+ghost use Rattle.rules.specs.Changing.{imageOf, ToOne, OneCell, NumberedSlot, OneForOne, SeveralForOne, GivenSlot, GivenSlots, Ruled, OneEach, Renewed, ChangedTo, AllChanged};
 ghost use Rattle.rules.specs.Answers.{answered, Below};
 use code_table::Decoded;
 use conjunct::MOST_NODES;
@@ -97,40 +95,151 @@ fn right_side(label: u64, d: Decoded) -> Right
     one_node(conjunct::node::load(label, b, d.len, ty))
 }
 
-// The right side for the variable in one conjunct. The set has room: each conjunct comes to one.
-fn assign_one(
+// ---- a conjunct in its slot: statements before which a conjunct comes to one
+
+// The one node of the right side for the variable x in the conjunct of the slot at a.
+fn exchange_slot(s: &mut [u64], a: usize, x: u64, right: Right, seen: &mut [u64])
+    requires { ⌜ OneForOne (now s) a x right (now seen) ⌝ }
+    ensures { λ _. ⌜ Renewed (renumber (flatMap (replace x (rightOf right)) (nodesOf (slotAt (now (s .entry)) a)))) a (now (s .entry)) (now (s .exit)) ⌝ }
+{
+    let n = conjunct::capped(s[a] as usize);
+    conjunct::numbering::replace_variable(&mut s[a + 1..a + 1 + n], x, right, seen);
+}
+
+// The right side for the variable x in the conjunct of the slot at a, by way of `out`.
+fn substitute_slot(
     s: &mut [u64],
-    room: usize,
-    e: &[u64],
-    n: usize,
-    label: u64,
-    d: Decoded,
+    a: usize,
+    x: u64,
+    right: Right,
     out: &mut [u64],
     seen: &mut [u64],
 ) -> Answer
-    requires { ⌜ GivenStatement (now s) room (now e) n (now out) (now seen) label d aLoad ⌝ }
+    requires { ⌜ SeveralForOne (now s) a right (now out) (now seen) ⌝ }
     ensures { λ r. ⌜
-        Added r (λ G. OfKind aStore d → NoneLong G) (map renumber (before label (instrOf d) (conjOf (now (e .entry)) n)))
-        room (now (s .entry)) (now (s .exit))
-        × Within room (now (s .entry)) (now (s .exit))
+        ChangedTo r (renumber (flatMap (replace x (rightOf right)) (nodesOf (slotAt (now (s .entry)) a)))) a (now (s .entry)) (now (s .exit))
         ⌝ }
 {
-    let right = right_side(label, d);
-    let t = conjunct::numbering::substitute(e, n, d.a as u64, right, out, seen);
+    let n = conjunct::capped(s[a] as usize);
+    let t = conjunct::numbering::substitute(&s[a + 1..], n, x, right, out, seen);
     match t {
         Substituted::Over => Answer::Refused(TOO_MANY_NODES),
         Substituted::Nodes(m) => {
-            sets::insert(s, room, out, m);
+            sets::write_slot(s, a, out, m);
             Answer::Done
         }
     }
 }
 
-// ---- stores: kind 9
+// The right side of the assignment d for its variable.
+fn assign_slot(
+    s: &mut [u64],
+    a: usize,
+    label: u64,
+    d: Decoded,
+    out: &mut [u64],
+    seen: &mut [u64],
+) -> Answer
+    requires { ⌜ GivenSlot (now s) a label d (now out) (now seen) × (d .kind ≤ numberOf aLoad) ⌝ }
+    ensures { λ r. ⌜ ChangedTo r (imageOf label d (nodesOf (slotAt (now (s .entry)) a))) a (now (s .entry)) (now (s .exit)) ⌝ }
+{
+    let right = right_side(label, d);
+    let x = d.a as u64;
+    if right.len == 1 {
+        exchange_slot(s, a, x, right, seen);
+        return Answer::Done;
+    }
+    let n = conjunct::capped(s[a] as usize);
+    if !conjunct::mentions_variable(&s[a + 1..], n, x) {
+        return Answer::Done;
+    }
+    substitute_slot(s, a, x, right, out, seen)
+}
+
+// Every load from the one cell of the store d by the stored variable. No source of an atom is left in
+// part, so the numbers stay.
+fn store_slot(s: &mut [u64], a: usize, d: Decoded)
+    requires { ⌜ NumberedSlot (now s) a × OneCell d ⌝ }
+    ensures { λ _. ⌜ ((label : ℕ) → Renewed (imageOf label d (nodesOf (slotAt (now (s .entry)) a))) a (now (s .entry)) (now (s .exit))) ⌝ }
+{
+    let v = conjunct::node::variable(d.c as u64, d.ty as u64);
+    let n = conjunct::capped(s[a] as usize);
+    conjunct::replace_all(&mut s[a + 1..a + 1 + n], n, d.a as u64, d.len, v);
+}
+
+// What the conjunct of the slot at a comes to before the statement d.
+fn change_slot(
+    s: &mut [u64],
+    a: usize,
+    label: u64,
+    d: Decoded,
+    out: &mut [u64],
+    seen: &mut [u64],
+) -> Answer
+    requires { ⌜ GivenSlot (now s) a label d (now out) (now seen) × ToOne d ⌝ }
+    ensures { λ r. ⌜ ChangedTo r (imageOf label d (nodesOf (slotAt (now (s .entry)) a))) a (now (s .entry)) (now (s .exit)) ⌝ }
+{
+    let kind = d.kind;
+    if kind <= 8 {
+        return assign_slot(s, a, label, d, out, seen);
+    }
+    if kind == 9 {
+        store_slot(s, a, d);
+    }
+    Answer::Done
+}
+
+// What each conjunct of the region at b comes to before the statement d, in the place of that conjunct.
+fn change_all(
+    s: &mut [u64],
+    b: usize,
+    label: u64,
+    d: Decoded,
+    out: &mut [u64],
+    seen: &mut [u64],
+) -> Answer
+    requires { ⌜ GivenSlots (now s) b label d × Buffers (now out) (now seen) ⌝ }
+    ensures { λ r. ⌜ AllChanged r label d b (now (s .entry)) (now (s .exit)) ⌝ }
+{
+    let count = sets::size(s, b);
+    let mut k: usize = 0;
+    while k < count {
+        let a = b + 1 + sets::SLOT * k;
+        let answer = change_slot(s, a, label, d, out, seen);
+        match answer {
+            Answer::Done => k += 1,
+            Answer::Refused(n) => return Answer::Refused(n),
+        }
+    }
+    Answer::Done
+}
+
+// The rule of a statement before which a conjunct comes to one. The region after that at b is room to
+// work in.
+fn change(s: &mut [u64], b: usize, label: u64, d: Decoded) -> Answer
+    requires { ⌜ Ruled (now s) b × OneEach label d ⌝ }
+    ensures { λ r. ⌜
+        (back label (instrOf d) (setOf (now (s .entry)) b) ≡ answered r (setOf (now (s .exit)) b))
+        × Below b (now (s .entry)) (now (s .exit))
+        ⌝ }
+{
+    let mut out: [u64; MOST_NODES] = [0; MOST_NODES];
+    let mut seen: [u64; MOST_NODES] = [0; MOST_NODES];
+    let answer = change_all(s, b, label, d, &mut out, &mut seen);
+    match answer {
+        Answer::Refused(n) => Answer::Refused(n),
+        Answer::Done => {
+            sets::arrange(s, b);
+            Answer::Done
+        }
+    }
+}
+
+// ---- stores to an array of several cells, before which a conjunct comes to several
 
 // One conjunct more, renumbered; false where the set would have over 64.
 fn add(s: &mut [u64], room: usize, e: &mut [u64], n: usize, seen: &mut [u64]) -> bool
-    requires { ⌜ Room (now s) room × (n ≤ mostNodes) × Buffers (now e) (now seen) ⌝ }
+    requires { ⌜ Room (now s) room × Renumbered (now e) n (now seen) ⌝ }
     ensures { λ r. ⌜
         Inserted r room (renumber (conjOf (now (e .entry)) n)) (now (s .entry)) (now (s .exit))
         × Within room (now (s .entry)) (now (s .exit))
@@ -171,7 +280,7 @@ fn power(n: usize) -> u64
 // The j-th of the conjuncts for the subsets of k loads, from the conjunct itself: from the first load
 // on, it is left in the lower half of them and replaced by the variable v in the upper half.
 fn choose(w: &mut [u64], n: usize, atoms: &[u64], k: usize, j: u64, v: u64)
-    requires { ⌜ (n ≤ length (now w)) × (k ≤ 6) × (k ≤ length (now atoms)) × (j < 2 ^ k) ⌝ }
+    requires { ⌜ Choosing (now w) n (now atoms) k j ⌝ }
     ensures { λ _. ⌜
         ((ks : List Atom) (x ty : ℕ) → conjOf (now (atoms .entry)) k ≡ map atom ks → nodeOf v ≡ var x ty
         → conjOf (now (w .exit)) n ≡ getD (subsets ks x ty (conjOf (now (w .entry)) n)) j [])
@@ -255,32 +364,9 @@ fn store_subsets(
     add_subsets(s, room, e, n, &atoms[0..k], t.variable, out, seen)
 }
 
-// A store to an array of one cell: every load is the stored variable.
-fn store_cell(
-    s: &mut [u64],
-    room: usize,
-    e: &[u64],
-    n: usize,
-    t: Store,
-    out: &mut [u64],
-    seen: &mut [u64],
-) -> Answer
-    requires { ⌜ Given (now s) room (now e) n (now out) (now seen) ⌝ }
-    ensures { λ r. ⌜
-        ((x ty : ℕ) → nodeOf (t .variable) ≡ var x ty
-        → Added r NoneLong (renumber (swapAll (t .array) (t .len) x ty (conjOf (now (e .entry)) n)) ∷ []) room (now (s .entry)) (now (s .exit)))
-        × Within room (now (s .entry)) (now (s .exit))
-        ⌝ }
-{
-    copy(e, n, out);
-    conjunct::replace_all(out, n, t.array, t.len, t.variable);
-    if !add(s, room, out, n, seen) {
-        return Answer::Refused(TOO_MANY_CONJUNCTS);
-    }
-    Answer::Done
-}
-
-fn store_one(
+// What one conjunct comes to before the store d, added to the set of the room. A conjunct without a load
+// from its array stays as it is.
+fn add_before(
     s: &mut [u64],
     room: usize,
     e: &[u64],
@@ -289,89 +375,41 @@ fn store_one(
     out: &mut [u64],
     seen: &mut [u64],
 ) -> Answer
-    requires { ⌜ Given (now s) room (now e) n (now out) (now seen) × OfKind aStore d × Known d ⌝ }
+    requires { ⌜ GivenStore (now s) room (now e) n (now out) (now seen) d ⌝ }
     ensures { λ r. ⌜
         ((label : ℕ) → Added r NoneLong (map renumber (before label (instrOf d) (conjOf (now (e .entry)) n)))
         room (now (s .entry)) (now (s .exit)))
         × Within room (now (s .entry)) (now (s .exit))
         ⌝ }
 {
-    let t = Store {
-        array: d.a as u64,
-        len: d.len,
-        variable: conjunct::node::variable(d.c as u64, d.ty as u64),
-    };
-    if d.len == 1 {
-        return store_cell(s, room, e, n, t, out, seen);
-    }
-    store_subsets(s, room, e, n, t, out, seen)
-}
-
-// ---- the set
-
-// Whether the statement d changes what the conjunct speaks of.
-fn touched(e: &[u64], n: usize, d: Decoded) -> bool
-    requires { ⌜ (n ≤ length (now e)) × (d .kind ≤ numberOf aSite) ⌝ }
-    ensures { λ r. ⌜ r ≡ writes (instrOf d) (conjOf (now (e .entry)) n) ⌝ }
-{
-    let kind = d.kind;
-    let a = d.a as u64;
-    if kind == 10 {
-        return false;
-    }
-    if kind == 9 {
-        return conjunct::mentions_array(e, n, a, d.len);
-    }
-    conjunct::mentions_variable(e, n, a)
-}
-
-// What one conjunct comes to before the statement d, added to the set of the room. A conjunct that
-// d does not touch stays as it is.
-fn add_before(
-    s: &mut [u64],
-    room: usize,
-    e: &[u64],
-    n: usize,
-    label: u64,
-    d: Decoded,
-    out: &mut [u64],
-    seen: &mut [u64],
-) -> Answer
-    requires { ⌜ GivenStatement (now s) room (now e) n (now out) (now seen) label d aSite ⌝ }
-    ensures { λ r. ⌜
-        Added r (λ G. OfKind aStore d → NoneLong G) (map renumber (before label (instrOf d) (conjOf (now (e .entry)) n)))
-        room (now (s .entry)) (now (s .exit))
-        × Within room (now (s .entry)) (now (s .exit))
-        ⌝ }
-{
-    if !touched(e, n, d) {
+    if !conjunct::mentions_array(e, n, d.a as u64, d.len) {
         if !sets::insert(s, room, e, n) {
             return Answer::Refused(TOO_MANY_CONJUNCTS);
         }
         return Answer::Done;
     }
-    let kind = d.kind;
-    if kind <= 8 {
-        return assign_one(s, room, e, n, label, d, out, seen);
-    }
-    store_one(s, room, e, n, d, out, seen)
+    let t = Store {
+        array: d.a as u64,
+        len: d.len,
+        variable: conjunct::node::variable(d.c as u64, d.ty as u64),
+    };
+    store_subsets(s, room, e, n, t, out, seen)
 }
 
-// What the conjuncts of the region at b come to before the statement d, gathered in the empty room
-// from the first to the last.
+// What the conjuncts of the region at b come to before the store d, gathered in the empty room from the
+// first to the last.
 fn gather(
     s: &mut [u64],
     b: usize,
     room: usize,
-    label: u64,
     d: Decoded,
     e: &mut [u64],
     out: &mut [u64],
     seen: &mut [u64],
 ) -> Answer
-    requires { ⌜ GivenSet (now s) b room label d × (mostNodes ≤ length (now e)) × Buffers (now out) (now seen) ⌝ }
+    requires { ⌜ GivenSet (now s) b room d × Working (now e) (now out) (now seen) ⌝ }
     ensures { λ r. ⌜
-        (back label (instrOf d) (setOf (now (s .entry)) b) ≡ answered r (setOf (now (s .exit)) room))
+        ((label : ℕ) → back label (instrOf d) (setOf (now (s .entry)) b) ≡ answered r (setOf (now (s .exit)) room))
         × Within room (now (s .entry)) (now (s .exit))
         ⌝ }
 {
@@ -379,7 +417,7 @@ fn gather(
     let mut k: usize = 0;
     while k < count {
         let n = sets::get(s, b, k, e);
-        let answer = add_before(s, room, e, n, label, d, out, seen);
+        let answer = add_before(s, room, e, n, d, out, seen);
         match answer {
             Answer::Done => k += 1,
             Answer::Refused(n) => return Answer::Refused(n),
@@ -389,33 +427,30 @@ fn gather(
 }
 
 // The same, with room to work in.
-fn gather_all(s: &mut [u64], b: usize, room: usize, label: u64, d: Decoded) -> Answer
-    requires { ⌜ GivenSet (now s) b room label d ⌝ }
+fn gather_all(s: &mut [u64], b: usize, room: usize, d: Decoded) -> Answer
+    requires { ⌜ GivenSet (now s) b room d ⌝ }
     ensures { λ r. ⌜
-        (back label (instrOf d) (setOf (now (s .entry)) b) ≡ answered r (setOf (now (s .exit)) room))
+        ((label : ℕ) → back label (instrOf d) (setOf (now (s .entry)) b) ≡ answered r (setOf (now (s .exit)) room))
         × Within room (now (s .entry)) (now (s .exit))
         ⌝ }
 {
     let mut e: [u64; MOST_NODES] = [0; MOST_NODES];
     let mut out: [u64; MOST_NODES] = [0; MOST_NODES];
     let mut seen: [u64; MOST_NODES] = [0; MOST_NODES];
-    gather(s, b, room, label, d, &mut e, &mut out, &mut seen)
+    gather(s, b, room, d, &mut e, &mut out, &mut seen)
 }
 
-// The rule of the statement d with a label on the set of the region at b. The region after it, at
-// b + sets::REGION, is room to work in.
-pub fn rule(s: &mut [u64], b: usize, label: u64, d: Decoded) -> Answer
-    requires { ⌜
-        (b + 2 * regionWords ≤ length (now s)) × (label < 2 ^ 16) × (d .kind ≤ numberOf aSite) × Known d × All Numbered (setOf (now s) b)
-        ⌝ }
+// The rule of a store to an array of several cells. The region after that at b is room to work in.
+fn spread(s: &mut [u64], b: usize, d: Decoded) -> Answer
+    requires { ⌜ Ruled (now s) b × SeveralCells d ⌝ }
     ensures { λ r. ⌜
-        (back label (instrOf d) (setOf (now (s .entry)) b) ≡ answered r (setOf (now (s .exit)) b))
+        ((label : ℕ) → back label (instrOf d) (setOf (now (s .entry)) b) ≡ answered r (setOf (now (s .exit)) b))
         × Below b (now (s .entry)) (now (s .exit))
         ⌝ }
 {
     let room = b + sets::REGION;
     sets::clear(s, room);
-    let answer = gather_all(s, b, room, label, d);
+    let answer = gather_all(s, b, room, d);
     match answer {
         Answer::Done => {
             sets::copy(s, b, room);
@@ -423,4 +458,25 @@ pub fn rule(s: &mut [u64], b: usize, label: u64, d: Decoded) -> Answer
         }
         Answer::Refused(n) => Answer::Refused(n),
     }
+}
+
+// ---- the rule
+
+// The rule of the statement d with a label on the set of the region at b. The region after it, at
+// b + sets::REGION, is room to work in.
+pub fn rule(s: &mut [u64], b: usize, label: u64, d: Decoded) -> Answer
+    requires { ⌜ Ruled (now s) b × Labelled label d aSite ⌝ }
+    ensures { λ r. ⌜
+        (back label (instrOf d) (setOf (now (s .entry)) b) ≡ answered r (setOf (now (s .exit)) b))
+        × Below b (now (s .entry)) (now (s .exit))
+        ⌝ }
+{
+    let kind = d.kind;
+    if kind != 9 {
+        return change(s, b, label, d);
+    }
+    if d.len == 1 {
+        return change(s, b, label, d);
+    }
+    spread(s, b, d)
 }

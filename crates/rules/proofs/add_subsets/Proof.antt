@@ -77,8 +77,10 @@ add-requires c κs =
     let given = start (loop-of co .before) .pre .0 in
     let out = ch .choose .kept .0 ∙ co .copy .kept .1 .1 .0 ∙ lp .inv .3 in (
       record { there = omega (arith, lp .inv .2, given .room .there); canon = lp .inv .7 },
-      given .few,
-      (omega (arith, out, given .buffers .0), omega (arith, lp .inv .4, given .buffers .1)),
+      record {
+        conjunct = record { few = given .few; there = omega (arith, given .few, out, given .buffers .0) };
+        space = omega (arith, lp .inv .4, given .buffers .1);
+      },
     )
 
 same-length : tie.Need-same-length Inv-loop μ-loop

@@ -32,7 +32,7 @@ loop-holds : tie.Need-loop-holds Inv-loop μ-loop
 loop-holds c =
     let g = c .before .before .before in
     let z : g .args .k - 0 ≡ g .args .k = omega arith in
-    (omega arith, c .power .ensures ∙ ap (2 ^_) (sym z), rw (c .power .ensures) (g .pre .3), refl, λ ks x ty p q. refl)
+    (omega arith, c .power .ensures ∙ ap (2 ^_) (sym z), rw (c .power .ensures) (g .pre .subset), refl, λ ks x ty p q. refl)
 
 mul-replace-one : tie.Need-mul-replace-one Inv-loop μ-loop
 mul-replace-one c = search needs
@@ -58,7 +58,7 @@ loop-again c =
     let half : lp .half / 2 ≡ 2 ^ (a .k - (lp .i + 1)) = ap (_/ 2) (lp .inv .1) ∙ half-power (a .k) (lp .i) small in
     let twice = twice-half (a .k) (lp .i) small in
     let len : (ks : List Atom) → conjOf (a .atoms .now) (a .k) ≡ map atom ks → length ks ≡ a .k =
-    λ ks p. atoms-count (a .atoms .now) (a .k) ks (g .pre .2) p in (
+    λ ks p. atoms-count (a .atoms .now) (a .k) ks (g .pre .atoms) p in (
       omega arith,
       half,
       ⊎-elim (λ w. omega (arith, lp .inv .1, lp .inv .2)) (λ w. omega (arith, lp .inv .1, lp .inv .2)) (c .if1 .came),
@@ -90,7 +90,7 @@ returns c =
     let one : lp .half ≡ 1 = lp .inv .1 ∙ ap (2 ^_) z in
     λ ks x ty p q.
     all-chosen ks x ty (conjOf (a .w .now) (a .n)) (a .j) (lp .i) (conjOf (lp .w) (a .n)) (lp .rest)
-    (atoms-count (a .atoms .now) (a .k) ks (g .pre .2) p ∙ sym n) (omega arith) (lp .inv .4 ks x ty p q)
+    (atoms-count (a .atoms .now) (a .k) ks (g .pre .atoms) p ∙ sym n) (omega arith) (lp .inv .4 ks x ty p q)
 
 pub choose-spec : {M : Type 1} → statement M
 choose-spec =

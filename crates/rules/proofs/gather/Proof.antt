@@ -1,33 +1,31 @@
 -- `rules::gather` meets its contract: after k turns the room has what the first k conjuncts come to.
 use mathlib.Core.List.{List}
 use mathlib.Core.Path.{_≡_, refl, _∙_}
-use Prim.Native.Nat.{_-_, _≤_, _<_}
+use Prim.Native.Nat.{ℕ, _-_, _≤_, _<_}
 use native.Mathlib.Omega.{arith}
 use lib.ListN.{length, take}
 use borrow.Author.Needs.{needs}
-use Rattle.model.specs.Conjunct.{Conj, Conjuncts}
-use Rattle.model.specs.Kinds.{aStore}
+use Rattle.model.specs.Conjunct.{Conj}
 use Rattle.model.specs.Walk.{before, gather}
 use Rattle.model.specs.Sizes.{mostConjuncts}
-use Rattle.code_table.specs.Statements.{instrOf, OfKind}
+use Rattle.code_table.specs.Statements.{instrOf}
 use Rattle.conjunct.specs.Value.{conjOf}
 use Rattle.sets.proofs.Rows.{within-trans}
 use Rattle.sets.specs.Region.{setOf, Within}
-use Rattle.rules.proofs.ByKind.{before-one}
-use Rattle.rules.proofs.Gathering.{gather-none, gathered-few, gathered-canon, own-numbered, gathered-more, gathered-refused}
+use Rattle.rules.proofs.Gathering.{gather-none, gathered-canon, own-numbered, gathered-more, gathered-refused}
 use Rattle.rules.proofs.Gathering.{store-premise, rule-refused, rule-done}
 use Rattle.rules.specs.Adding.{NoneLong}
 use Rattle.rules.proofs.gather.Statement.{statement}
 use Rattle.rules.proofs.gather.Tie as tie
 
 abbrev Inv-loop : tie.InvT-loop
-Inv-loop s₀ b room label d e₀ out₀ seen₀ count k₀ s e out seen k =
+Inv-loop s₀ b room d e₀ out₀ seen₀ count k₀ s e out seen k =
     (k ≤ count) × (count ≡ length (setOf s₀ b)) × (count ≤ mostConjuncts) × (length s ≡ length s₀) × (length e ≡ length e₀) × (length out ≡ length out₀)
     × (length seen ≡ length seen₀)
-    × Within room s₀ s × (setOf s room ≡ gather (before label (instrOf d)) (take k (setOf s₀ b)))
+    × Within room s₀ s × ((label : ℕ) → setOf s room ≡ gather (before label (instrOf d)) (take k (setOf s₀ b)))
 
 abbrev μ-loop : tie.MeasureT-loop
-μ-loop s₀ b room label d e₀ out₀ seen₀ count k₀ s e out seen k = count - k
+μ-loop s₀ b room d e₀ out₀ seen₀ count k₀ s e out seen k = count - k
 
 -- ---- a turn of the loop
 
@@ -60,15 +58,12 @@ added c = c .before .before .before .before .before .before .before .before
 abbrev refused-at : tie.After-known-told Inv-loop μ-loop → tie.After-add-before Inv-loop μ-loop
 refused-at c = c .before .before .before .before .before .before .before .before .before
 
--- what a conjunct comes to, the conjunct of this turn, and the premise of a store
-abbrev comes-to : Got → Conj → List Conj
-comes-to c = before (entry c .args .label) (instrOf (entry c .args .d))
+-- what a conjunct comes to, whatever the label, and the conjunct of this turn
+abbrev comes-to : Got → ℕ → Conj → List Conj
+comes-to c label = before label (instrOf (entry c .args .d))
 
 abbrev this : Got → Conj
 this c = conjOf (c .get .last .1 .1 .1 .0) (c .get .result)
-
-abbrev Premise : Got → Conjuncts → Type 0
-Premise c G = OfKind aStore (entry c .args .d) → NoneLong G
 
 few : (c : Got) → at-loop c .loop .k < length (setOf (entry c .args .s .now) (entry c .args .b))
 few c = omega (arith, in-loop c .loop-test .taken, at-loop c .loop .inv .1)
@@ -88,7 +83,7 @@ loop-holds c =
       refl,
       refl,
       λ i h. refl,
-      start .pre .0 .empty ∙ gather-none (before (a .label) (instrOf (a .d))) (setOf (a .s .now) (a .b)),
+      λ label. start .pre .0 .empty ∙ gather-none (before label (instrOf (a .d))) (setOf (a .s .now) (a .b)),
     )
 
 get-requires : tie.Need-get-requires Inv-loop μ-loop
@@ -102,24 +97,19 @@ add-before-requires c κs =
     let p = start .pre .0 in
     let lp = at-loop t .loop in
     let e = t .get in
-    let S = setOf (a .s .now) (a .b) in
-    let full : length S ≤ mostConjuncts = omega (arith, lp .inv .1, lp .inv .2) in
     record {
       given = record {
         room = record {
           there = omega (arith, lp .inv .3, p .there);
-          canon = gathered-canon (comes-to t) S (setOf (lp .s) (a .room)) (lp .k) (lp .inv .8);
+          canon = gathered-canon (comes-to t 0) (setOf (a .s .now) (a .b)) (setOf (lp .s) (a .room)) (lp .k) (lp .inv .8 0);
         };
         few = e .ensures .0;
-        there = omega (arith, e .ensures .0, e .kept .1 .1 .1 .0, lp .inv .4, start .pre .1);
-        buffers = (omega (arith, lp .inv .5, start .pre .2 .0), omega (arith, lp .inv .6, start .pre .2 .1));
+        there = omega (arith, e .ensures .0, e .kept .1 .1 .1 .0, lp .inv .4, start .pre .1 .conjunct);
+        buffers = (omega (arith, lp .inv .5, start .pre .1 .others .0), omega (arith, lp .inv .6, start .pre .1 .others .1));
       };
-      space =
-          λ n. gathered-few (comes-to t) (λ d. before-one (a .d) (a .label) d (p .statement .kind) n) S (setOf (lp .s) (a .room))
-          (lp .k) (few t) full (lp .inv .8);
       statement = p .statement;
       numbered =
-          own-numbered (comes-to t) (a .s .now) (lp .s) (lp .s) (a .b) (a .room) (lp .k) (this t)
+          own-numbered (comes-to t 0) (a .s .now) (lp .s) (lp .s) (a .b) (a .room) (lp .k) (this t)
           (p .apart) (p .there) (lp .inv .3) (lp .inv .7) (few t) (e .ensures .1) (p .numbered);
     }
 
@@ -145,11 +135,11 @@ loop-again c =
       lp .inv .2,
       r .kept .0 ∙ lp .inv .3,
       e .kept .1 .1 .1 .0 ∙ lp .inv .4,
-      r .kept .1 .1 .1 .1 .1 .1 .0 ∙ lp .inv .5,
-      r .kept .1 .1 .1 .1 .1 .1 .1 .0 ∙ lp .inv .6,
+      r .kept .1 .1 .1 .1 .1 .0 ∙ lp .inv .5,
+      r .kept .1 .1 .1 .1 .1 .1 .0 ∙ lp .inv .6,
       within-trans (a .room) (a .s .now) (lp .s) (r .last .0) (lp .inv .7) (r .ensures .1),
-      gathered-more (comes-to t) (a .s .now) (lp .s) (r .last .0) (a .b) (a .room) (lp .k) (this t) (p .apart) (p .there) (lp .inv .3)
-          (lp .inv .7) (few t) (e .ensures .1) (Premise t) (lp .inv .8) (r .result) (c .enum-told .given .1) (r .ensures .0),
+      λ label. gathered-more (comes-to t label) (a .s .now) (lp .s) (r .last .0) (a .b) (a .room) (lp .k) (this t) (p .apart) (p .there) (lp .inv .3)
+          (lp .inv .7) (few t) (e .ensures .1) NoneLong (lp .inv .8 label) (r .result) (c .enum-told .given .1) (r .ensures .0 label),
     )
 
 enum-known-answer : tie.Need-enum-known-answer Inv-loop μ-loop
@@ -175,12 +165,11 @@ returns c =
     let lp = at-loop t .loop in
     let e = t .get in
     let r = refused-at c .add-before in
-    let n = c .before .answer .given .0 .0 in
-    let limited =
-    gathered-refused (comes-to t) (a .s .now) (lp .s) (r .last .0) (a .b) (a .room) (lp .k) (this t) (p .apart) (p .there) (lp .inv .3)
-    (lp .inv .7) (few t) (e .ensures .1) (Premise t) (lp .inv .8) (r .result) n (c .before .answer .given .1) (r .ensures .0)
-    (store-premise (a .d) (a .label) (a .s .now) (a .b)) in (
-      rule-refused (a .label) (instrOf (a .d)) (setOf (a .s .now) (a .b)) n limited,
+    let n = c .before .answer .given .0 .0 in (
+      λ label. rule-refused label (instrOf (a .d)) (setOf (a .s .now) (a .b)) n
+          (gathered-refused (comes-to t label) (a .s .now) (lp .s) (r .last .0) (a .b) (a .room) (lp .k) (this t) (p .apart) (p .there) (lp .inv .3)
+          (lp .inv .7) (few t) (e .ensures .1) NoneLong (lp .inv .8 label) (r .result) n (c .before .answer .given .1) (r .ensures .0 label)
+          (store-premise (a .d) label (a .s .now) (a .b) (p .statement .store))),
       within-trans (a .room) (a .s .now) (lp .s) (r .last .0) (lp .inv .7) (r .ensures .1),
     )
 
@@ -200,7 +189,7 @@ returns-2 : tie.Need-returns-2 Inv-loop μ-loop
 returns-2 c =
     let a = entry-of-loop (c .before) .args in
     let lp = c .before .loop in
-    (rule-done (a .label) (instrOf (a .d)) (setOf (a .s .now) (a .b)) (lp .s) (a .room) (lp .k) (omega (arith, lp .inv .0, lp .inv .1)) (lp .inv .8), lp .inv .7)
+    (λ label. rule-done label (instrOf (a .d)) (setOf (a .s .now) (a .b)) (lp .s) (a .room) (lp .k) (omega (arith, lp .inv .0, lp .inv .1)) (lp .inv .8 label), lp .inv .7)
 
 pub gather-spec : {M : Type 1} → statement M
 gather-spec =
