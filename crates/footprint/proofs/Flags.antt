@@ -24,7 +24,7 @@ use Rattle.footprint.specs.declared.Footprint.{Footprint}
 pub extends-self : (m : Footprint) → Extends m m
 extends-self m = record { variables = λ x f. f; arrays = λ t f. f }
 
-extends-trans : (l m n : Footprint) → Extends l m → Extends m n → Extends l n
+pub extends-trans : (l m n : Footprint) → Extends l m → Extends m n → Extends l n
 extends-trans l m n h k = record { variables = λ x f. h .variables x (k .variables x f); arrays = λ t f. h .arrays t (k .arrays t f) }
 
 pub covers-more : (m n : Footprint) (e : Conj) → Extends m n → Covers m e → Covers n e
@@ -77,13 +77,32 @@ speaks-next m n S i e h q k a b =
     let g : take (i + 1) S ≡ take i S ++ (getD S i [] ∷ []) = ap (λ j. take j S) (add-one i) ∙ take-suc S i [] h in
     subst (CoversSet n) (sym g) (all-append (Covers n) (take i S) (getD S i [] ∷ []) (speaks-more m n (take i S) k a) (subst (Covers n) q b, tt))
 
--- ---- one node
+-- ---- one flag more
 
 -- a flag that is off after another was set was off before, and is not that one
 off-before : (l : List Bool) (i x : ℕ) → i < length l → getD (set l i true) x false ≡ false → (x ≡ i → ⊥) × (getD l x false ≡ false)
 off-before l i x h f =
     let other : x ≡ i → ⊥ = λ e. true≢false (sym (getD-set-same l i true false h) ∙ ap (λ j. getD (set l i true) j false) (sym e) ∙ f) in
     (other, sym (getD-set-other l i x true false other) ∙ f)
+
+module _ (m n : Footprint) (i : ℕ) where
+  -- a variable's flag is set
+  pub variable-set : i < length (m .variables) → n .variables ≡ set (m .variables) i true → n .arrays ≡ m .arrays
+      → Extends m n × ((x : ℕ) → FreeVariable n x → x % variableFlags ≡ i → ⊥)
+  variable-set h v a =
+      let off : (x : ℕ) → FreeVariable n x → (x % variableFlags ≡ i → ⊥) × FreeVariable m x =
+      λ x f. off-before (m .variables) i (x % variableFlags) h (ap (λ fs. getD fs (x % variableFlags) false) (sym v) ∙ f) in
+      (record { variables = λ x f. off x f .1; arrays = λ t f. (f .0, ap (λ fs. getD fs t false) (sym a) ∙ f .1) }, λ x f. off x f .0)
+
+  -- an array's flag is set
+  pub array-set : i < length (m .arrays) → n .arrays ≡ set (m .arrays) i true → n .variables ≡ m .variables
+      → Extends m n × ((t : ℕ) → FreeArray n t → t ≡ i → ⊥)
+  array-set h a v =
+      let off : (t : ℕ) → FreeArray n t → (t ≡ i → ⊥) × (getD (m .arrays) t false ≡ false) =
+      λ t f. off-before (m .arrays) i t h (ap (λ fs. getD fs t false) (sym a) ∙ f .1) in
+      (record { variables = λ x f. ap (λ fs. getD fs (x % variableFlags) false) (sym v) ∙ f; arrays = λ t f. (f .0, off t f .1) }, λ t f. off t f .0)
+
+-- ---- one node
 
 -- a number modulo the count of flags, by its lowest byte alone
 low-flag : (b r : ℕ) → (b % 256 + 256 * r) % variableFlags ≡ b % variableFlags
@@ -107,11 +126,8 @@ module _ (w : ℕ) where
         → n .arrays ≡ m .arrays → Extends m n × Covers n (nodeOf w ∷ [])
     unfolding some
     covers-variable m n k v a =
-        let off : (x : ℕ) → FreeVariable n x → (x % variableFlags ≡ w / place3 % variableFlags → ⊥) × FreeVariable m x =
-        λ x f. off-before (m .variables) (w / place3 % variableFlags) (x % variableFlags) (omega arith) (ap (λ fs. getD fs (x % variableFlags) false) (sym v) ∙ f) in (
-          record { variables = λ x f. off x f .1; arrays = λ t f. (f .0, ap (λ fs. getD fs t false) (sym a) ∙ f .1) },
-          record { variables = λ x f. rw (not-variable x (off x f .0)); arrays = λ t j f. rw (← low-load w t j h) },
-        )
+        let one = variable-set m n (w / place3 % variableFlags) (omega arith) v a in
+        (one .0, record { variables = λ x f. rw (not-variable x (one .1 x f)); arrays = λ t j f. rw (← low-load w t j h) })
 
   module _ (l : firstLoad ≤ w) where
     not-load : (t k : ℕ) → (t ≡ w / place2 % 256 → ⊥) → isLoad t k (nodeOf w) ≡ false
@@ -130,8 +146,5 @@ module _ (w : ℕ) where
         → n .arrays ≡ set (m .arrays) (w / place2 % 256) true → n .variables ≡ m .variables → Extends m n × Covers n (nodeOf w ∷ [])
     unfolding some
     covers-load m n k g a v =
-        let off : (t : ℕ) → FreeArray n t → (t ≡ w / place2 % 256 → ⊥) × (getD (m .arrays) t false ≡ false) =
-        λ t f. off-before (m .arrays) (w / place2 % 256) t (omega arith) (ap (λ fs. getD fs t false) (sym a) ∙ f .1) in (
-          record { variables = λ x f. ap (λ fs. getD fs (x % variableFlags) false) (sym v) ∙ f; arrays = λ t f. (f .0, off t f .1) },
-          record { variables = λ x f. rw (← high-variable w x l); arrays = λ t j f. rw (not-load t j (off t f .0)) },
-        )
+        let one = array-set m n (w / place2 % 256) (omega arith) a v in
+        (one .0, record { variables = λ x f. rw (← high-variable w x l); arrays = λ t j f. rw (not-load t j (one .1 t f)) })

@@ -1,13 +1,16 @@
--- What flags of variables and arrays say of conjuncts, and which statements they spare.
+-- What flags of variables and arrays say of conjuncts, which statements they spare, and which bring nothing that they do not flag.
 use mathlib.Core.Path.{_≡_}
 use mathlib.Core.Bool.{false}
-use Prim.Native.Nat.{ℕ, _%_, _≤_, _<_}
-use lib.ListN.{getD}
-use Rattle.model.specs.Code.{Instr, assign, store, site, Stmt, plain, if, else, end, while}
+use mathlib.Core.List.{List}
+use Prim.Native.Nat.{ℕ, _+_, _%_, _≤_, _<_}
+use lib.ListN.{length, getD}
+use Rattle.model.specs.Code.{Right, number, copy, calc, change, read, load, Instr, assign, store, site, Stmt, plain, if, else, end, while}
 use Rattle.model.specs.Conjunct.{Conj, Conjuncts}
 use Rattle.model.specs.Lists.{All}
-use Rattle.model.specs.Sizes.{mostArrays}
+use Rattle.model.specs.Sizes.{mostArrays, mostStatements}
 use Rattle.model.specs.Touch.{isVar, isLoad, some}
+use Rattle.code_table.specs.Table.{tableWords}
+use Rattle.sets.specs.Region.{regionWords, setOf}
 use Rattle.footprint.specs.declared.Footprint.{Footprint}
 
 -- how many flags of variables there are
@@ -35,6 +38,52 @@ CoversSet m S = All (Covers m) S
 pub record Extends (m n : Footprint) : Type 0 where
   pub variables : (x : ℕ) → FreeVariable n x → FreeVariable m x
   pub arrays : (t : ℕ) → FreeArray n t → FreeArray m t
+
+-- the words have the code table, and the labels from p up to q are some of it
+pub record Labels (s : List ℕ) (p q : ℕ) : Type 0 where
+  pub table : tableWords ≤ length s
+  pub rising : p ≤ q
+  pub most : q ≤ mostStatements
+
+-- the words have the region at b, and the flags cover its set
+pub record CoversRegion (m : Footprint) (s : List ℕ) (b : ℕ) : Type 0 where
+  pub there : b + regionWords ≤ length s
+  pub covers : CoversSet m (setOf s b)
+
+-- ---- what statements bring
+
+-- the flag of the variable x is on
+abbrev pub FlagsVariable : Footprint → ℕ → Type 0
+FlagsVariable m x = FreeVariable m x → ⊥
+
+-- the flag of the array t, if it has one, is on
+abbrev pub FlagsArray : Footprint → ℕ → Type 0
+FlagsArray m t = FreeArray m t → ⊥
+
+-- the flags of what the right side speaks of are on
+abbrev pub FlagsRight : Footprint → Right → Type 0
+FlagsRight m (number i) = Unit {0}
+FlagsRight m (copy b) = FlagsVariable m b
+FlagsRight m (calc o b c) = FlagsVariable m b × FlagsVariable m c
+FlagsRight m (change b u) = FlagsVariable m b
+FlagsRight m (read f) = Unit {0}
+FlagsRight m (load t k i) = FlagsArray m t
+
+-- the flags of what the statement's rule may bring into a set are on
+abbrev pub Flags : Footprint → Stmt → Type 0
+Flags m (plain (assign a ty r)) = FlagsRight m r
+Flags m (plain (store t k i x ty)) = FlagsVariable m x
+Flags m (plain (site a ty)) = Unit {0}
+Flags m (if v) = Unit {0}
+Flags m else = Unit {0}
+Flags m end = Unit {0}
+Flags m (while v) = Unit {0}
+
+-- the same of every statement on the labels from p up to q
+abbrev pub FlagsAll : Footprint → (ℕ → Stmt) → ℕ → ℕ → Type 0
+FlagsAll m stmt p q = (i : ℕ) → p ≤ i → i < q → Flags m (stmt i)
+
+-- ---- what statements change
 
 -- the flag of what the statement changes, if it changes anything, is off
 abbrev pub Spares : Footprint → Stmt → Type 0

@@ -74,6 +74,12 @@ minus-append (e ∷ I) J T = go (has e T) (minus-append I J T)
     go true h = h
     go false h = ap (e ∷_) h
 
+pub minus-every : (P : Conj → Type 0) (I T : Conjuncts) → All P I → All P (minus I T)
+unfolding minus
+minus-every P [] T h = tt
+minus-every P (e ∷ I) T h =
+    case (has e T) (λ z. All P (cond z (minus I T) (e ∷ minus I T))) (λ q. minus-every P I T (h .1)) (λ q. (h .0, minus-every P I T (h .1)))
+
 pub minus-few : (I T : Conjuncts) → length (minus I T) ≤ length I
 unfolding minus
 minus-few [] T = omega arith

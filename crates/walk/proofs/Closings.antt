@@ -9,14 +9,13 @@ use lib.ListN.{length}
 use Rattle.model.specs.Conjunct.{Conjuncts, unionOf, same, limits}
 use Rattle.model.specs.Refusals.{Out, ok, refused, _>>=_}
 use Rattle.model.specs.TidySets.{Tidy}
-use Rattle.model.proofs.conjuncts.Remains.{remains-tidy}
 use Rattle.sets.specs.Minus.{minus}
 use Rattle.sets.specs.Region.{regionWords, setOf, Within}
-use Rattle.sets.proofs.Differing.{minus-remains}
 use Rattle.sets.proofs.Rows.{frame}
 use Rattle.walk.specs.Light.{Next, settled, again, byNew}
 use Rattle.walk.specs.Turn.{Closed}
 use Rattle.walk.specs.declared.Round.the-variants.{Settled, Again, Refused}
+use Rattle.walk.proofs.Kept.{minus-tidy}
 use Rattle.walk.proofs.Regions.{below-trans, within-below}
 
 -- ---- by the definition: the union from s to t, and its copy from t to u
@@ -93,7 +92,7 @@ module _ (s t : List ℕ) (b : ℕ) (room : b + 4 * regionWords ≤ length s) (s
   new-tidy h =
       let B = setOf s (b + 2 * regionWords) in
       let S = setOf s (b + regionWords) in
-      subst Tidy (sym new) (remains-tidy (minus B S) B S (minus-remains B S (h .canon)) h)
+      subst Tidy (sym new) (minus-tidy B S h)
 
   pub all-tidy : Tidy (setOf s (b + regionWords)) → Tidy (setOf t (b + regionWords))
   all-tidy h = subst Tidy (sym all-t) h

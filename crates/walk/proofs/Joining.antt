@@ -17,7 +17,7 @@ use Rattle.rules.specs.Answers.{answered, Below}
 use Rattle.rules.specs.declared.Answer.the-variants.{Done, Refused}
 use Rattle.rules.specs.declared.Answer.{Answer}
 use Rattle.sets.specs.Region.{regionWords, setOf}
-use Rattle.walk.proofs.Ways.{by-tidy}
+use Rattle.walk.proofs.Kept.{by-tidy}
 use Rattle.walk.proofs.Regions.{below-trans, below-less, below-set, below-table, walked-done, walked-refused, walked-from}
 use Rattle.walk.specs.Light.{walkBy}
 use Rattle.walk.specs.Piece.{Lies, WalkedBy}
@@ -49,11 +49,8 @@ module _ (light : Bool) (stmt : ℕ → Stmt) (mate : ℕ → ℕ) (p e f b : �
 
         -- the regions were turned over from t to u
         module _ (u : List ℕ) (same-u : length u ≡ length t) (turned : BranchSwitched b t u) where
-          other-start : setOf u (b + 2 * regionWords) ≡ setOf s₀ b
+          pub other-start : setOf u (b + 2 * regionWords) ≡ setOf s₀ b
           other-start = turned .second ∙ below-set s t b (b + 2 * regionWords) same-t (omega arith) (omega arith) (first .1) ∙ opened .same
-
-          pub other-tidy : Tidy (setOf s₀ b) → Tidy (setOf u (b + 2 * regionWords))
-          other-tidy h = subst Tidy (sym other-start) h
 
           -- the other branch was walked from u to v
           module _ (v : List ℕ) (same-v : length v ≡ length u) (r′ : Answer) (other : WalkedBy light stmt mate r′ (e + 1) f (b + 2 * regionWords) u v) where
@@ -133,8 +130,9 @@ module _ (light : Bool) (p e f b : ℕ) (s₀ : List ℕ) where
     first-branch-refused = first-refused light stmt mate p e f b s₀ (w .s) (w .room) (w .opened) t (w .same-length) r first-here
 
     module _ (told : r ≡ Done) (u : List ℕ) (same-u : length u ≡ length t) (switched : BranchSwitched b t u) where
-      pub other-branch-tidy : Tidy (setOf s₀ b) → Tidy (setOf u (b + 2 * regionWords))
-      other-branch-tidy = other-tidy light stmt mate p e f b s₀ (w .s) (w .room) (w .opened) t (w .same-length) r first-here told u same-u switched
+      -- the other branch begins with the same set
+      pub other-branch-start : setOf u (b + 2 * regionWords) ≡ setOf s₀ b
+      other-branch-start = other-start light stmt mate p e f b s₀ (w .s) (w .room) (w .opened) t (w .same-length) r first-here told u same-u switched
 
       -- the table is as it was
       pub switched-table : tableWords ≤ b → tableOf 0 u ≡ tableOf 0 s₀

@@ -1,6 +1,7 @@
 pub mod Unique
 pub mod ByKind
 pub mod Ways
+pub mod Kept
 pub mod Quick
 pub mod Entered
 pub mod Turns

@@ -9,17 +9,17 @@ use Rattle.model.specs.Code.{Code, done, step, branch, loop}
 use Rattle.model.specs.Conjunct.{Conjuncts, unionOf, limits}
 use Rattle.model.specs.Refusals.{Out, ok, _>>=_, neverSettles}
 use Rattle.model.specs.Sizes.{mostRounds}
-use Rattle.model.specs.TidySets.{Canon, Fine, Tidy}
+use Rattle.model.specs.TidySets.{Canon, Tidy}
 use Rattle.model.specs.Walk.{back, joined, walk}
 use Rattle.model.proofs.walks.DeltaRounds.{Delta, delta-first, delta-again, delta-last, settles-rounds}
-use Rattle.model.proofs.conjuncts.Limits.{limits-inv}
 use Rattle.model.proofs.conjuncts.Remains.{Remains, remains-part}
 use Rattle.model.proofs.basics.Results.{bind-ok, bind-assoc, gives-ok, ok-eq, refused-ok}
 use Rattle.model.proofs.walks.Unlimited.{Comes, Settles, comes-canon, comes-append, comes-step, comes-branch, comes-loop}
 use Rattle.sets.specs.Minus.{minus}
 use Rattle.sets.proofs.Differing.{minus-remains}
 use Rattle.walk.specs.Light.{again, byNew, nextOf, onward, roundsBy, lightly, loopBy}
-use Rattle.walk.proofs.Ways.{rounds-by, by-tidy, rounds-tidy}
+use Rattle.walk.proofs.Ways.{rounds-by}
+use Rattle.walk.proofs.Kept.{by-tidy, rounds-tidy}
 
 module _ (body : Code) (f : Conjuncts → Out Conjuncts) (comes : (S R : Conjuncts) → Canon S → f S ≡ ok R → Comes body S R) (D : Conjuncts) where
   light-settles : (n k : ℕ) (all new R : Conjuncts) → k + n ≡ mostRounds → Delta body D k all new → roundsBy true n f D all new ≡ ok R

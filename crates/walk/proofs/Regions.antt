@@ -1,7 +1,7 @@
 -- Regions of one slice: what is left below a change, and what a union within the limits gives.
-use mathlib.Core.Path.{_≡_, refl, sym, ap, ap₂, subst, _∙_}
+use mathlib.Core.Path.{_≡_, refl, sym, ap, subst, _∙_}
 use mathlib.Core.Bool.{Bool, false}
-use mathlib.Core.List.{List, [], _∷_}
+use mathlib.Core.List.{List}
 use mathlib.Core.Logic.{inl, inr}
 use Prim.Native.Nat.{ℕ, _+_, _-_, _*_, _≤_, _<_}
 use native.Mathlib.Omega.{arith}
@@ -9,22 +9,23 @@ use lib.ListN.{length, getD}
 use borrow.Author.Tests.{lt-ltb, le-ltb}
 use Rattle.model.specs.Code.{Code, Stmt}
 use Rattle.model.specs.Conjunct.{Conjuncts, unionOf, long, limits}
-use Rattle.model.specs.Lists.{All}
 use Rattle.model.specs.Refusals.{Out, ok, refused, tooManyConjuncts}
 use Rattle.model.specs.Sizes.{mostConjuncts, mostNested, mostNodes, mostInside}
 use Rattle.model.specs.Placement.{Laid}
 use Rattle.model.specs.TidySets.{Tidy}
 use Rattle.model.proofs.conjuncts.Canonical.{union-every}
 use Rattle.model.proofs.conjuncts.Limits.{short-each, all-short}
+use Rattle.footprint.specs.Footprints.{CoversSet}
+use Rattle.footprint.specs.declared.Footprint.{Footprint}
 use Rattle.rules.specs.Answers.{answered, Below}
 use Rattle.rules.specs.declared.Answer.the-variants.{Done, Refused}
 use Rattle.rules.specs.declared.Answer.{Answer}
-use Rattle.sets.proofs.Rows.{few-most, set-length, set-same, frame}
+use Rattle.sets.proofs.Rows.{few-most, set-same, frame}
 use Rattle.sets.specs.Region.{regionWords, setOf, Within}
 use Rattle.code_table.proofs.Packs.{table-kept}
 use Rattle.code_table.specs.Table.{tableWords, tableOf, stmtIn, mateIn, KnownBelow, stmts, mates, Knows}
 use Rattle.walk.specs.Light.{walkBy}
-use Rattle.walk.specs.Piece.{Lies, Piece, Ready, WalkedBy}
+use Rattle.walk.specs.Piece.{Lies, Piece, Ready, Flagged, WalkedBy}
 use Rattle.walk.specs.Turn.{BranchOpened, BranchSwitched, RoundsOpened}
 
 -- ---- what lies below
@@ -108,6 +109,14 @@ inner-ready s₀ s depth b f q g e same h d = record {
   behind = omega (arith, g .behind);
   room = omega (arith, g .room);
   tidy = d;
+}
+
+-- with the same set as in the block's own region, which the flags cover
+pub inner-flagged : (m : Footprint) (s₀ s : List ℕ) (depth b f q : ℕ) → Flagged m mostInside 4 s₀ depth b f → tableOf 0 s ≡ tableOf 0 s₀ → length s ≡ length s₀ → q ≤ f
+    → setOf s (b + 2 * regionWords) ≡ setOf s₀ b → Flagged m mostNested 2 s depth (b + 2 * regionWords) q
+inner-flagged m s₀ s depth b f q g e same h k = record {
+  ready = inner-ready s₀ s depth b f q (g .ready) e same h (subst Tidy (sym k) (g .ready .tidy));
+  covers = subst (CoversSet m) (sym k) (g .covers);
 }
 
 -- the words are ready for a block in the piece that they are ready for

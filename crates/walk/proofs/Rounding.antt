@@ -22,7 +22,7 @@ use Rattle.walk.specs.Turn.{Rounded, RoundsOpened, Closing, closedAs, Cl
 use Rattle.walk.specs.declared.Round.the-variants.{Settled, Again, Refused as Never}
 use Rattle.walk.specs.declared.Round.{Round}
 use Rattle.walk.proofs.Regions.{below-self, below-trans, below-less, below-set, below-table, walked-done, walked-refused, lies-on, walked-from}
-use Rattle.walk.proofs.Ways.{TidyNext, next-tidy, by-tidy}
+use Rattle.walk.proofs.Kept.{KeptNext, next-tidy, by-tidy}
 
 -- ---- one round, of which k are over
 
@@ -168,7 +168,7 @@ module _ (light : Bool) (p q b : ℕ) (e s₀ : List ℕ) (f : RoundsFrom b e s�
           next-round a c z =
               let ready = closing c z in
               let tidy =
-              gives-ok TidyNext (nextOf light (setOf s₀ b) (setOf s (b + regionWords)) (setOf t (b + 2 * regionWords)))
+              gives-ok (KeptNext Tidy) (nextOf light (setOf s₀ b) (setOf s (b + regionWords)) (setOf t (b + 2 * regionWords)))
               (again (setOf u (b + regionWords)) (setOf u (b + 2 * regionWords))) (next-as Again a)
               (next-tidy light (setOf s₀ b) (setOf s (b + regionWords)) (setOf t (b + 2 * regionWords)) (subst Tidy (sym (f .opened .same)) (f .tidy))
               (g .round-tidy) (ready .given)) in

@@ -20,7 +20,8 @@ use Rattle.walk.specs.Light.{walkBy}
 use Rattle.walk.specs.Turn.{firstOf, Sole}
 use Rattle.walk.proofs.Entered.{single-some}
 use Rattle.walk.proofs.Unique.{laid-unique}
-use Rattle.walk.proofs.Ways.{by-done, by-append, by-skip, by-tidy}
+use Rattle.walk.proofs.Ways.{by-done, by-append, by-skip}
+use Rattle.walk.proofs.Kept.{by-tidy}
 
 module _ (light : Bool) (stmt : ℕ → Stmt) (mate : ℕ → ℕ) where
   -- ---- the last statement or block

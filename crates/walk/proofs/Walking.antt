@@ -2,21 +2,25 @@
 -- is one law; what the table says is carried from the words before to those after, since nothing before the region changes.
 use mathlib.Core.Bool.{Bool}
 use mathlib.Core.List.{List}
-use mathlib.Core.Path.{_≡_, refl, sym, subst, _∙_}
+use mathlib.Core.Path.{_≡_, refl, subst, _∙_}
 use Prim.Native.Nat.{ℕ, _-_, _≤_, _<_}
 use native.Mathlib.Omega.{arith}
 use lib.ListN.{length}
 use Rattle.model.specs.Sizes.{mostNested}
 use Rattle.code_table.specs.Table.{tableWords, tableOf, stmtIn, mateIn, stmts, mates, Knows}
-use Rattle.footprint.specs.Footprints.{CoversSet, SparedAll, BackTo}
+use Rattle.model.proofs.basics.Results.{gives-ok}
+use Rattle.footprint.specs.Footprints.{CoversSet, Extends, FlagsAll, SparedAll, BackTo}
 use Rattle.footprint.specs.declared.Footprint.{Footprint}
+use Rattle.footprint.proofs.Flags.{speaks-more}
 use Rattle.rules.specs.Answers.{Below}
 use Rattle.rules.specs.declared.Answer.{Answer}
 use Rattle.rules.specs.declared.Answer.the-variants.{Done, Refused}
 use Rattle.sets.specs.Region.{setOf}
-use Rattle.walk.specs.Piece.{Piece, Ready, WalkedBy}
+use Rattle.walk.specs.Light.{walkBy}
+use Rattle.walk.specs.Piece.{Piece, Flagged, WalkedBy}
 use Rattle.walk.specs.Turn.{firstOf, Single}
 use Rattle.walk.proofs.Regions.{below-self, below-trans, below-table, lies-on, knows-on, knows-less, walked-done, walked-refused}
+use Rattle.walk.proofs.Kept.{by-covers}
 use Rattle.walk.proofs.Turns.{Stands, stands-first, stands-done, stands-due, stands-bounds, stands-turned, stands-refused, stands-passed, stands-over}
 
 module _ (light : Bool) (s₀ : List ℕ) (depth b p q : ℕ) where
@@ -28,19 +32,23 @@ module _ (light : Bool) (s₀ : List ℕ) (depth b p q : ℕ) where
     pub covers : CoversSet m (setOf s b)
     pub stands : Stands light (stmts s₀) (mates s₀) depth p q r (setOf s₀ b) (setOf s b)
 
-  pub walking-first : Ready mostNested 2 s₀ depth b q → Piece s₀ depth p q → (m : Footprint) → CoversSet m (setOf s₀ b) → Walking s₀ m q
-  walking-first g c m k = record {
+  pub walking-first : (m : Footprint) → Flagged m mostNested 2 s₀ depth b q → Piece s₀ depth p q → Walking s₀ m q
+  walking-first m g c = record {
     most = omega arith;
     same-length = refl;
     below = below-self b s₀;
     table = refl;
-    covers = k;
-    stands = stands-first light (stmts s₀) (mates s₀) depth p q (setOf s₀ b) (c .code) (c .lies) (c .nested) (g .tidy);
+    covers = g .covers;
+    stands = stands-first light (stmts s₀) (mates s₀) depth p q (setOf s₀ b) (c .code) (c .lies) (c .nested) (g .ready .tidy);
   }
 
   module _ (s : List ℕ) (m : Footprint) (r : ℕ) (w : Walking s m r) where
     pub knows-here : (l : ℕ) → l ≤ r → Knows q s₀ → Knows l s
     knows-here l h k = knows-on s₀ s (w .table) l (knows-less l q s₀ (omega (arith, w .most)) k)
+
+    -- other flags that cover the set
+    pub renews : (m′ : Footprint) → CoversSet m′ (setOf s b) → Walking s m′ r
+    renews m′ c = record { most = w .most; same-length = w .same-length; below = w .below; table = w .table; covers = c; stands = w .stands }
 
     -- statements that change nothing that the set speaks of are passed over
     pub passes-over : (l : ℕ) → BackTo m (stmts s) p r l → Walking s m l
@@ -100,14 +108,20 @@ module _ (light : Bool) (s₀ : List ℕ) (depth b p q : ℕ) where
           to-t,
         )
 
-        pub turn-done : a ≡ Done → tableWords ≤ b → b ≤ length s₀ → length t ≡ length s → (m′ : Footprint) → CoversSet m′ (setOf t b) → Walking t m′ l
-        turn-done e h k same-t m′ c = record {
-          most = omega (arith, bounds .1, w .most);
-          same-length = same-t ∙ w .same-length;
-          below = to-t;
-          table = below-table b s₀ t h k (same-t ∙ w .same-length) to-t;
-          covers = c;
-          stands =
-              stands-turned light (stmts s₀) (mates s₀) depth p q l r (setOf s₀ b) (setOf s b) (w .stands) more first-here (setOf t b)
-              (walked-done light (stmts s₀) (mates s₀) a l r b s t here e);
-        }
+        -- the flags are those from before, with those of what it may bring
+        pub turn-done : a ≡ Done → tableWords ≤ b → b ≤ length s₀ → length t ≡ length s → (m′ : Footprint) → Extends m m′ × FlagsAll m′ (stmts t) l r → Walking t m′ l
+        turn-done e h k same-t m′ f =
+            let table = below-table b s₀ t h k (same-t ∙ w .same-length) to-t in
+            let given = walked-done light (stmts s₀) (mates s₀) a l r b s t here e in
+            let d = stands-due light (stmts s₀) (mates s₀) depth p q l r (setOf s₀ b) (setOf s b) (w .stands) more first-here in
+            record {
+              most = omega (arith, bounds .1, w .most);
+              same-length = same-t ∙ w .same-length;
+              below = to-t;
+              table = table;
+              covers =
+                  gives-ok (CoversSet m′) (walkBy light (d .0) (setOf s b)) (setOf t b) (given (d .0) (d .1))
+                  (by-covers light m′ (stmts s₀) (mates s₀) (d .0) l r (d .1) (subst (λ k. FlagsAll m′ (stmtIn k) l r) table (f .1)) (setOf s b)
+                  (speaks-more m m′ (setOf s b) (f .0) (w .covers)));
+              stands = stands-turned light (stmts s₀) (mates s₀) depth p q l r (setOf s₀ b) (setOf s b) (w .stands) more first-here (setOf t b) given;
+            }

@@ -1,6 +1,5 @@
 -- The two ways of a walk, by the definition and light: the laws that they have in common.
 use mathlib.Core.Bool.{Bool, true, false, _||_, cond}
-use mathlib.Core.List.{[], _∷_}
 use mathlib.Core.Path.{_≡_, refl, sym, ap, _∙_}
 use Prim.Native.Nat.{ℕ, zero, suc}
 use Rattle.model.specs.Code.{Instr, Code, done, step, branch, loop}
@@ -13,15 +12,13 @@ use Rattle.model.specs.Touch.{some, writes, touches}
 use Rattle.model.specs.Walk.{back, joined, rounds, walk}
 use Rattle.model.proofs.conjuncts.Canonical.{union-idem}
 use Rattle.model.proofs.conjuncts.Limits.{fine-limits}
-use Rattle.model.proofs.conjuncts.Remains.{remains-tidy}
-use Rattle.model.proofs.basics.Results.{Gives, gives-bind, bind-self, bind-assoc}
+use Rattle.model.proofs.basics.Results.{bind-self, bind-assoc}
 use Rattle.model.proofs.walks.Skip.{walk-skip}
 use Rattle.model.proofs.basics.Tests.{case, or-left, or-right}
-use Rattle.model.proofs.walks.Tidied.{union-tidy, back-tidy, walk-tidy}
 use Rattle.model.proofs.walks.Walks.{walk-append, back-piece, joined-piece, rounds-piece}
 use Rattle.sets.specs.Minus.{minus}
-use Rattle.sets.proofs.Differing.{minus-remains, minus-self}
-use Rattle.walk.specs.Light.{Next, settled, again, byAll, byNew, nextOf, onward, roundsBy, lightly, walkBy, loopBy}
+use Rattle.sets.proofs.Differing.{minus-self}
+use Rattle.walk.specs.Light.{Next, settled, again, byNew, onward, roundsBy, lightly, walkBy, loopBy}
 
 -- ---- the rounds of the definition
 
@@ -37,52 +34,6 @@ rounds-by body (suc n) D S = λ i. body S >>= λ B. one (λ U. rounds-by body n 
         case (same S U) (λ z. _≡_ {A = Out Conjuncts} (elim z [ true ↦ ok U | false ↦ rounds n body D U ]) (onward (roundsBy false n body D) (cond z (settled U) (again U U))))
         (λ p. refl) (λ p. ih U)
     one ih (refused k) = refl
-
--- ---- tidy sets
-
--- every set of a round's end is tidy
-abbrev pub TidyNext : Next → Type 0
-TidyNext (settled R) = Tidy R
-TidyNext (again S X) = Tidy S × Tidy X
-
-pub next-tidy : (light : Bool) (D S B : Conjuncts) → Tidy D → Tidy S → Tidy B → Gives TidyNext (nextOf light D S B)
-next-tidy true D S B d s b = go (minus B S) (remains-tidy (minus B S) B S (minus-remains B S (b .canon)) b)
-  where
-    go : (N : Conjuncts) → Tidy N → Gives TidyNext (byNew S N)
-    go [] t = s
-    go (e ∷ N) t = gives-bind Tidy TidyNext (limits (unionOf (e ∷ N) S)) (λ U. ok (again U (e ∷ N))) (union-tidy (e ∷ N) S t s) (λ U u. (u, t))
-next-tidy false D S B d s b =
-    gives-bind Tidy TidyNext (limits (unionOf D B)) (λ U. ok (cond (same S U) (settled U) (again U U))) (union-tidy D B d b) (λ U u.
-    case (same S U) (λ z. TidyNext (cond z (settled U) (again U U))) (λ p. u) (λ p. (u, u)))
-
-module _ (light : Bool) (body : Conjuncts → Out Conjuncts) (keeps : (S : Conjuncts) → Tidy S → Gives Tidy (body S)) (D : Conjuncts) (d : Tidy D) where
-  pub rounds-tidy : (n : ℕ) (S X : Conjuncts) → Tidy S → Tidy X → Gives Tidy (roundsBy light n body D S X)
-  unfolding roundsBy
-  rounds-tidy zero S X s x = tt
-  rounds-tidy (suc n) S X s x =
-      gives-bind Tidy Tidy (body X) (λ B. nextOf light D S B >>= onward (roundsBy light n body D)) (keeps X x) (λ B b.
-      gives-bind TidyNext Tidy (nextOf light D S B) (onward (roundsBy light n body D)) (next-tidy light D S B d s b) (next (rounds-tidy n)))
-    where
-      next : ((S X : Conjuncts) → Tidy S → Tidy X → Gives Tidy (roundsBy light n body D S X)) → (N : Next) → TidyNext N
-          → Gives Tidy (onward (roundsBy light n body D) N)
-      next ih (settled R) t = t
-      next ih (again S′ X′) t = ih S′ X′ (t .0) (t .1)
-
-lightly-tidy : (c : Code) (S : Conjuncts) → Tidy S → Gives Tidy (lightly c S)
-unfolding lightly
-lightly-tidy done S t = t
-lightly-tidy (step l i rest) S t = gives-bind Tidy Tidy (lightly rest S) (back l i) (lightly-tidy rest S t) (λ D d. back-tidy l i D)
-lightly-tidy (branch l v y n rest) S t =
-    gives-bind Tidy Tidy (lightly rest S) (joined (lightly y) (lightly n)) (lightly-tidy rest S t) (λ D d.
-    gives-bind Tidy Tidy (lightly y D) (λ A. lightly n D >>= λ B. limits (unionOf A B)) (lightly-tidy y D d) (λ A a.
-    gives-bind Tidy Tidy (lightly n D) (λ B. limits (unionOf A B)) (lightly-tidy n D d) (λ B b. union-tidy A B a b)))
-lightly-tidy (loop l v body rest) S t =
-    gives-bind Tidy Tidy (lightly rest S) (λ D. roundsBy true mostRounds (lightly body) D D D) (lightly-tidy rest S t) (λ D d.
-    rounds-tidy true (lightly body) (lightly-tidy body) D d mostRounds D D d d)
-
-pub by-tidy : (light : Bool) (c : Code) (S : Conjuncts) → Tidy S → Gives Tidy (walkBy light c S)
-by-tidy true c S t = lightly-tidy c S t
-by-tidy false c S t = walk-tidy c S t
 
 -- ---- pieces
 

@@ -11,6 +11,8 @@ use Rattle.model.specs.TidySets.{Tidy}
 use Rattle.model.specs.Walk.{walk}
 use Rattle.code_table.specs.Table.{tableWords, stmts, mates, Knows}
 use Rattle.sets.specs.Region.{regionWords, setOf}
+use Rattle.footprint.specs.Footprints.{CoversSet}
+use Rattle.footprint.specs.declared.Footprint.{Footprint}
 use Rattle.rules.specs.Answers.{answered, Below}
 use Rattle.rules.specs.declared.Answer.{Answer}
 use Rattle.walk.specs.Light.{walkBy}
@@ -33,6 +35,11 @@ pub record Ready (most regions : ℕ) (s : List ℕ) (depth b q : ℕ) : Type 0 
   pub behind : tableWords ≤ b
   pub room : b + (2 * depth + regions) * regionWords ≤ length s
   pub tidy : Tidy (setOf s b)
+
+-- the same, with flags that cover the set
+pub record Flagged (m : Footprint) (most regions : ℕ) (s : List ℕ) (depth b q : ℕ) : Type 0 where
+  pub ready : Ready most regions s depth b q
+  pub covers : CoversSet m (setOf s b)
 
 -- the walk, light or not, of the piece on the labels from p up to q, on the region at b, that answered r and took s to t
 abbrev pub WalkedBy : (light : Bool) → (ℕ → Stmt) → (ℕ → ℕ) → Answer → (p q b : ℕ) → (s t : List ℕ) → Type 0

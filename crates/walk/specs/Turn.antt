@@ -11,11 +11,11 @@ use Rattle.model.specs.Refusals.{Out, ok, refused}
 use Rattle.model.specs.Nesting.{Nested}
 use Rattle.model.specs.TidySets.{Tidy}
 use Rattle.model.specs.Walk.{joined}
-use Rattle.sets.specs.Region.{regionWords, setOf}
+use Rattle.sets.specs.Region.{regionWords, setOf, TwoRegions}
 use Rattle.rules.specs.Answers.{answered, Below}
 use Rattle.rules.specs.declared.Answer.{Answer}
 use Rattle.walk.specs.Light.{Next, settled, again, nextOf, walkBy, loopBy}
-use Rattle.walk.specs.Piece.{Lies}
+use Rattle.walk.specs.Piece.{Lies, Piece}
 use Rattle.walk.specs.declared.Round.the-variants.{Settled, Again, Refused}
 use Rattle.walk.specs.declared.Round.{Round}
 
@@ -41,6 +41,11 @@ pub record Single (s : List ℕ) (depth p q : ℕ) : Type 0 where
   pub nested : Nested depth code
   pub sole : Sole code
 
+-- the two branches of an if lie on the labels from p up to e and from e + 1 up to f
+pub record TwoPieces (s : List ℕ) (depth p e f : ℕ) : Type 0 where
+  pub first : Piece s depth p e
+  pub other : Piece s depth (e + 1) f
+
 -- the branches of an if on the labels from p up to e and from e + 1 up to f, on the region at b, that answered r and took s to t
 abbrev pub Branches : (light : Bool) → Answer → (p e f b : ℕ) → (s t : List ℕ) → Type 0
 Branches light r p e f b s t =
@@ -55,6 +60,20 @@ pub record Rounded (light : Bool) (r : Answer) (p q b : ℕ) (s t : List ℕ) : 
 -- the same, where it is in the region at b
 abbrev pub Loops : (light : Bool) → Answer → (p q b : ℕ) → (s t : List ℕ) → Type 0
 Loops light r p q b s t = ((c : Code) → Lies s c p q → loopBy light c (setOf s b) ≡ answered r (setOf t b)) × Below b s t
+
+-- ---- what the working functions are given
+
+-- two regions apart with tidy sets, of which the first takes the union
+pub record Uniting (s : List ℕ) (to from : ℕ) : Type 0 where
+  pub apart : TwoRegions s to from
+  pub added : Tidy (setOf s from)
+  pub own : Tidy (setOf s to)
+
+-- so many regions from that at b on, with tidy sets in two of them
+pub record TwoTidy (regions : ℕ) (s : List ℕ) (b one other : ℕ) : Type 0 where
+  pub room : b + regions * regionWords ≤ length s
+  pub tidy-one : Tidy (setOf s one)
+  pub tidy-other : Tidy (setOf s other)
 
 -- ---- what the working functions leave: s became t
 

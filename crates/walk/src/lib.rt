@@ -10,12 +10,12 @@ ghost use Prim.Native.Nat.{_+_, _*_, _≤_, _<_};
 ghost use lib.ListN.{length};
 ghost use Rattle.model.specs.Conjunct.{unionOf, limits};
 ghost use Rattle.model.specs.Sizes.{mostStatements, mostNested, mostInside};
-ghost use Rattle.model.specs.TidySets.{Tidy};
 ghost use Rattle.code_table.specs.Table.{tableWords, stmts, mates};
-ghost use Rattle.sets.specs.Region.{setOf, Within, TwoRegions, regionWords};
+ghost use Rattle.sets.specs.Region.{setOf, Within, regionWords};
 ghost use Rattle.rules.specs.Answers.{answered, Below};
-ghost use Rattle.walk.specs.Piece.{Piece, Ready, Walked, WalkedBy};
-ghost use Rattle.walk.specs.Turn.{firstOf, Single, Branches, Rounded, Loops, BranchOpened, BranchSwitched, RoundsOpened, Closing, Closed, TakenOver};
+ghost use Rattle.walk.specs.Piece.{Piece, Ready, Flagged, Walked, WalkedBy};
+ghost use Rattle.walk.specs.Turn.{firstOf, Single, TwoPieces, Branches, Rounded, Loops, Uniting, TwoTidy, BranchOpened, BranchSwitched, RoundsOpened, Closing, Closed, TakenOver};
+use footprint::Footprint;
 use rules::Answer;
 
 // The rounds of a while in which its set has to settle.
@@ -32,7 +32,7 @@ enum Round {
 
 // The union with the set of another region, within the limits.
 fn unite(s: &mut [u64], to: usize, from: usize) -> Answer
-    requires { ⌜ TwoRegions (now s) to from × Tidy (setOf (now s) from) × Tidy (setOf (now s) to) ⌝ }
+    requires { ⌜ Uniting (now s) to from ⌝ }
     ensures { λ r. ⌜ (limits (unionOf (setOf (now (s .entry)) from) (setOf (now (s .entry)) to)) ≡ answered r (setOf (now (s .exit)) to)) × Within to (now (s .entry)) (now (s .exit)) ⌝ }
 {
     if sets::union(s, to, from) {
@@ -62,9 +62,7 @@ fn switch_branch(s: &mut [u64], b: usize)
 
 // After the branches of an if: the union of what they gave, in the region at b.
 fn close_branch(s: &mut [u64], b: usize) -> Answer
-    requires { ⌜
-        (b + 3 * regionWords ≤ length (now s)) × Tidy (setOf (now s) (b + regionWords)) × Tidy (setOf (now s) (b + 2 * regionWords))
-        ⌝ }
+    requires { ⌜ TwoTidy 3 (now s) b (b + regionWords) (b + 2 * regionWords) ⌝ }
     ensures { λ r. ⌜
         (limits (unionOf (setOf (now (s .entry)) (b + regionWords)) (setOf (now (s .entry)) (b + 2 * regionWords))) ≡ answered r (setOf (now (s .exit)) b))
         × Below b (now (s .entry)) (now (s .exit))
@@ -94,7 +92,7 @@ fn open_rounds(s: &mut [u64], b: usize)
 // At the end of a round from the set of the first region after that at b, where the second has what
 // the body gave: the set that it is joined with is that of the region at b.
 fn join_start(s: &mut [u64], b: usize) -> Round
-    requires { ⌜ (b + 3 * regionWords ≤ length (now s)) × Tidy (setOf (now s) b) × Tidy (setOf (now s) (b + 2 * regionWords)) ⌝ }
+    requires { ⌜ TwoTidy 3 (now s) b b (b + 2 * regionWords) ⌝ }
     ensures { λ r. ⌜ Closed false r b (now (s .entry)) (now (s .exit)) ⌝ }
 {
     let last = b + sets::REGION;
@@ -116,9 +114,7 @@ fn join_start(s: &mut [u64], b: usize) -> Round
 // At the end of a light round, where the second region after that at b has what the body gave: what of
 // it the first has not is new there, and is walked next. The third is room to work in.
 fn join_new(s: &mut [u64], b: usize) -> Round
-    requires { ⌜
-        (b + 4 * regionWords ≤ length (now s)) × Tidy (setOf (now s) (b + regionWords)) × Tidy (setOf (now s) (b + 2 * regionWords))
-        ⌝ }
+    requires { ⌜ TwoTidy 4 (now s) b (b + regionWords) (b + 2 * regionWords) ⌝ }
     ensures { λ r. ⌜ Closed true r b (now (s .entry)) (now (s .exit)) ⌝ }
 {
     let all = b + sets::REGION;
@@ -187,17 +183,18 @@ fn branch(
     p: usize,
     e: usize,
     f: usize,
+    m: Footprint,
 ) -> Answer
-    requires { ⌜ Ready mostInside 4 (now s) depth b f × Piece (now s) depth p e × Piece (now s) depth (e + 1) f ⌝ }
+    requires { ⌜ Flagged m mostInside 4 (now s) depth b f × TwoPieces (now s) depth p e f ⌝ }
     ensures { λ r. ⌜ Branches light r p e f b (now (s .entry)) (now (s .exit)) ⌝ }
 {
     open_branch(s, b);
     let inner = b + 2 * sets::REGION;
-    match walk_in(s, depth, light, inner, p, e) {
+    match walk_with(s, depth, light, inner, p, e, m) {
         Answer::Refused(n) => Answer::Refused(n),
         Answer::Done => {
             switch_branch(s, b);
-            match walk_in(s, depth, light, inner, e + 1, f) {
+            match walk_with(s, depth, light, inner, e + 1, f, m) {
                 Answer::Refused(n) => Answer::Refused(n),
                 Answer::Done => close_branch(s, b),
             }
@@ -270,8 +267,16 @@ fn repeat(s: &mut [u64], depth: usize, light: bool, b: usize, p: usize, q: usize
 }
 
 // One statement or block, on the labels from p up to q.
-fn turn(s: &mut [u64], depth: usize, light: bool, b: usize, p: usize, q: usize) -> Answer
-    requires { ⌜ Ready mostNested 2 (now s) depth b q × Single (now s) depth p q ⌝ }
+fn turn(
+    s: &mut [u64],
+    depth: usize,
+    light: bool,
+    b: usize,
+    p: usize,
+    q: usize,
+    m: Footprint,
+) -> Answer
+    requires { ⌜ Flagged m mostNested 2 (now s) depth b q × Single (now s) depth p q ⌝ }
     ensures { λ r. ⌜ WalkedBy light (stmts (now (s .entry))) (mates (now (s .entry))) r p q b (now (s .entry)) (now (s .exit)) ⌝ }
 {
     let d = code_table::fetch(s, 0, p);
@@ -279,38 +284,57 @@ fn turn(s: &mut [u64], depth: usize, light: bool, b: usize, p: usize, q: usize) 
     match kind {
         11 => {
             let other = code_table::mate(s, 0, p);
-            branch(s, depth - 1, light, b, p + 1, other, q - 1)
+            branch(s, depth - 1, light, b, p + 1, other, q - 1, m)
         }
         14 => repeat(s, depth - 1, light, b, p + 1, q - 1),
         _ => rules::rule(s, b, p as u64, d),
     }
 }
 
-// The walk, light or not, of the piece on the labels from p up to q on the set of the region at b. From
-// that region on, 2 * depth + 2 regions are its own.
-fn walk_in(s: &mut [u64], depth: usize, light: bool, b: usize, p: usize, q: usize) -> Answer
-    requires { ⌜ Ready mostNested 2 (now s) depth b q × Piece (now s) depth p q ⌝ }
+// The walk, light or not, of the piece on the labels from p up to q on the set of the region at b, which the
+// flags cover. What a statement or a block may bring is added to them; they are made anew where that has made
+// them too many. From that region on, 2 * depth + 2 regions are its own.
+fn walk_with(
+    s: &mut [u64],
+    depth: usize,
+    light: bool,
+    b: usize,
+    p: usize,
+    q: usize,
+    flags: Footprint,
+) -> Answer
+    requires { ⌜ Flagged flags mostNested 2 (now s) depth b q × Piece (now s) depth p q ⌝ }
     ensures { λ r. ⌜ WalkedBy light (stmts (now (s .entry))) (mates (now (s .entry))) r p q b (now (s .entry)) (now (s .exit)) ⌝ }
 {
-    let mut m = footprint::of_set(s, b);
+    let mut m = flags;
     let mut r = footprint::spared_plain(s, m, p, q);
     while p < r {
         let l = beginning(s, r - 1);
+        m = footprint::renewed(s, m, b, l, r);
         if footprint::spares_all(s, m, l, r) {
             r = footprint::spared_plain(s, m, p, l);
         } else {
-            match turn(s, depth, light, b, l, r) {
+            match turn(s, depth, light, b, l, r, m) {
                 Answer::Refused(n) => {
                     return Answer::Refused(n);
                 }
                 Answer::Done => {
-                    m = footprint::of_set(s, b);
+                    m = footprint::with_statements(s, m, l, r);
                     r = footprint::spared_plain(s, m, p, l);
                 }
             }
         }
     }
     Answer::Done
+}
+
+// The same, with the flags of the set.
+fn walk_in(s: &mut [u64], depth: usize, light: bool, b: usize, p: usize, q: usize) -> Answer
+    requires { ⌜ Ready mostNested 2 (now s) depth b q × Piece (now s) depth p q ⌝ }
+    ensures { λ r. ⌜ WalkedBy light (stmts (now (s .entry))) (mates (now (s .entry))) r p q b (now (s .entry)) (now (s .exit)) ⌝ }
+{
+    let m = footprint::of_set(s, b);
+    walk_with(s, depth, light, b, p, q, m)
 }
 
 // The walk of the piece on the labels from p up to q on the set of the region at b. From that region

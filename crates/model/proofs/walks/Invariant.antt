@@ -96,11 +96,11 @@ module _ (P : Conj → Type 0) where
   limits-every : (S : Conjuncts) → All P S → Gives (All P) (limits S)
   limits-every S h = limits-cases (Gives (All P)) S tt tt (λ fine. h)
 
-  both-every : (R S : Conjuncts) → All P R → All P S → Gives (All P) (limits (unionOf R S))
+  pub both-every : (R S : Conjuncts) → All P R → All P S → Gives (All P) (limits (unionOf R S))
   both-every R S h k = limits-every (unionOf R S) (union-every P R S h k)
 
   -- from one that each conjunct has before the rule
-  rule-every : ((e : Conj) → P e → P (renumber e)) → (Q : Conj → Type 0) (f : Conj → List Conj) → ((e : Conj) → Q e → All P (f e))
+  pub rule-every : ((e : Conj) → P e → P (renumber e)) → (Q : Conj → Type 0) (f : Conj → List Conj) → ((e : Conj) → Q e → All P (f e))
       → (S : Conjuncts) → All Q S → Gives (All P) (limits (gather f S))
   rule-every again Q f k S h = limits-every (gather f S) (gather-every P f Q (λ e q. all-map P renumber (f e) (all-imp again (f e) (k e q))) S h)
 

@@ -1,6 +1,5 @@
 -- `walk::close_branch` meets its contract.
 use mathlib.Core.Logic.{inl, inr}
-use mathlib.Core.Path.{_≡_}
 use Prim.Native.Nat.{_+_, _*_}
 use native.Mathlib.Omega.{arith}
 use Rattle.model.specs.Conjunct.{unionOf, limits}
@@ -28,7 +27,9 @@ add-other : tie.Need-add-other
 add-other c = search needs
 
 unite-requires : tie.Need-unite-requires
-unite-requires c κs = (record { first = search needs; second = search needs; apart = inr (omega arith) }, c .before .before .pre .1, c .before .before .pre .2)
+unite-requires c κs =
+    let g = c .before .before .pre in
+    record { apart = record { first = search needs; second = search needs; apart = inr (omega arith) }; added = g .tidy-one; own = g .tidy-other }
 
 enum-known-united : tie.Need-enum-known-united
 enum-known-united c = search needs
@@ -59,7 +60,7 @@ returns-2 c =
     let w = c .before .before .copy in
     let o = limits (unionOf (setOf (g .args .s .now) (g .args .b + regionWords)) (setOf (g .args .s .now) (g .args .b + 2 * regionWords))) in
     let e = answer-done (u .result) o (setOf (u .last .0) (g .args .b + 2 * regionWords)) (u .ensures .0) (d .enum-told .given .1) in
-    branch-closed (g .args .s .now) (u .last .0) (g .args .b) (g .pre .0) (u .kept .0) (w .last .0) (w .kept .0) o e (u .ensures .1) (w .ensures .0)
+    branch-closed (g .args .s .now) (u .last .0) (g .args .b) (g .pre .room) (u .kept .0) (w .last .0) (w .kept .0) o e (u .ensures .1) (w .ensures .0)
     (w .ensures .1)
 
 pub close-branch-spec : {M : Type 1} → statement M

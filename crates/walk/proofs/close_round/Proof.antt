@@ -7,7 +7,7 @@ use Rattle.walk.proofs.close_round.Statement.{statement}
 use Rattle.walk.proofs.close_round.Tie as tie
 
 join-new-requires : tie.Need-join-new-requires
-join-new-requires c κs = let g = c .before .before .before .pre in (g .room, g .round, g .given)
+join-new-requires c κs = let g = c .before .before .before .pre in record { room = g .room; tidy-one = g .round; tidy-other = g .given }
 
 same-length : tie.Need-same-length
 same-length c = search needs
@@ -19,7 +19,7 @@ returns c =
     subst (λ z. Closed z (j .join-new .result) (g .b) (g .s .now) (j .join-new .last .0)) (sym (j .before .before .if1 .taken)) (j .join-new .ensures)
 
 join-start-requires : tie.Need-join-start-requires
-join-start-requires c κs = let g = c .before .before .before .pre in (omega (arith, g .room), g .start, g .given)
+join-start-requires c κs = let g = c .before .before .before .pre in record { room = omega (arith, g .room); tidy-one = g .start; tidy-other = g .given }
 
 same-length-2 : tie.Need-same-length-2
 same-length-2 c = search needs

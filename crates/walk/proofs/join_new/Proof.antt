@@ -1,6 +1,5 @@
 -- `walk::join_new` meets its contract.
 use mathlib.Core.Logic.{inl, inr}
-use mathlib.Core.Path.{_≡_, sym, _∙_}
 use Prim.Native.Nat.{_+_, _*_, _<_}
 use native.Mathlib.Omega.{arith}
 use lib.ListN.{length}
@@ -55,7 +54,7 @@ subtract-requires c κs =
     record {
       taken = record { first = search needs; second = search needs; apart = inr (omega arith) };
       left-out = record { first = search needs; second = search needs; apart = inr (omega arith) };
-      canon = g .pre .1 .canon;
+      canon = g .pre .tidy-one .canon;
     }
 
 size-requires : tie.Need-size-requires
@@ -68,16 +67,16 @@ returns : tie.Need-returns
 returns c =
     let d = difference (c .before) in
     let g = entered d in
-    nothing-new (g .args .s .now) (d .subtract .last .0) (g .args .b) (g .pre .0) (d .subtract .kept .0) (d .subtract .ensures .0) (d .subtract .ensures .1)
+    nothing-new (g .args .s .now) (d .subtract .last .0) (g .args .b) (g .pre .room) (d .subtract .kept .0) (d .subtract .ensures .0) (d .subtract .ensures .1)
     (omega (arith, c .before .size .ensures .0, c .if1 .taken))
 
 unite-requires : tie.Need-unite-requires
 unite-requires c κs =
     let d = difference (c .before .before) in
     let g = entered d in
-    let new = new-tidy (g .args .s .now) (d .subtract .last .0) (g .args .b) (g .pre .0) (d .subtract .kept .0) (d .subtract .ensures .0) (d .subtract .ensures .1) (g .pre .2) in
-    let all = all-tidy (g .args .s .now) (d .subtract .last .0) (g .args .b) (g .pre .0) (d .subtract .kept .0) (d .subtract .ensures .0) (d .subtract .ensures .1) (g .pre .1) in
-    (record { first = search needs; second = search needs; apart = inl (omega arith) }, new, all)
+    let new = new-tidy (g .args .s .now) (d .subtract .last .0) (g .args .b) (g .pre .room) (d .subtract .kept .0) (d .subtract .ensures .0) (d .subtract .ensures .1) (g .pre .tidy-other) in
+    let all = all-tidy (g .args .s .now) (d .subtract .last .0) (g .args .b) (g .pre .room) (d .subtract .kept .0) (d .subtract .ensures .0) (d .subtract .ensures .1) (g .pre .tidy-one) in
+    record { apart = record { first = search needs; second = search needs; apart = inl (omega arith) }; added = new; own = all }
 
 enum-known-united : tie.Need-enum-known-united
 enum-known-united c = search needs
@@ -96,7 +95,7 @@ returns-2 c =
     let u = refused-union (c .before) in
     let d = difference (sized u) in
     let g = entered d in
-    new-refused (g .args .s .now) (d .subtract .last .0) (g .args .b) (g .pre .0) (d .subtract .kept .0) (d .subtract .ensures .0) (d .subtract .ensures .1)
+    new-refused (g .args .s .now) (d .subtract .last .0) (g .args .b) (g .pre .room) (d .subtract .kept .0) (d .subtract .ensures .0) (d .subtract .ensures .1)
     (some (u .before .before)) (u .unite .last .0) (u .unite .kept .0) (u .unite .ensures .1) _
     (answer-refused (u .unite .result) _ _ _ (u .unite .ensures .0) (c .before .united .given .1))
 
@@ -110,7 +109,7 @@ returns-3 c =
     let u = given-union e in
     let d = difference (sized u) in
     let g = entered d in
-    new-again (g .args .s .now) (d .subtract .last .0) (g .args .b) (g .pre .0) (d .subtract .kept .0) (d .subtract .ensures .0) (d .subtract .ensures .1)
+    new-again (g .args .s .now) (d .subtract .last .0) (g .args .b) (g .pre .room) (d .subtract .kept .0) (d .subtract .ensures .0) (d .subtract .ensures .1)
     (some (u .before .before)) (u .unite .last .0) (u .unite .kept .0) (u .unite .ensures .1)
     (answer-done (u .unite .result) _ _ (u .unite .ensures .0) (e .enum-told .given .1)) (w .copy .last .0) (w .copy .kept .0) (w .copy .ensures .0) (w .copy .ensures .1)
 

@@ -37,7 +37,9 @@ add-next : tie.Need-add-next
 add-next c = search needs
 
 unite-requires : tie.Need-unite-requires
-unite-requires c κs = (record { first = search needs; second = search needs; apart = inr (omega arith) }, c .before .before .pre .1, c .before .before .pre .2)
+unite-requires c κs =
+    let g = c .before .before .pre in
+    record { apart = record { first = search needs; second = search needs; apart = inr (omega arith) }; added = g .tidy-one; own = g .tidy-other }
 
 enum-known-united : tie.Need-enum-known-united
 enum-known-united c = search needs
@@ -69,7 +71,7 @@ returns c =
     let d = given w in
     let u = given-union d in
     let g = entered u in
-    start-settled (g .args .s .now) (u .unite .last .0) (g .args .b) (g .pre .0) (u .unite .kept .0) (u .unite .ensures .1) (united d) (w .copy .last .0) (w .copy .kept .0)
+    start-settled (g .args .s .now) (u .unite .last .0) (g .args .b) (g .pre .room) (u .unite .kept .0) (u .unite .ensures .1) (united d) (w .copy .last .0) (w .copy .kept .0)
     (w .copy .ensures .0) (w .copy .ensures .1) (sym (w .before .before .equal .ensures) ∙ c .if1 .taken)
 
 same-length-2 : tie.Need-same-length-2
@@ -79,7 +81,7 @@ returns-2 : tie.Need-returns-2
 returns-2 c =
     let u = refused-union (c .before) in
     let g = entered u in
-    start-refused (g .args .s .now) (u .unite .last .0) (g .args .b) (g .pre .0) (u .unite .kept .0) (u .unite .ensures .1) _
+    start-refused (g .args .s .now) (u .unite .last .0) (g .args .b) (g .pre .room) (u .unite .kept .0) (u .unite .ensures .1) _
     (answer-refused (u .unite .result) _ _ _ (u .unite .ensures .0) (c .before .united .given .1))
 
 same-length-3 : tie.Need-same-length-3
@@ -91,7 +93,7 @@ returns-3 c =
     let d = given w in
     let u = given-union d in
     let g = entered u in
-    start-again (g .args .s .now) (u .unite .last .0) (g .args .b) (g .pre .0) (u .unite .kept .0) (u .unite .ensures .1) (united d) (w .copy .last .0) (w .copy .kept .0)
+    start-again (g .args .s .now) (u .unite .last .0) (g .args .b) (g .pre .room) (u .unite .kept .0) (u .unite .ensures .1) (united d) (w .copy .last .0) (w .copy .kept .0)
     (w .copy .ensures .0) (w .copy .ensures .1) (sym (w .before .before .equal .ensures) ∙ c .if1 .left)
 
 pub join-start-spec : {M : Type 1} → statement M

@@ -1,5 +1,5 @@
 -- `walk::unite` meets its contract.
-use mathlib.Core.Path.{_≡_, sym, ap, subst, _∙_}
+use mathlib.Core.Path.{sym, ap, subst, _∙_}
 use Prim.Native.Nat.{_≤_}
 use lib.ListN.{length}
 use Rattle.model.specs.Conjunct.{unionOf}
@@ -30,7 +30,7 @@ returns c =
     let S = setOf (g .args .s .now) (g .args .to) in
     let e = subst (λ r. Joined r (g .args .from) (g .args .to) (g .args .s .now) (u .last .0)) (c .if1 .taken) (u .ensures .0) in
     let few : length (unionOf R S) ≤ mostConjuncts = subst (λ x. length x ≤ mostConjuncts) e (set-few (u .last .0) (g .args .to)) in
-    (union-within R S (g .pre .1) (g .pre .2) few ∙ ap ok (sym e), u .ensures .1)
+    (union-within R S (g .pre .added) (g .pre .own) few ∙ ap ok (sym e), u .ensures .1)
 
 same-length-2 : tie.Need-same-length-2
 same-length-2 c = search needs
@@ -40,7 +40,7 @@ returns-2 c =
     let g = entered (c .before .before .before) in
     let u = c .before .before .before .union in
     let e = subst (λ r. Joined r (g .args .from) (g .args .to) (g .args .s .now) (u .last .0)) (c .if1 .left) (u .ensures .0) in
-    (union-over (setOf (g .args .s .now) (g .args .from)) (setOf (g .args .s .now) (g .args .to)) (g .pre .1) (g .pre .2) e, u .ensures .1)
+    (union-over (setOf (g .args .s .now) (g .args .from)) (setOf (g .args .s .now) (g .args .to)) (g .pre .added) (g .pre .own) e, u .ensures .1)
 
 pub unite-spec : {M : Type 1} → statement M
 unite-spec = tie.close (tie.spec union-requires same-length returns same-length-2 returns-2)

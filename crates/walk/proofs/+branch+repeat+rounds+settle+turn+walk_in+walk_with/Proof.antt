@@ -1,4 +1,4 @@
--- The cycle of `walk::walk_in`, `turn`, `branch`, `repeat`, `settle` and `rounds` meets its contracts. The measure is made of the remaining
+-- The cycle of `walk::walk_in`, `walk_with`, `turn`, `branch`, `repeat`, `settle` and `rounds` meets its contracts. The measure is made of the remaining
 -- depth, which falls with every way into a block. Each answer cites one law of `Walking`, `Joining`, `Rounding`, `Settling` or `Entered`;
 -- the functions before the answers gather what such a law is given from the place where they begin.
 use mathlib.Core.Bool.{false, true}
@@ -9,49 +9,52 @@ use Prim.Native.Nat.{ℕ, _+_, _-_, _*_, _≤_, _<_}
 use native.Mathlib.Omega.{arith}
 use lib.ListN.{length}
 use borrow.Author.Needs.{needs}
-use Rattle.model.specs.Code.{plain, if, while}
 use Rattle.model.specs.Sizes.{mostStatements, mostRounds}
 use Rattle.model.proofs.walks.Laid.{laid-le}
 use Rattle.code_table.specs.Statements.{stmtFrom, instrOf, Known}
 use Rattle.code_table.specs.Table.{tableWords, tableOf, stmts, mates}
 use Rattle.code_table.proofs.Meanings.{plain-stmt, if-stmt, while-stmt}
-use Rattle.model.specs.TidySets.{Tidy}
-use Rattle.sets.specs.Region.{setOf, regionWords}
-use Rattle.footprint.specs.Footprints.{CoversSet}
+use Rattle.sets.specs.Region.{setOf}
+use Rattle.footprint.specs.Footprints.{Extends, Labels, FlagsAll}
 use Rattle.footprint.specs.declared.Footprint.{Footprint}
 use Rattle.rules.specs.declared.Answer.the-variants.{Done}
 use Rattle.walk.specs.Piece.{Lies}
 use Rattle.walk.specs.Turn.{Loops}
-use Rattle.walk.proofs.Joining.{First, Other, first-branch-refused, other-branch-tidy, switched-table, other-branch-refused, both-tidy, both-joined}
+use Rattle.walk.proofs.Joining.{First, Other, first-branch-refused, other-branch-start, switched-table, other-branch-refused, both-tidy, both-joined}
 use Rattle.walk.proofs.Rounding.{RoundsFrom, InRounds, rounds-begin, never-settled, body-refused, closing, closing-refused, rounds-settled, next-round}
 use Rattle.walk.proofs.Settling.{Afresh, afresh-ready, afresh-rounded, light-afresh, copied-tidy, copied-table, walked-afresh, confirmed, taken-over}
-use Rattle.walk.proofs.Walking.{Walking, walking-first, knows-here, passes-over, finished, bounds, due, passes-block, turn-refused, turn-done}
+use Rattle.walk.proofs.Walking.{Walking, walking-first, knows-here, renews, passes-over, finished, bounds, due, passes-block, turn-refused, turn-done}
 use Rattle.walk.proofs.Entered.{Branching, Looping, begins, single-some, single-step, single-if, single-while}
 use Rattle.walk.proofs.ByKind.{plain-kind}
-use Rattle.walk.proofs.Regions.{below-table, lies-on, piece-on, inner-ready, block-ready}
+use Rattle.walk.proofs.Regions.{below-table, piece-on, inner-ready, inner-flagged, block-ready}
 use borrow.Fn.Kinds.{In}
 use borrow.Fn.PlainCycle.{Measures, is, falls, and}
 use Rattle.walk.proofs.branch.Reads as branch
 use Rattle.walk.proofs.branch.Kinds as branch-kinds
-use Rattle.walk.proofs.+branch+repeat+rounds+settle+turn+walk_in.Lts-branch as branch-lts
+use Rattle.walk.proofs.+branch+repeat+rounds+settle+turn+walk_in+walk_with.Lts-branch as branch-lts
 use Rattle.walk.proofs.repeat.Reads as repeat
 use Rattle.walk.proofs.repeat.Kinds as repeat-kinds
-use Rattle.walk.proofs.+branch+repeat+rounds+settle+turn+walk_in.Lts-repeat as repeat-lts
+use Rattle.walk.proofs.+branch+repeat+rounds+settle+turn+walk_in+walk_with.Lts-repeat as repeat-lts
 use Rattle.walk.proofs.rounds.Reads as rounds
 use Rattle.walk.proofs.rounds.Kinds as rounds-kinds
-use Rattle.walk.proofs.+branch+repeat+rounds+settle+turn+walk_in.Lts-rounds as rounds-lts
+use Rattle.walk.proofs.+branch+repeat+rounds+settle+turn+walk_in+walk_with.Lts-rounds as rounds-lts
 use Rattle.walk.proofs.settle.Reads as settle
 use Rattle.walk.proofs.settle.Kinds as settle-kinds
-use Rattle.walk.proofs.+branch+repeat+rounds+settle+turn+walk_in.Lts-settle as settle-lts
+use Rattle.walk.proofs.+branch+repeat+rounds+settle+turn+walk_in+walk_with.Lts-settle as settle-lts
 use Rattle.walk.proofs.turn.Reads as turn
 use Rattle.walk.proofs.turn.Kinds as turn-kinds
-use Rattle.walk.proofs.+branch+repeat+rounds+settle+turn+walk_in.Lts-turn as turn-lts
+use Rattle.walk.proofs.+branch+repeat+rounds+settle+turn+walk_in+walk_with.Lts-turn as turn-lts
 use Rattle.walk.proofs.walk_in.Reads as walk-in
 use Rattle.walk.proofs.walk_in.Kinds as walk-in-kinds
-use Rattle.walk.proofs.+branch+repeat+rounds+settle+turn+walk_in.Lts-walk_in as walk-in-lts
+use Rattle.walk.proofs.+branch+repeat+rounds+settle+turn+walk_in+walk_with.Lts-walk_in as walk-in-lts
+use Rattle.walk.proofs.walk_with.Reads as walk-with
+use Rattle.walk.proofs.walk_with.Kinds as walk-with-kinds
+use Rattle.walk.proofs.+branch+repeat+rounds+settle+turn+walk_in+walk_with.Lts-walk_with as walk-with-lts
 use Rattle.code_table.proofs.fetch.Reads as fetch-reads
 use Rattle.code_table.proofs.mate.Reads as mate-reads
 use Rattle.footprint.proofs.of_set.Reads as of-set-reads
+use Rattle.footprint.proofs.renewed.Reads as renewed-reads
+use Rattle.footprint.proofs.with_statements.Reads as with-statements-reads
 use Rattle.footprint.proofs.spared_plain.Reads as spared-plain-reads
 use Rattle.footprint.proofs.spares_all.Reads as spares-all-reads
 use Rattle.rules.proofs.rule.Reads as rule-reads
@@ -63,26 +66,29 @@ use Rattle.walk.proofs.open_branch.Reads as open-branch-reads
 use Rattle.walk.proofs.open_rounds.Reads as open-rounds-reads
 use Rattle.walk.proofs.switch_branch.Reads as switch-branch-reads
 use Rattle.walk.proofs.take_settled.Reads as take-settled-reads
-use Rattle.walk.proofs.+branch+repeat+rounds+settle+turn+walk_in.{statement}
-use Rattle.walk.proofs.+branch+repeat+rounds+settle+turn+walk_in.Tie.{close}
+use Rattle.walk.proofs.+branch+repeat+rounds+settle+turn+walk_in+walk_with.{statement}
+use Rattle.walk.proofs.+branch+repeat+rounds+settle+turn+walk_in+walk_with.Tie.{close}
 
 abbrev μ-branch : Measures 1 branch-kinds.ps ℕ
-μ-branch κs a = 5 * a .1 .0 + 2
+μ-branch κs a = 6 * a .1 .0 + 2
 
 abbrev μ-repeat : Measures 1 repeat-kinds.ps ℕ
-μ-repeat κs a = 5 * a .1 .0 + 4
+μ-repeat κs a = 6 * a .1 .0 + 5
 
 abbrev μ-rounds : Measures 1 rounds-kinds.ps ℕ
-μ-rounds κs a = 5 * a .1 .0 + 2
+μ-rounds κs a = 6 * a .1 .0 + 3
 
 abbrev μ-settle : Measures 1 settle-kinds.ps ℕ
-μ-settle κs a = 5 * a .1 .0 + 3
+μ-settle κs a = 6 * a .1 .0 + 4
 
 abbrev μ-turn : Measures 1 turn-kinds.ps ℕ
-μ-turn κs a = 5 * a .1 .0
+μ-turn κs a = 6 * a .1 .0
 
 abbrev μ-walk-in : Measures 1 walk-in-kinds.ps ℕ
-μ-walk-in κs a = 5 * a .1 .0 + 1
+μ-walk-in κs a = 6 * a .1 .0 + 2
+
+abbrev μ-walk-with : Measures 1 walk-with-kinds.ps ℕ
+μ-walk-with κs a = 6 * a .1 .0 + 1
 
 abbrev branch-at : ℕ → In 1 branch-kinds.ps
 branch-at t = and 1 branch-kinds.ps (is 1 branch-kinds.ps μ-branch t) branch.Pre
@@ -120,13 +126,19 @@ walk-in-at t = and 1 walk-in-kinds.ps (is 1 walk-in-kinds.ps μ-walk-in t) walk-
 abbrev walk-in-below : ℕ → In 1 walk-in-kinds.ps
 walk-in-below t = and 1 walk-in-kinds.ps (falls 1 walk-in-kinds.ps _<_ μ-walk-in t) walk-in.Pre
 
+abbrev walk-with-at : ℕ → In 1 walk-with-kinds.ps
+walk-with-at t = and 1 walk-with-kinds.ps (is 1 walk-with-kinds.ps μ-walk-with t) walk-with.Pre
+
+abbrev walk-with-below : ℕ → In 1 walk-with-kinds.ps
+walk-with-below t = and 1 walk-with-kinds.ps (falls 1 walk-with-kinds.ps _<_ μ-walk-with t) walk-with.Pre
+
 -- what `branch` may ask of its callees, and what it learns
 abbrev branch-told : ℕ → branch-lts.Claims
 branch-told t = (
   open-branch-reads.Asked,
   open-branch-reads.Learnt,
-  walk-in-below t,
-  walk-in.Post,
+  walk-with-below t,
+  walk-with.Post,
   switch-branch-reads.Asked,
   switch-branch-reads.Learnt,
   close-branch-reads.Asked,
@@ -139,7 +151,7 @@ BranchStart t = branch-lts.Start (branch-told t) (branch-at t) branch.Post
 
 -- behind the first walk
 abbrev BranchFirst : ℕ → Type 0
-BranchFirst t = branch-lts.After-walk-in (branch-told t) (branch-at t) branch.Post
+BranchFirst t = branch-lts.After-walk-with (branch-told t) (branch-at t) branch.Post
 
 -- between the walks
 abbrev BranchSwitch : ℕ → Type 0
@@ -147,7 +159,7 @@ BranchSwitch t = branch-lts.After-switch-branch (branch-told t) (branch-at t) br
 
 -- behind the second walk
 abbrev BranchOther : ℕ → Type 0
-BranchOther t = branch-lts.After-walk-in2 (branch-told t) (branch-at t) branch.Post
+BranchOther t = branch-lts.After-walk-with2 (branch-told t) (branch-at t) branch.Post
 
 abbrev branch-opened : (t : ℕ) → BranchFirst t → branch-lts.After-open-branch (branch-told t) (branch-at t) branch.Post
 branch-opened t c = c .before .before .before .before
@@ -162,19 +174,19 @@ abbrev switch-of : (t : ℕ) → BranchOther t → BranchSwitch t
 switch-of t c = c .before .before .before .before
 
 -- the first branch was walked
-branch-first : (t : ℕ) (c : BranchFirst t) → let g = branch-start t c .args in First (g .light) (g .p) (g .e) (g .f) (g .b) (g .s .now) (c .walk-in .result) (c .walk-in .last .0)
+branch-first : (t : ℕ) (c : BranchFirst t) → let g = branch-start t c .args in First (g .light) (g .p) (g .e) (g .f) (g .b) (g .s .now) (c .walk-with .result) (c .walk-with .last .0)
 branch-first t c =
     let o = branch-opened t c .open-branch in
     let g = branch-start t c in
-    let ready = g .pre .1 .0 in
+    let ready = g .pre .1 .0 .ready in
     record {
       s = o .last .0;
       room = omega (arith, o .kept .0, ready .room);
       same-start = o .kept .0;
       table = below-table (g .args .b) (g .args .s .now) (o .last .0) (ready .behind) (omega (arith, ready .room)) (o .kept .0) (o .ensures .below);
       opened = o .ensures;
-      same-length = c .walk-in .kept .0;
-      walked = c .walk-in .ensures;
+      same-length = c .walk-with .kept .0;
+      walked = c .walk-with .ensures;
     }
 
 -- the table is as it was between the walks
@@ -182,32 +194,32 @@ branch-table : (t : ℕ) (c : BranchSwitch t) → tableOf 0 (c .switch-branch .l
 branch-table t c =
     let w = first-of t c in
     let g = branch-start t w in
-    switched-table (g .args .light) (g .args .p) (g .args .e) (g .args .f) (g .args .b) (g .args .s .now) (w .walk-in .result) (w .walk-in .last .0) (branch-first t w)
-    (c .before .before .enum-told .given .1) (c .switch-branch .last .0) (c .switch-branch .kept .0) (c .switch-branch .ensures) (g .pre .1 .0 .behind)
+    switched-table (g .args .light) (g .args .p) (g .args .e) (g .args .f) (g .args .b) (g .args .s .now) (w .walk-with .result) (w .walk-with .last .0) (branch-first t w)
+    (c .before .before .enum-told .given .1) (c .switch-branch .last .0) (c .switch-branch .kept .0) (c .switch-branch .ensures) (g .pre .1 .0 .ready .behind)
 
 -- the other branch was walked
 branch-other : (t : ℕ) (c : BranchOther t) → let g = branch-start t (first-of t (switch-of t c)) .args in
-    Other (g .light) (g .p) (g .e) (g .f) (g .b) (g .s .now) (c .walk-in2 .result) (c .walk-in2 .last .0)
+    Other (g .light) (g .p) (g .e) (g .f) (g .b) (g .s .now) (c .walk-with2 .result) (c .walk-with2 .last .0)
 branch-other t c =
     let u = switch-of t c in
     let w = first-of t u in
     record {
-      first-answer = w .walk-in .result;
-      t = w .walk-in .last .0;
+      first-answer = w .walk-with .result;
+      t = w .walk-with .last .0;
       u = u .switch-branch .last .0;
       first = branch-first t w;
       told = u .before .before .enum-told .given .1;
       same-u = u .switch-branch .kept .0;
       table = branch-table t u;
       switched = u .switch-branch .ensures;
-      same-length = c .walk-in2 .kept .0;
-      walked = c .walk-in2 .ensures;
+      same-length = c .walk-with2 .kept .0;
+      walked = c .walk-with2 .ensures;
     }
 
 -- the label of the else is a label before the end of the block
 branch-else : (t : ℕ) (g : BranchStart t) → g .args .e + 1 ≤ g .args .f
 branch-else t g =
-    let other = g .pre .1 .2 in
+    let other = g .pre .1 .1 .other in
     laid-le (stmts (g .args .s .now)) (mates (g .args .s .now)) (other .code) (g .args .e + 1) (g .args .f) (other .lies)
 
 -- behind the walk of each branch, where it was refused and where it was done
@@ -232,20 +244,20 @@ branch-mul-inner t c = search needs
 branch-add-inner : (t : ℕ) → branch-lts.Need-add-inner (branch-told t) (branch-at t) branch.Post
 branch-add-inner t c = search needs
 
-branch-walk-in-requires : (t : ℕ) → branch-lts.Need-walk-in-requires (branch-told t) (branch-at t) branch.Post
-branch-walk-in-requires t c κs =
+branch-walk-with-requires : (t : ℕ) → branch-lts.Need-walk-with-requires (branch-told t) (branch-at t) branch.Post
+branch-walk-with-requires t c κs =
     let o = c .before .before .before in
     let g = o .before .before .before in
-    let ready = g .pre .1 .0 in
+    let ready = g .pre .1 .0 .ready in
     let s = o .open-branch .last .0 in
     let kept = o .open-branch .kept .0 in
     let table = below-table (g .args .b) (g .args .s .now) s (ready .behind) (omega (arith, ready .room)) kept (o .open-branch .ensures .below) in
     let le = branch-else t g in (
       omega (arith, g .pre .0),
       (
-        inner-ready (g .args .s .now) s (g .args .depth) (g .args .b) (g .args .f) (g .args .e) ready table kept (omega arith)
-            (subst Tidy (sym (o .open-branch .ensures .second)) (ready .tidy)),
-        piece-on (g .args .s .now) s table (g .args .depth) (g .args .p) (g .args .e) (g .pre .1 .1),
+        inner-flagged (g .args .m) (g .args .s .now) s (g .args .depth) (g .args .b) (g .args .f) (g .args .e) (g .pre .1 .0) table kept (omega arith)
+            (o .open-branch .ensures .second),
+        piece-on (g .args .s .now) s table (g .args .depth) (g .args .p) (g .args .e) (g .pre .1 .1 .first),
       ),
     )
 
@@ -259,28 +271,28 @@ branch-switch-branch-requires : (t : ℕ) → branch-lts.Need-switch-branch-requ
 branch-switch-branch-requires t c κs =
     let w = first-done t c in
     let g = branch-start t w in
-    omega (arith, branch-opened t w .open-branch .kept .0, w .walk-in .kept .0, g .pre .1 .0 .room)
+    omega (arith, branch-opened t w .open-branch .kept .0, w .walk-with .kept .0, g .pre .1 .0 .ready .room)
 
-branch-add-walk-in : (t : ℕ) → branch-lts.Need-add-walk-in (branch-told t) (branch-at t) branch.Post
-branch-add-walk-in t c =
+branch-add-walk-with : (t : ℕ) → branch-lts.Need-add-walk-with (branch-told t) (branch-at t) branch.Post
+branch-add-walk-with t c =
     let g = branch-start t (first-of t (c .before .before .before)) in
-    omega (arith, branch-else t g, g .pre .1 .0 .knows .few)
+    omega (arith, branch-else t g, g .pre .1 .0 .ready .knows .few)
 
-branch-walk-in-requires-2 : (t : ℕ) → branch-lts.Need-walk-in-requires-2 (branch-told t) (branch-at t) branch.Post
-branch-walk-in-requires-2 t c κs =
+branch-walk-with-requires-2 : (t : ℕ) → branch-lts.Need-walk-with-requires-2 (branch-told t) (branch-at t) branch.Post
+branch-walk-with-requires-2 t c κs =
     let u = c .before .before .before in
     let w = first-of t u in
     let g = branch-start t w in
-    let ready = g .pre .1 .0 in
+    let ready = g .pre .1 .0 .ready in
     let s = u .switch-branch .last .0 in
-    let kept : length s ≡ length (g .args .s .now) = u .switch-branch .kept .0 ∙ w .walk-in .kept .0 ∙ branch-opened t w .open-branch .kept .0 in
-    let tidy =
-    other-branch-tidy (g .args .light) (g .args .p) (g .args .e) (g .args .f) (g .args .b) (g .args .s .now) (w .walk-in .result) (w .walk-in .last .0) (branch-first t w)
-    (u .before .before .enum-told .given .1) s (u .switch-branch .kept .0) (u .switch-branch .ensures) (ready .tidy) in (
+    let kept : length s ≡ length (g .args .s .now) = u .switch-branch .kept .0 ∙ w .walk-with .kept .0 ∙ branch-opened t w .open-branch .kept .0 in
+    let same =
+    other-branch-start (g .args .light) (g .args .p) (g .args .e) (g .args .f) (g .args .b) (g .args .s .now) (w .walk-with .result) (w .walk-with .last .0) (branch-first t w)
+    (u .before .before .enum-told .given .1) s (u .switch-branch .kept .0) (u .switch-branch .ensures) in (
       omega (arith, g .pre .0),
       (
-        inner-ready (g .args .s .now) s (g .args .depth) (g .args .b) (g .args .f) (g .args .f) ready (branch-table t u) kept (omega arith) tidy,
-        piece-on (g .args .s .now) s (branch-table t u) (g .args .depth) (g .args .e + 1) (g .args .f) (g .pre .1 .2),
+        inner-flagged (g .args .m) (g .args .s .now) s (g .args .depth) (g .args .b) (g .args .f) (g .args .f) (g .pre .1 .0) (branch-table t u) kept (omega arith) same,
+        piece-on (g .args .s .now) s (branch-table t u) (g .args .depth) (g .args .e + 1) (g .args .f) (g .pre .1 .1 .other),
       ),
     )
 
@@ -297,12 +309,13 @@ branch-close-branch-requires t c κs =
     let w = first-of t u in
     let g = branch-start t w in
     let tidy =
-    both-tidy (g .args .light) (g .args .p) (g .args .e) (g .args .f) (g .args .b) (g .args .s .now) (v .walk-in2 .result) (v .walk-in2 .last .0) (branch-other t v)
-    (c .before .enum-told2 .given .1) (g .pre .1 .1 .code) (g .pre .1 .2 .code) (g .pre .1 .1 .lies) (g .pre .1 .2 .lies) (g .pre .1 .0 .tidy) in (
-      omega (arith, branch-opened t w .open-branch .kept .0, w .walk-in .kept .0, u .switch-branch .kept .0, v .walk-in2 .kept .0, g .pre .1 .0 .room),
-      tidy .0,
-      tidy .1,
-    )
+    both-tidy (g .args .light) (g .args .p) (g .args .e) (g .args .f) (g .args .b) (g .args .s .now) (v .walk-with2 .result) (v .walk-with2 .last .0) (branch-other t v)
+    (c .before .enum-told2 .given .1) (g .pre .1 .1 .first .code) (g .pre .1 .1 .other .code) (g .pre .1 .1 .first .lies) (g .pre .1 .1 .other .lies) (g .pre .1 .0 .ready .tidy) in
+    record {
+      room = omega (arith, branch-opened t w .open-branch .kept .0, w .walk-with .kept .0, u .switch-branch .kept .0, v .walk-with2 .kept .0, g .pre .1 .0 .ready .room);
+      tidy-one = tidy .0;
+      tidy-other = tidy .1;
+    }
 
 branch-same-length : (t : ℕ) → branch-lts.Need-same-length (branch-told t) (branch-at t) branch.Post
 branch-same-length t c = search needs
@@ -311,7 +324,7 @@ branch-returns : (t : ℕ) → branch-lts.Need-returns (branch-told t) (branch-a
 branch-returns t c =
     let w = first-refused t c in
     let g = branch-start t w .args in
-    first-branch-refused (g .light) (g .p) (g .e) (g .f) (g .b) (g .s .now) (w .walk-in .result) (w .walk-in .last .0) (branch-first t w) _ (c .before .n .given .1)
+    first-branch-refused (g .light) (g .p) (g .e) (g .f) (g .b) (g .s .now) (w .walk-with .result) (w .walk-with .last .0) (branch-first t w) _ (c .before .n .given .1)
 
 branch-same-length-2 : (t : ℕ) → branch-lts.Need-same-length-2 (branch-told t) (branch-at t) branch.Post
 branch-same-length-2 t c = search needs
@@ -320,7 +333,7 @@ branch-returns-2 : (t : ℕ) → branch-lts.Need-returns-2 (branch-told t) (bran
 branch-returns-2 t c =
     let v = other-refused t c in
     let g = branch-start t (first-of t (switch-of t v)) .args in
-    other-branch-refused (g .light) (g .p) (g .e) (g .f) (g .b) (g .s .now) (v .walk-in2 .result) (v .walk-in2 .last .0) (branch-other t v) _ (c .before .n2 .given .1)
+    other-branch-refused (g .light) (g .p) (g .e) (g .f) (g .b) (g .s .now) (v .walk-with2 .result) (v .walk-with2 .last .0) (branch-other t v) _ (c .before .n2 .given .1)
 
 branch-same-length-3 : (t : ℕ) → branch-lts.Need-same-length-3 (branch-told t) (branch-at t) branch.Post
 branch-same-length-3 t c = search needs
@@ -330,7 +343,7 @@ branch-returns-3 t c =
     let r = c .before .before in
     let v = other-done t (r .before) in
     let g = branch-start t (first-of t (switch-of t v)) .args in
-    both-joined (g .light) (g .p) (g .e) (g .f) (g .b) (g .s .now) (v .walk-in2 .result) (v .walk-in2 .last .0) (branch-other t v) (r .before .before .enum-told2 .given .1)
+    both-joined (g .light) (g .p) (g .e) (g .f) (g .b) (g .s .now) (v .walk-with2 .result) (v .walk-with2 .last .0) (branch-other t v) (r .before .before .enum-told2 .given .1)
     (r .close-branch .last .0) (r .close-branch .result) (r .close-branch .ensures)
 
 abbrev rounds-Inv-loop : rounds-lts.InvT-loop
@@ -551,6 +564,13 @@ light-of t c = c .before .before .before .before
 abbrev copied-of : (t : ℕ) → SettleRound t → SettleCopied t
 copied-of t c = c .before .before .before .before
 
+-- behind the light rounds and behind the round, where they were refused
+abbrev light-refused : (t : ℕ) → settle-lts.After-rounds-arg2 (settle-told t) (settle-at t) settle.Post → SettleLight t
+light-refused t c = c .before .before .before .before .before .before
+
+abbrev round-refused : (t : ℕ) → settle-lts.After-rounds-arg3 (settle-told t) (settle-at t) settle.Post → SettleRound t
+round-refused t c = c .before .before .before .before .before .before
+
 -- the while may be begun again behind the light rounds
 settle-afresh : (t : ℕ) (c : SettleLight t) → let g = settle-start t c .args in Afresh (g .p) (g .q) (g .b) (g .s .now) (c .rounds .last .0)
 settle-afresh t c =
@@ -580,7 +600,7 @@ settle-enum-known-n t c = search needs
 
 settle-rounds-requires-2 : (t : ℕ) → settle-lts.Need-rounds-requires-2 (settle-told t) (settle-at t) settle.Post
 settle-rounds-requires-2 t c κs =
-    let w = c .before .before .before .before .before .before in
+    let w = light-refused t c in
     let g = settle-start t w in
     let afresh = settle-afresh t w in (
       omega (arith, g .pre .0),
@@ -638,7 +658,7 @@ settle-enum-known-n-2 t c = search needs
 
 settle-rounds-requires-3 : (t : ℕ) → settle-lts.Need-rounds-requires-3 (settle-told t) (settle-at t) settle.Post
 settle-rounds-requires-3 t c κs =
-    let k = c .before .before .before .before .before .before in
+    let k = round-refused t c in
     let g = settle-start t (light-of t (copied-of t k .before .before)) in
     let afresh = settle-round t k in (
       omega (arith, g .pre .0),
@@ -657,7 +677,7 @@ settle-same-length t c = search needs
 settle-returns : (t : ℕ) → settle-lts.Need-returns (settle-told t) (settle-at t) settle.Post
 settle-returns t c =
     let r = c .before .before in
-    let w = r .before .before .before .before .before .before .before in
+    let w = light-refused t (r .before) in
     let g = settle-start t w .args in
     afresh-rounded (g .p) (g .q) (g .b) (g .s .now) (w .rounds .last .0) (r .rounds2 .last .0) false (r .rounds2 .result) (settle-afresh t w) (r .rounds2 .ensures)
 
@@ -667,7 +687,7 @@ settle-same-length-2 t c = search needs
 settle-returns-2 : (t : ℕ) → settle-lts.Need-returns-2 (settle-told t) (settle-at t) settle.Post
 settle-returns-2 t c =
     let r = c .before .before in
-    let k = r .before .before .before .before .before .before .before in
+    let k = round-refused t (r .before) in
     let g = settle-start t (light-of t (copied-of t k .before .before)) .args in
     afresh-rounded (g .p) (g .q) (g .b) (g .s .now) (k .walk-in .last .0) (r .rounds3 .last .0) false (r .rounds3 .result) (settle-round t k) (r .rounds3 .ensures)
 
@@ -792,16 +812,16 @@ turn-plain t c =
 turn-fetch-requires : (t : ℕ) → turn-lts.Need-fetch-requires (turn-told t) (turn-at t) turn.Post
 turn-fetch-requires t c κs =
     let g = c .before .before in
-    (omega (arith, g .pre .1 .0 .behind, g .pre .1 .0 .room), omega (arith, turn-some t g, g .pre .1 .0 .knows .few))
+    (omega (arith, g .pre .1 .0 .ready .behind, g .pre .1 .0 .ready .room), omega (arith, turn-some t g, g .pre .1 .0 .ready .knows .few))
 
 turn-mate-requires : (t : ℕ) → turn-lts.Need-mate-requires (turn-told t) (turn-at t) turn.Post
-turn-mate-requires t c κs = let g = turn-start t (c .before .before) in omega (arith, g .pre .1 .0 .behind, g .pre .1 .0 .room)
+turn-mate-requires t c κs = let g = turn-start t (c .before .before) in omega (arith, g .pre .1 .0 .ready .behind, g .pre .1 .0 .ready .room)
 
 turn-sub-branch : (t : ℕ) → turn-lts.Need-sub-branch (turn-told t) (turn-at t) turn.Post
 turn-sub-branch t c = turn-branches t (c .before .before .before) .deep
 
 turn-add-branch : (t : ℕ) → turn-lts.Need-add-branch (turn-told t) (turn-at t) turn.Post
-turn-add-branch t c = let g = turn-start t (c .before .before .before .before) in omega (arith, turn-some t g, g .pre .1 .0 .knows .few)
+turn-add-branch t c = let g = turn-start t (c .before .before .before .before) in omega (arith, turn-some t g, g .pre .1 .0 .ready .knows .few)
 
 turn-sub-branch-2 : (t : ℕ) → turn-lts.Need-sub-branch-2 (turn-told t) (turn-at t) turn.Post
 turn-sub-branch-2 t c = let g = turn-start t (c .before .before .before .before) in omega (arith, turn-some t g)
@@ -815,12 +835,21 @@ turn-branch-requires t c κs =
     let deep = b .deep in (
       omega (arith, g .pre .0),
       (
-        block-ready (g .args .s .now) (g .args .depth) (g .args .b) (g .args .q) (g .args .q - 1) (g .pre .1 .0) (b .deep) (omega arith),
-        record { code = b .first; lies = subst (Lies (g .args .s .now) (b .first) (g .args .p + 1)) (sym (m .ensures)) (b .first-lies); nested = b .first-nested },
         record {
-          code = b .other;
-          lies = subst (λ x. Lies (g .args .s .now) (b .other) (x + 1) (g .args .q - 1)) (sym (m .ensures)) (b .other-lies);
-          nested = b .other-nested;
+          ready = block-ready (g .args .s .now) (g .args .depth) (g .args .b) (g .args .q) (g .args .q - 1) (g .pre .1 .0 .ready) (b .deep) (omega arith);
+          covers = g .pre .1 .0 .covers;
+        },
+        record {
+          first = record {
+            code = b .first;
+            lies = subst (Lies (g .args .s .now) (b .first) (g .args .p + 1)) (sym (m .ensures)) (b .first-lies);
+            nested = b .first-nested;
+          };
+          other = record {
+            code = b .other;
+            lies = subst (λ x. Lies (g .args .s .now) (b .other) (x + 1) (g .args .q - 1)) (sym (m .ensures)) (b .other-lies);
+            nested = b .other-nested;
+          };
         },
       ),
     )
@@ -829,7 +858,7 @@ turn-sub-repeat : (t : ℕ) → turn-lts.Need-sub-repeat (turn-told t) (turn-at 
 turn-sub-repeat t c = turn-body t (c .before) .deep
 
 turn-add-repeat : (t : ℕ) → turn-lts.Need-add-repeat (turn-told t) (turn-at t) turn.Post
-turn-add-repeat t c = let g = turn-start t (c .before .before) in omega (arith, turn-some t g, g .pre .1 .0 .knows .few)
+turn-add-repeat t c = let g = turn-start t (c .before .before) in omega (arith, turn-some t g, g .pre .1 .0 .ready .knows .few)
 
 turn-sub-repeat-2 : (t : ℕ) → turn-lts.Need-sub-repeat-2 (turn-told t) (turn-at t) turn.Post
 turn-sub-repeat-2 t c = let g = turn-start t (c .before .before) in omega (arith, turn-some t g)
@@ -842,7 +871,7 @@ turn-repeat-requires t c κs =
     let deep = b .deep in (
       omega (arith, g .pre .0),
       (
-        block-ready (g .args .s .now) (g .args .depth) (g .args .b) (g .args .q) (g .args .q - 1) (g .pre .1 .0) (b .deep) (omega arith),
+        block-ready (g .args .s .now) (g .args .depth) (g .args .b) (g .args .q) (g .args .q - 1) (g .pre .1 .0 .ready) (b .deep) (omega arith),
         record { code = b .body; lies = b .lies; nested = b .nested },
       ),
     )
@@ -851,7 +880,7 @@ turn-rule-requires : (t : ℕ) → turn-lts.Need-rule-requires (turn-told t) (tu
 turn-rule-requires t c κs =
     let k = c .before in
     let g = turn-start t (k .before) in
-    let ready = g .pre .1 .0 in
+    let ready = g .pre .1 .0 .ready in
     let d = k .before .fetch in
     let some = turn-some t g in (
       omega (arith, ready .room),
@@ -905,236 +934,286 @@ turn-returns-3 t c =
     (ap stmtFrom (sym (d .ensures)) ∙ plain-stmt (d .result) (turn-plain t k)) in
     (λ x y. e (g .args .light) x (setOf (g .args .s .now) (g .args .b)) y ∙ w .rule .ensures .0, w .rule .ensures .1)
 
-abbrev walk-in-Inv-loop : walk-in-lts.InvT-loop
-walk-in-Inv-loop s₀ depth light b p q m₀ r₀ s m r = Walking light s₀ depth b p q s m r
-
-abbrev walk-in-μ-loop : walk-in-lts.MeasureT-loop
-walk-in-μ-loop s₀ depth light b p q m₀ r₀ s m r = r
-
--- what `walk` may ask of its callees, and what it learns
+-- what `walk_in` may ask of its callees, and what it learns
 abbrev walk-in-told : ℕ → walk-in-lts.Claims
-walk-in-told t = (
-  of-set-reads.Asked,
-  of-set-reads.Learnt,
+walk-in-told t = (of-set-reads.Asked, of-set-reads.Learnt, walk-with-below t, walk-with.Post)
+
+walk-in-of-set-requires : (t : ℕ) → walk-in-lts.Need-of-set-requires (walk-in-told t) (walk-in-at t) walk-in.Post
+walk-in-of-set-requires t c κs = omega (arith, c .before .before .pre .1 .0 .room)
+
+walk-in-walk-with-requires : (t : ℕ) → walk-in-lts.Need-walk-with-requires (walk-in-told t) (walk-in-at t) walk-in.Post
+walk-in-walk-with-requires t c κs =
+    let f = c .before in
+    let g = f .before .before .before in
+    (omega (arith, g .pre .0), (record { ready = g .pre .1 .0; covers = f .of-set .ensures }, g .pre .1 .1))
+
+walk-in-same-length : (t : ℕ) → walk-in-lts.Need-same-length (walk-in-told t) (walk-in-at t) walk-in.Post
+walk-in-same-length t c = search needs
+
+walk-in-returns : (t : ℕ) → walk-in-lts.Need-returns (walk-in-told t) (walk-in-at t) walk-in.Post
+walk-in-returns t c = c .before .before .walk-with .ensures
+
+abbrev walk-with-Inv-loop : walk-with-lts.InvT-loop
+walk-with-Inv-loop s₀ depth light b p q m₀ r₀ s m r = Walking light s₀ depth b p q s m r
+
+abbrev walk-with-μ-loop : walk-with-lts.MeasureT-loop
+walk-with-μ-loop s₀ depth light b p q m₀ r₀ s m r = r
+
+-- what `walk_with` may ask of its callees, and what it learns
+abbrev walk-with-told : ℕ → walk-with-lts.Claims
+walk-with-told t = (
   spared-plain-reads.Asked,
   spared-plain-reads.Learnt,
   beginning-reads.Asked,
   beginning-reads.Learnt,
+  renewed-reads.Asked,
+  renewed-reads.Learnt,
   spares-all-reads.Asked,
   spares-all-reads.Learnt,
   turn-below t,
   turn.Post,
+  with-statements-reads.Asked,
+  with-statements-reads.Learnt,
 )
 
--- the places of `walk`: where it begins
+-- the places of `walk_with`: where it begins
 abbrev WalkStart : ℕ → Type 0
-WalkStart t = walk-in-lts.Start (walk-in-told t) (walk-in-at t) walk-in.Post walk-in-Inv-loop walk-in-μ-loop
+WalkStart t = walk-with-lts.Start (walk-with-told t) (walk-with-at t) walk-with.Post walk-with-Inv-loop walk-with-μ-loop
 
 -- at the head of its loop
 abbrev WalkLoop : ℕ → Type 0
-WalkLoop t = walk-in-lts.At-loop (walk-in-told t) (walk-in-at t) walk-in.Post walk-in-Inv-loop walk-in-μ-loop
+WalkLoop t = walk-with-lts.At-loop (walk-with-told t) (walk-with-at t) walk-with.Post walk-with-Inv-loop walk-with-μ-loop
 
 -- where the last statement or block is at hand
 abbrev WalkBegun : ℕ → Type 0
-WalkBegun t = walk-in-lts.After-beginning (walk-in-told t) (walk-in-at t) walk-in.Post walk-in-Inv-loop walk-in-μ-loop
+WalkBegun t = walk-with-lts.After-beginning (walk-with-told t) (walk-with-at t) walk-with.Post walk-with-Inv-loop walk-with-μ-loop
+
+-- where the flags are made anew, if they were
+abbrev WalkRenewed : ℕ → Type 0
+WalkRenewed t = walk-with-lts.After-renewed (walk-with-told t) (walk-with-at t) walk-with.Post walk-with-Inv-loop walk-with-μ-loop
 
 -- behind its walk
 abbrev WalkTurned : ℕ → Type 0
-WalkTurned t = walk-in-lts.After-turn (walk-in-told t) (walk-in-at t) walk-in.Post walk-in-Inv-loop walk-in-μ-loop
+WalkTurned t = walk-with-lts.After-turn (walk-with-told t) (walk-with-at t) walk-with.Post walk-with-Inv-loop walk-with-μ-loop
 
-abbrev walk-in-start : (t : ℕ) → WalkLoop t → WalkStart t
-walk-in-start t c = c .before .before .before .before .before .before
+abbrev walk-with-start : (t : ℕ) → WalkLoop t → WalkStart t
+walk-with-start t c = c .before .before .before .before
 
 abbrev head-of : (t : ℕ) → WalkBegun t → WalkLoop t
 head-of t c = c .before .before .before
 
-abbrev begun-of : (t : ℕ) → WalkTurned t → WalkBegun t
-begun-of t c = c .before .before .before .before .before
+abbrev begun-of : (t : ℕ) → WalkRenewed t → WalkBegun t
+begun-of t c = c .before .before
+
+abbrev renewed-of : (t : ℕ) → WalkTurned t → WalkRenewed t
+renewed-of t c = c .before .before .before .before .before
 
 -- where the last statement or block lies
-walk-in-bounds : (t : ℕ) (c : WalkBegun t) → (walk-in-start t (head-of t c) .args .p ≤ c .beginning .result) × (c .beginning .result < head-of t c .loop .r)
-walk-in-bounds t c =
+walk-with-bounds : (t : ℕ) (c : WalkBegun t) → (walk-with-start t (head-of t c) .args .p ≤ c .beginning .result) × (c .beginning .result < head-of t c .loop .r)
+walk-with-bounds t c =
     let h = head-of t c .loop in
-    let g = walk-in-start t (head-of t c) .args in
-    bounds (g .light) (g .s .now) (g .depth) (g .b) (g .p) (g .q) (h .s) (h .m) (h .r) (h .inv) (c .beginning .result) (c .before .before .loop-test .taken) (c .beginning .ensures)
+    let g = walk-with-start t (head-of t c) in
+    bounds (g .args .light) (g .args .s .now) (g .args .depth) (g .args .b) (g .args .p) (g .args .q) (h .s) (h .m) (h .r) (h .inv) (c .beginning .result)
+    (c .before .before .loop-test .taken) (c .beginning .ensures)
 
 -- the words hold the table, and every label up to the last is one of it
-walk-in-room : (t : ℕ) (h : WalkLoop t) → (tableWords ≤ length (h .loop .s)) × (h .loop .r ≤ mostStatements)
-walk-in-room t h =
-    let g = walk-in-start t h in
-    let ready = g .pre .1 .0 in
+walk-with-room : (t : ℕ) (h : WalkLoop t) → (tableWords ≤ length (h .loop .s)) × (h .loop .r ≤ mostStatements)
+walk-with-room t h =
+    let g = walk-with-start t h in
+    let ready = g .pre .1 .0 .ready in
     (omega (arith, ready .behind, ready .room, h .loop .inv .same-length), omega (arith, h .loop .inv .most, ready .knows .few))
 
+-- the labels of the last statement or block, in words as long as those at the head
+walk-with-labels : (t : ℕ) (c : WalkBegun t) (s : List ℕ) → length s ≡ length (head-of t c .loop .s) → Labels s (c .beginning .result) (head-of t c .loop .r)
+walk-with-labels t c s e =
+    let room = walk-with-room t (head-of t c) in
+    record { table = omega (arith, room .0); rising = omega (arith, walk-with-bounds t c .1); most = room .1 }
+
+-- those before it
+walk-with-before : (t : ℕ) (c : WalkBegun t) (s : List ℕ) → length s ≡ length (head-of t c .loop .s)
+    → Labels s (walk-with-start t (head-of t c) .args .p) (c .beginning .result)
+walk-with-before t c s e =
+    let room = walk-with-room t (head-of t c) in
+    let b = walk-with-bounds t c in
+    record { table = omega (arith, room .0); rising = b .0; most = omega (arith, b .1, room .1) }
+
+-- the walk with the flags made anew
+walk-with-renewed : (t : ℕ) (c : WalkRenewed t) → let h = head-of t (begun-of t c) in let g = walk-with-start t h in
+    Walking (g .args .light) (g .args .s .now) (g .args .depth) (g .args .b) (g .args .p) (g .args .q) (h .loop .s) (c .renewed .result) (h .loop .r)
+walk-with-renewed t c =
+    let h = head-of t (begun-of t c) .loop in
+    let g = walk-with-start t (head-of t (begun-of t c)) in
+    renews (g .args .light) (g .args .s .now) (g .args .depth) (g .args .b) (g .args .p) (g .args .q) (h .s) (h .m) (h .r) (h .inv) (c .renewed .result) (c .renewed .ensures)
+
 -- the walk behind its last statement or block
-walk-in-turned : (t : ℕ) (c : WalkTurned t) → c .turn .result ≡ Done → (m : Footprint) → let g = walk-in-start t (head-of t (begun-of t c)) .args in
-    CoversSet m (setOf (c .turn .last .0) (g .b)) → Walking (g .light) (g .s .now) (g .depth) (g .b) (g .p) (g .q) (c .turn .last .0) m (begun-of t c .beginning .result)
-walk-in-turned t c e m k =
-    let f = begun-of t c in
+walk-with-turned : (t : ℕ) (c : WalkTurned t) → c .turn .result ≡ Done → (m : Footprint)
+    → let k = renewed-of t c in let f = begun-of t k in let g = walk-with-start t (head-of t f) in
+    Extends (k .renewed .result) m × FlagsAll m (stmts (c .turn .last .0)) (f .beginning .result) (head-of t f .loop .r)
+    → Walking (g .args .light) (g .args .s .now) (g .args .depth) (g .args .b) (g .args .p) (g .args .q) (c .turn .last .0) m (f .beginning .result)
+walk-with-turned t c e m flags =
+    let k = renewed-of t c in
+    let f = begun-of t k in
     let h = head-of t f .loop in
-    let g = walk-in-start t (head-of t f) in
-    let ready = g .pre .1 .0 in
-    turn-done (g .args .light) (g .args .s .now) (g .args .depth) (g .args .b) (g .args .p) (g .args .q) (h .s) (h .m) (h .r) (h .inv) (f .beginning .result)
+    let g = walk-with-start t (head-of t f) in
+    let ready = g .pre .1 .0 .ready in
+    turn-done (g .args .light) (g .args .s .now) (g .args .depth) (g .args .b) (g .args .p) (g .args .q) (h .s) (k .renewed .result) (h .r) (walk-with-renewed t k) (f .beginning .result)
     (f .before .before .loop-test .taken) (f .beginning .ensures) (c .turn .last .0) (c .turn .result) (c .turn .ensures) e (ready .behind)
-    (omega (arith, ready .room)) (c .turn .kept .0) m k
+    (omega (arith, ready .room)) (c .turn .kept .0) m flags
 
--- behind the beginning of a block that is passed over; and behind a turn, where it was refused and where it was done
-abbrev begun-of-spared : (t : ℕ) → walk-in-lts.After-spared-plain2 (walk-in-told t) (walk-in-at t) walk-in.Post walk-in-Inv-loop walk-in-μ-loop → WalkBegun t
-begun-of-spared t c = c .before .before .before .before .before
+-- where a block that is passed over was at hand; and behind a turn, where it was refused and where it was done
+abbrev renewed-of-spared : (t : ℕ) → walk-with-lts.After-spared-plain-arg2 (walk-with-told t) (walk-with-at t) walk-with.Post walk-with-Inv-loop walk-with-μ-loop → WalkRenewed t
+renewed-of-spared t c = c .before .before .before .before
 
-abbrev turn-stopped : (t : ℕ) → walk-in-lts.After-known-told (walk-in-told t) (walk-in-at t) walk-in.Post walk-in-Inv-loop walk-in-μ-loop → WalkTurned t
+abbrev turn-stopped : (t : ℕ) → walk-with-lts.After-known-told (walk-with-told t) (walk-with-at t) walk-with.Post walk-with-Inv-loop walk-with-μ-loop → WalkTurned t
 turn-stopped t c = c .before .before .before .before .before
 
-abbrev turn-taken : (t : ℕ) → walk-in-lts.After-of-set-arg2 (walk-in-told t) (walk-in-at t) walk-in.Post walk-in-Inv-loop walk-in-μ-loop → WalkTurned t
+abbrev turn-taken : (t : ℕ) → walk-with-lts.After-with-statements-arg (walk-with-told t) (walk-with-at t) walk-with.Post walk-with-Inv-loop walk-with-μ-loop → WalkTurned t
 turn-taken t c = c .before .before .before .before .before
 
-walk-in-of-set-requires : (t : ℕ) → walk-in-lts.Need-of-set-requires (walk-in-told t) (walk-in-at t) walk-in.Post walk-in-Inv-loop walk-in-μ-loop
-walk-in-of-set-requires t c κs = let g = c .before .before in omega (arith, g .pre .1 .0 .room)
+walk-with-spared-plain-requires : (t : ℕ) → walk-with-lts.Need-spared-plain-requires (walk-with-told t) (walk-with-at t) walk-with.Post walk-with-Inv-loop walk-with-μ-loop
+walk-with-spared-plain-requires t c κs =
+    let g = c .before .before in
+    let ready = g .pre .1 .0 .ready in
+    let piece = g .pre .1 .1 in
+    record {
+      table = omega (arith, ready .behind, ready .room);
+      rising = laid-le (stmts (g .args .s .now)) (mates (g .args .s .now)) (piece .code) (g .args .p) (g .args .q) (piece .lies);
+      most = ready .knows .few;
+    }
 
-walk-in-spared-plain-requires : (t : ℕ) → walk-in-lts.Need-spared-plain-requires (walk-in-told t) (walk-in-at t) walk-in.Post walk-in-Inv-loop walk-in-μ-loop
-walk-in-spared-plain-requires t c κs =
-    let g = c .before .before .before .before in
-    let ready = g .pre .1 .0 in
-    let piece = g .pre .1 .1 in (
-      omega (arith, ready .behind, ready .room),
-      laid-le (stmts (g .args .s .now)) (mates (g .args .s .now)) (piece .code) (g .args .p) (g .args .q) (piece .lies),
-      ready .knows .few,
-    )
+walk-with-loop-holds : (t : ℕ) → walk-with-lts.Need-loop-holds (walk-with-told t) (walk-with-at t) walk-with.Post walk-with-Inv-loop walk-with-μ-loop
+walk-with-loop-holds t c =
+    let g = c .before .before .before in
+    let m = g .args .flags in
+    let first = walking-first (g .args .light) (g .args .s .now) (g .args .depth) (g .args .b) (g .args .p) (g .args .q) m (g .pre .1 .0) (g .pre .1 .1) in
+    passes-over (g .args .light) (g .args .s .now) (g .args .depth) (g .args .b) (g .args .p) (g .args .q) (g .args .s .now) m (g .args .q) first (c .spared-plain .result) (c .spared-plain .ensures)
 
-walk-in-loop-holds : (t : ℕ) → walk-in-lts.Need-loop-holds (walk-in-told t) (walk-in-at t) walk-in.Post walk-in-Inv-loop walk-in-μ-loop
-walk-in-loop-holds t c =
-    let f = c .before .before in
-    let g = f .before .before .before in
-    let first = walking-first (g .args .light) (g .args .s .now) (g .args .depth) (g .args .b) (g .args .p) (g .args .q) (g .pre .1 .0) (g .pre .1 .1) (f .of-set .result) (f .of-set .ensures) in
-    passes-over (g .args .light) (g .args .s .now) (g .args .depth) (g .args .b) (g .args .p) (g .args .q) (g .args .s .now) (f .of-set .result) (g .args .q) first
-    (c .spared-plain .result) (c .spared-plain .ensures)
+walk-with-sub-beginning : (t : ℕ) → walk-with-lts.Need-sub-beginning (walk-with-told t) (walk-with-at t) walk-with.Post walk-with-Inv-loop walk-with-μ-loop
+walk-with-sub-beginning t c = search needs
 
-walk-in-sub-beginning : (t : ℕ) → walk-in-lts.Need-sub-beginning (walk-in-told t) (walk-in-at t) walk-in.Post walk-in-Inv-loop walk-in-μ-loop
-walk-in-sub-beginning t c = search needs
-
-walk-in-beginning-requires : (t : ℕ) → walk-in-lts.Need-beginning-requires (walk-in-told t) (walk-in-at t) walk-in.Post walk-in-Inv-loop walk-in-μ-loop
-walk-in-beginning-requires t c κs =
+walk-with-beginning-requires : (t : ℕ) → walk-with-lts.Need-beginning-requires (walk-with-told t) (walk-with-at t) walk-with.Post walk-with-Inv-loop walk-with-μ-loop
+walk-with-beginning-requires t c κs =
     let h = c .before .before in
-    let room = walk-in-room t h in
+    let room = walk-with-room t h in
     (room .0, omega (arith, room .1, c .before .loop-test .taken))
 
-walk-in-spares-all-requires : (t : ℕ) → walk-in-lts.Need-spares-all-requires (walk-in-told t) (walk-in-at t) walk-in.Post walk-in-Inv-loop walk-in-μ-loop
-walk-in-spares-all-requires t c κs = walk-in-room t (head-of t (c .before))
+walk-with-renewed-requires : (t : ℕ) → walk-with-lts.Need-renewed-requires (walk-with-told t) (walk-with-at t) walk-with.Post walk-with-Inv-loop walk-with-μ-loop
+walk-with-renewed-requires t c κs =
+    let f = c .before in
+    let h = head-of t f in
+    let g = walk-with-start t h in
+    (walk-with-labels t f (h .loop .s) refl, record { there = omega (arith, g .pre .1 .0 .ready .room, h .loop .inv .same-length); covers = h .loop .inv .covers })
 
-walk-in-spared-plain-requires-2 : (t : ℕ) → walk-in-lts.Need-spared-plain-requires-2 (walk-in-told t) (walk-in-at t) walk-in.Post walk-in-Inv-loop walk-in-μ-loop
-walk-in-spared-plain-requires-2 t c κs =
-    let f = c .before .before .before .before in
-    let room = walk-in-room t (head-of t f) in
-    let b = walk-in-bounds t f in
-    (room .0, b .0, omega (arith, b .1, room .1))
+walk-with-spares-all-requires : (t : ℕ) → walk-with-lts.Need-spares-all-requires (walk-with-told t) (walk-with-at t) walk-with.Post walk-with-Inv-loop walk-with-μ-loop
+walk-with-spares-all-requires t c κs = let f = begun-of t (c .before) in walk-with-labels t f (head-of t f .loop .s) refl
 
-walk-in-loop-less : (t : ℕ) → walk-in-lts.Need-loop-less (walk-in-told t) (walk-in-at t) walk-in.Post walk-in-Inv-loop walk-in-μ-loop
-walk-in-loop-less t c =
-    let f = begun-of-spared t c in
-    omega (arith, walk-in-bounds t f .1, c .spared-plain2 .ensures .most)
+walk-with-spared-plain-requires-2 : (t : ℕ) → walk-with-lts.Need-spared-plain-requires-2 (walk-with-told t) (walk-with-at t) walk-with.Post walk-with-Inv-loop walk-with-μ-loop
+walk-with-spared-plain-requires-2 t c κs = let f = begun-of t (renewed-of-spared t c) in walk-with-before t f (head-of t f .loop .s) refl
 
-walk-in-loop-again : (t : ℕ) → walk-in-lts.Need-loop-again (walk-in-told t) (walk-in-at t) walk-in.Post walk-in-Inv-loop walk-in-μ-loop
-walk-in-loop-again t c =
+walk-with-loop-less : (t : ℕ) → walk-with-lts.Need-loop-less (walk-with-told t) (walk-with-at t) walk-with.Post walk-with-Inv-loop walk-with-μ-loop
+walk-with-loop-less t c = omega (arith, walk-with-bounds t (begun-of t (renewed-of-spared t (c .before))) .1, c .spared-plain2 .ensures .most)
+
+walk-with-loop-again : (t : ℕ) → walk-with-lts.Need-loop-again (walk-with-told t) (walk-with-at t) walk-with.Post walk-with-Inv-loop walk-with-μ-loop
+walk-with-loop-again t c =
     let i = c .before .before in
-    let f = i .before .before .before in
+    let k = renewed-of-spared t (c .before) in
+    let f = begun-of t k in
     let h = head-of t f .loop in
-    let g = walk-in-start t (head-of t f) in
+    let g = walk-with-start t (head-of t f) in
     let passed =
-    passes-block (g .args .light) (g .args .s .now) (g .args .depth) (g .args .b) (g .args .p) (g .args .q) (h .s) (h .m) (h .r) (h .inv) (f .beginning .result)
-    (f .before .before .loop-test .taken) (f .beginning .ensures)
-    (i .before .spares-all .ensures (i .if1 .taken)) in
-    passes-over (g .args .light) (g .args .s .now) (g .args .depth) (g .args .b) (g .args .p) (g .args .q) (h .s) (h .m) (f .beginning .result) passed
+    passes-block (g .args .light) (g .args .s .now) (g .args .depth) (g .args .b) (g .args .p) (g .args .q) (h .s) (k .renewed .result) (h .r) (walk-with-renewed t k) (f .beginning .result)
+    (f .before .before .loop-test .taken) (f .beginning .ensures) (i .before .spares-all .ensures (i .if1 .taken)) in
+    passes-over (g .args .light) (g .args .s .now) (g .args .depth) (g .args .b) (g .args .p) (g .args .q) (h .s) (k .renewed .result) (f .beginning .result) passed
     (c .spared-plain2 .result) (c .spared-plain2 .ensures)
 
-walk-in-turn-requires : (t : ℕ) → walk-in-lts.Need-turn-requires (walk-in-told t) (walk-in-at t) walk-in.Post walk-in-Inv-loop walk-in-μ-loop
-walk-in-turn-requires t c κs =
-    let f = c .before .before .before .before in
+walk-with-turn-requires : (t : ℕ) → walk-with-lts.Need-turn-requires (walk-with-told t) (walk-with-at t) walk-with.Post walk-with-Inv-loop walk-with-μ-loop
+walk-with-turn-requires t c κs =
+    let k = c .before .before .before .before in
+    let f = begun-of t k in
     let h = head-of t f .loop in
-    let g = walk-in-start t (head-of t f) in
-    let ready = g .pre .1 .0 in (
+    let g = walk-with-start t (head-of t f) in
+    let ready = g .pre .1 .0 .ready in (
       omega (arith, g .pre .0),
       (
         record {
-          knows = knows-here (g .args .light) (g .args .s .now) (g .args .depth) (g .args .b) (g .args .p) (g .args .q) (h .s) (h .m) (h .r) (h .inv) (h .r) (omega arith) (ready .knows);
-          shallow = ready .shallow;
-          behind = ready .behind;
-          room = omega (arith, ready .room, h .inv .same-length);
-          tidy = h .inv .stands .tidy;
+          ready = record {
+            knows = knows-here (g .args .light) (g .args .s .now) (g .args .depth) (g .args .b) (g .args .p) (g .args .q) (h .s) (h .m) (h .r) (h .inv) (h .r) (omega arith) (ready .knows);
+            shallow = ready .shallow;
+            behind = ready .behind;
+            room = omega (arith, ready .room, h .inv .same-length);
+            tidy = h .inv .stands .tidy;
+          };
+          covers = k .renewed .ensures;
         },
         due (g .args .light) (g .args .s .now) (g .args .depth) (g .args .b) (g .args .p) (g .args .q) (h .s) (h .m) (h .r) (h .inv) (f .beginning .result)
             (f .before .before .loop-test .taken) (f .beginning .ensures),
       ),
     )
 
-walk-in-enum-known-n : (t : ℕ) → walk-in-lts.Need-enum-known-n (walk-in-told t) (walk-in-at t) walk-in.Post walk-in-Inv-loop walk-in-μ-loop
-walk-in-enum-known-n t c = search needs
+walk-with-enum-known-n : (t : ℕ) → walk-with-lts.Need-enum-known-n (walk-with-told t) (walk-with-at t) walk-with.Post walk-with-Inv-loop walk-with-μ-loop
+walk-with-enum-known-n t c = search needs
 
-walk-in-same-length : (t : ℕ) → walk-in-lts.Need-same-length (walk-in-told t) (walk-in-at t) walk-in.Post walk-in-Inv-loop walk-in-μ-loop
-walk-in-same-length t c = search needs
+walk-with-same-length : (t : ℕ) → walk-with-lts.Need-same-length (walk-with-told t) (walk-with-at t) walk-with.Post walk-with-Inv-loop walk-with-μ-loop
+walk-with-same-length t c = search needs
 
-walk-in-returns : (t : ℕ) → walk-in-lts.Need-returns (walk-in-told t) (walk-in-at t) walk-in.Post walk-in-Inv-loop walk-in-μ-loop
-walk-in-returns t c =
+walk-with-returns : (t : ℕ) → walk-with-lts.Need-returns (walk-with-told t) (walk-with-at t) walk-with.Post walk-with-Inv-loop walk-with-μ-loop
+walk-with-returns t c =
     let w = turn-stopped t c in
-    let f = begun-of t w in
+    let f = begun-of t (renewed-of t w) in
     let h = head-of t f .loop in
-    let g = walk-in-start t (head-of t f) in
+    let g = walk-with-start t (head-of t f) in
     turn-refused (g .args .light) (g .args .s .now) (g .args .depth) (g .args .b) (g .args .p) (g .args .q) (h .s) (h .m) (h .r) (h .inv) (f .beginning .result)
-    (f .before .before .loop-test .taken) (f .beginning .ensures)
-    (w .turn .last .0) (w .turn .result) (w .turn .ensures) _ (c .before .n .given .1)
+    (f .before .before .loop-test .taken) (f .beginning .ensures) (w .turn .last .0) (w .turn .result) (w .turn .ensures) _ (c .before .n .given .1)
 
-walk-in-enum-told : (t : ℕ) → walk-in-lts.Need-enum-told (walk-in-told t) (walk-in-at t) walk-in.Post walk-in-Inv-loop walk-in-μ-loop
-walk-in-enum-told t c = search needs
+walk-with-enum-told : (t : ℕ) → walk-with-lts.Need-enum-told (walk-with-told t) (walk-with-at t) walk-with.Post walk-with-Inv-loop walk-with-μ-loop
+walk-with-enum-told t c = search needs
 
-walk-in-of-set-requires-2 : (t : ℕ) → walk-in-lts.Need-of-set-requires-2 (walk-in-told t) (walk-in-at t) walk-in.Post walk-in-Inv-loop walk-in-μ-loop
-walk-in-of-set-requires-2 t c κs =
+walk-with-with-statements-requires : (t : ℕ) → walk-with-lts.Need-with-statements-requires (walk-with-told t) (walk-with-at t) walk-with.Post walk-with-Inv-loop walk-with-μ-loop
+walk-with-with-statements-requires t c κs =
     let w = turn-taken t c in
-    let h = head-of t (begun-of t w) in
-    omega (arith, walk-in-start t h .pre .1 .0 .room, h .loop .inv .same-length, w .turn .kept .0)
+    walk-with-labels t (begun-of t (renewed-of t w)) (w .turn .last .0) (w .turn .kept .0)
 
-walk-in-spared-plain-requires-3 : (t : ℕ) → walk-in-lts.Need-spared-plain-requires-3 (walk-in-told t) (walk-in-at t) walk-in.Post walk-in-Inv-loop walk-in-μ-loop
-walk-in-spared-plain-requires-3 t c κs =
-    let e = c .before .before .before in
-    let w = e .before .before .before .before in
-    let f = begun-of t w in
-    let room = walk-in-room t (head-of t f) in
-    let b = walk-in-bounds t f in
-    (omega (arith, room .0, w .turn .kept .0), b .0, omega (arith, b .1, room .1))
+walk-with-spared-plain-requires-3 : (t : ℕ) → walk-with-lts.Need-spared-plain-requires-3 (walk-with-told t) (walk-with-at t) walk-with.Post walk-with-Inv-loop walk-with-μ-loop
+walk-with-spared-plain-requires-3 t c κs =
+    let w = turn-taken t (c .before .before) in
+    walk-with-before t (begun-of t (renewed-of t w)) (w .turn .last .0) (w .turn .kept .0)
 
-walk-in-loop-less-2 : (t : ℕ) → walk-in-lts.Need-loop-less-2 (walk-in-told t) (walk-in-at t) walk-in.Post walk-in-Inv-loop walk-in-μ-loop
-walk-in-loop-less-2 t c =
-    let e = c .before .before .before .before in
-    omega (arith, walk-in-bounds t (begun-of t (e .before .before .before .before)) .1, c .spared-plain3 .ensures .most)
+walk-with-loop-less-2 : (t : ℕ) → walk-with-lts.Need-loop-less-2 (walk-with-told t) (walk-with-at t) walk-with.Post walk-with-Inv-loop walk-with-μ-loop
+walk-with-loop-less-2 t c =
+    let w = turn-taken t (c .before .before .before) in
+    omega (arith, walk-with-bounds t (begun-of t (renewed-of t w)) .1, c .spared-plain3 .ensures .most)
 
-walk-in-loop-again-2 : (t : ℕ) → walk-in-lts.Need-loop-again-2 (walk-in-told t) (walk-in-at t) walk-in.Post walk-in-Inv-loop walk-in-μ-loop
-walk-in-loop-again-2 t c =
+walk-with-loop-again-2 : (t : ℕ) → walk-with-lts.Need-loop-again-2 (walk-with-told t) (walk-with-at t) walk-with.Post walk-with-Inv-loop walk-with-μ-loop
+walk-with-loop-again-2 t c =
     let k = c .before .before in
-    let e = k .before .before in
-    let w = e .before .before .before .before in
-    let g = walk-in-start t (head-of t (begun-of t w)) in
-    passes-over (g .args .light) (g .args .s .now) (g .args .depth) (g .args .b) (g .args .p) (g .args .q) (w .turn .last .0) (k .of-set2 .result) (begun-of t w .beginning .result)
-    (walk-in-turned t w (e .enum-told .given .1) (k .of-set2 .result) (k .of-set2 .ensures)) (c .spared-plain3 .result) (c .spared-plain3 .ensures)
+    let w = turn-taken t (k .before) in
+    let f = begun-of t (renewed-of t w) in
+    let g = walk-with-start t (head-of t f) in
+    passes-over (g .args .light) (g .args .s .now) (g .args .depth) (g .args .b) (g .args .p) (g .args .q) (w .turn .last .0) (k .with-statements .result) (f .beginning .result)
+    (walk-with-turned t w (k .before .before .enum-told .given .1) (k .with-statements .result) (k .with-statements .ensures)) (c .spared-plain3 .result) (c .spared-plain3 .ensures)
 
-walk-in-same-length-2 : (t : ℕ) → walk-in-lts.Need-same-length-2 (walk-in-told t) (walk-in-at t) walk-in.Post walk-in-Inv-loop walk-in-μ-loop
-walk-in-same-length-2 t c = search needs
+walk-with-same-length-2 : (t : ℕ) → walk-with-lts.Need-same-length-2 (walk-with-told t) (walk-with-at t) walk-with.Post walk-with-Inv-loop walk-with-μ-loop
+walk-with-same-length-2 t c = search needs
 
-walk-in-returns-2 : (t : ℕ) → walk-in-lts.Need-returns-2 (walk-in-told t) (walk-in-at t) walk-in.Post walk-in-Inv-loop walk-in-μ-loop
-walk-in-returns-2 t c =
+walk-with-returns-2 : (t : ℕ) → walk-with-lts.Need-returns-2 (walk-with-told t) (walk-with-at t) walk-with.Post walk-with-Inv-loop walk-with-μ-loop
+walk-with-returns-2 t c =
     let h = c .before in
-    let g = walk-in-start t h in
+    let g = walk-with-start t h in
     finished (g .args .light) (g .args .s .now) (g .args .depth) (g .args .b) (g .args .p) (g .args .q) (h .loop .s) (h .loop .m) (h .loop .r) (h .loop .inv) (c .loop-test .left)
 
-pub +branch+repeat+rounds+settle+turn+walk-in-spec : {M : Type 1} → statement M
-+branch+repeat+rounds+settle+turn+walk-in-spec =
-    close μ-branch μ-repeat μ-rounds μ-settle μ-turn μ-walk-in (λ t. branch-lts.spec (branch-told t) (branch-at t)
+pub +branch+repeat+rounds+settle+turn+walk-in+walk-with-spec : {M : Type 1} → statement M
++branch+repeat+rounds+settle+turn+walk-in+walk-with-spec =
+    close μ-branch μ-repeat μ-rounds μ-settle μ-turn μ-walk-in μ-walk-with (λ t. branch-lts.spec (branch-told t) (branch-at t)
     branch.Post
     (branch-open-branch-requires t)
     (branch-mul-inner t)
     (branch-add-inner t)
-    (branch-walk-in-requires t)
+    (branch-walk-with-requires t)
     (branch-enum-known-n t)
     (branch-enum-told t)
     (branch-switch-branch-requires t)
-    (branch-add-walk-in t)
-    (branch-walk-in-requires-2 t)
+    (branch-add-walk-with t)
+    (branch-walk-with-requires-2 t)
     (branch-enum-known-n-2 t)
     (branch-enum-told-2 t)
     (branch-close-branch-requires t)
@@ -1219,27 +1298,33 @@ pub +branch+repeat+rounds+settle+turn+walk-in-spec : {M : Type 1} → statement 
     (turn-returns-2 t)
     (turn-same-length-3 t)
     (turn-returns-3 t))
-    λ t. walk-in-lts.spec (walk-in-told t) (walk-in-at t)
+    (λ t. walk-in-lts.spec (walk-in-told t) (walk-in-at t)
     walk-in.Post
-    walk-in-Inv-loop
-    walk-in-μ-loop
     (walk-in-of-set-requires t)
-    (walk-in-spared-plain-requires t)
-    (walk-in-loop-holds t)
-    (walk-in-sub-beginning t)
-    (walk-in-beginning-requires t)
-    (walk-in-spares-all-requires t)
-    (walk-in-spared-plain-requires-2 t)
-    (walk-in-loop-less t)
-    (walk-in-loop-again t)
-    (walk-in-turn-requires t)
-    (walk-in-enum-known-n t)
+    (walk-in-walk-with-requires t)
     (walk-in-same-length t)
-    (walk-in-returns t)
-    (walk-in-enum-told t)
-    (walk-in-of-set-requires-2 t)
-    (walk-in-spared-plain-requires-3 t)
-    (walk-in-loop-less-2 t)
-    (walk-in-loop-again-2 t)
-    (walk-in-same-length-2 t)
-    (walk-in-returns-2 t)
+    (walk-in-returns t))
+    λ t. walk-with-lts.spec (walk-with-told t) (walk-with-at t)
+    walk-with.Post
+    walk-with-Inv-loop
+    walk-with-μ-loop
+    (walk-with-spared-plain-requires t)
+    (walk-with-loop-holds t)
+    (walk-with-sub-beginning t)
+    (walk-with-beginning-requires t)
+    (walk-with-renewed-requires t)
+    (walk-with-spares-all-requires t)
+    (walk-with-spared-plain-requires-2 t)
+    (walk-with-loop-less t)
+    (walk-with-loop-again t)
+    (walk-with-turn-requires t)
+    (walk-with-enum-known-n t)
+    (walk-with-same-length t)
+    (walk-with-returns t)
+    (walk-with-enum-told t)
+    (walk-with-with-statements-requires t)
+    (walk-with-spared-plain-requires-3 t)
+    (walk-with-loop-less-2 t)
+    (walk-with-loop-again-2 t)
+    (walk-with-same-length-2 t)
+    (walk-with-returns-2 t)
