@@ -2,6 +2,7 @@
 use mathlib.Core.Path.{_≡_}
 use mathlib.Core.Bool.{false}
 use mathlib.Core.List.{List}
+use mathlib.Core.Logic.{_⊎_}
 use Prim.Native.Nat.{ℕ, _+_, _%_, _≤_, _<_}
 use lib.ListN.{length, getD}
 use Rattle.model.specs.Code.{Right, number, copy, calc, change, read, load, Instr, assign, store, site, Stmt, plain, if, else, end, while}
@@ -82,6 +83,11 @@ Flags m (while v) = Unit {0}
 -- the same of every statement on the labels from p up to q
 abbrev pub FlagsAll : Footprint → (ℕ → Stmt) → ℕ → ℕ → Type 0
 FlagsAll m stmt p q = (i : ℕ) → p ≤ i → i < q → Flags m (stmt i)
+
+-- flags r for a set S that the walk of these statements made of one that m covers: they cover it, or they are those of m with what the
+-- statements may bring
+abbrev pub Follows : (m r : Footprint) → (ℕ → Stmt) → (p q : ℕ) → Conjuncts → Type 0
+Follows m r stmt p q S = CoversSet r S ⊎ (Extends m r × FlagsAll r stmt p q)
 
 -- ---- what statements change
 

@@ -8,7 +8,7 @@ ghost use Rattle.code_table.specs.Statements.{stmtFrom};
 ghost use Rattle.code_table.specs.Table.{stmts};
 ghost use Rattle.conjunct.specs.Word.{nodesOf};
 ghost use Rattle.sets.specs.Region.{slotWords, regionWords, slotAt, setOf};
-ghost use Rattle.footprint.specs.Footprints.{Covers, CoversSet, CoversRegion, Extends, Labels, FlagsVariable, FlagsArray, Flags, FlagsAll, Spares, SparedAll, BackTo};
+ghost use Rattle.footprint.specs.Footprints.{Covers, CoversSet, CoversRegion, Extends, Labels, FlagsVariable, FlagsArray, Flags, FlagsAll, Follows, Spares, SparedAll, BackTo};
 use code_table::Decoded;
 use conjunct::node::LOAD;
 use conjunct::node::VARIABLE;
@@ -17,6 +17,9 @@ use conjunct::node::VARIABLE;
 const VARIABLE_FLAGS: usize = 64;
 
 const ARRAYS: usize = 16;
+
+// So many statements are looked at while one conjunct is.
+const STATEMENTS_A_CONJUNCT: usize = 4;
 
 // A flag for each variable, by its number modulo their count, and for each array.
 pub struct Footprint {
@@ -119,7 +122,7 @@ fn with_statement(m: Footprint, d: Decoded) -> Footprint
 }
 
 // With those that the statements on the labels from p up to q may bring, however often they are walked.
-pub fn with_statements(s: &[u64], m: Footprint, p: usize, q: usize) -> Footprint
+fn with_statements(s: &[u64], m: Footprint, p: usize, q: usize) -> Footprint
     requires { ⌜ Labels (now s) p q ⌝ }
     ensures { λ r. ⌜ Extends m r × FlagsAll r (stmts (now (s .entry))) p q ⌝ }
 {
@@ -131,6 +134,18 @@ pub fn with_statements(s: &[u64], m: Footprint, p: usize, q: usize) -> Footprint
         i += 1;
     }
     r
+}
+
+// From flags of a set those of what the walk of the statements on the labels from p up to q made of it, in the
+// region at b: with what the statements may bring, or anew, where it is the set that is looked at sooner.
+pub fn flags_after(s: &[u64], m: Footprint, b: usize, p: usize, q: usize) -> Footprint
+    requires { ⌜ Labels (now s) p q × (b + regionWords ≤ length (now s)) ⌝ }
+    ensures { λ r. ⌜ Follows m r (stmts (now (s .entry))) p q (setOf (now (s .entry)) b) ⌝ }
+{
+    if STATEMENTS_A_CONJUNCT * sets::size(s, b) < q - p {
+        return of_set(s, b);
+    }
+    with_statements(s, m, p, q)
 }
 
 // ---- what a program changes

@@ -2,6 +2,7 @@
 -- is one law; what the table says is carried from the words before to those after, since nothing before the region changes.
 use mathlib.Core.Bool.{Bool}
 use mathlib.Core.List.{List}
+use mathlib.Core.Logic.{⊎-elim}
 use mathlib.Core.Path.{_≡_, refl, subst, _∙_}
 use Prim.Native.Nat.{ℕ, _-_, _≤_, _<_}
 use native.Mathlib.Omega.{arith}
@@ -9,7 +10,7 @@ use lib.ListN.{length}
 use Rattle.model.specs.Sizes.{mostNested}
 use Rattle.code_table.specs.Table.{tableWords, tableOf, stmtIn, mateIn, stmts, mates, Knows}
 use Rattle.model.proofs.basics.Results.{gives-ok}
-use Rattle.footprint.specs.Footprints.{CoversSet, Extends, FlagsAll, SparedAll, BackTo}
+use Rattle.footprint.specs.Footprints.{CoversSet, FlagsAll, Follows, SparedAll, BackTo}
 use Rattle.footprint.specs.declared.Footprint.{Footprint}
 use Rattle.footprint.proofs.Flags.{speaks-more}
 use Rattle.rules.specs.Answers.{Below}
@@ -108,8 +109,7 @@ module _ (light : Bool) (s₀ : List ℕ) (depth b p q : ℕ) where
           to-t,
         )
 
-        -- the flags are those from before, with those of what it may bring
-        pub turn-done : a ≡ Done → tableWords ≤ b → b ≤ length s₀ → length t ≡ length s → (m′ : Footprint) → Extends m m′ × FlagsAll m′ (stmts t) l r → Walking t m′ l
+        pub turn-done : a ≡ Done → tableWords ≤ b → b ≤ length s₀ → length t ≡ length s → (m′ : Footprint) → Follows m m′ (stmts t) l r (setOf t b) → Walking t m′ l
         turn-done e h k same-t m′ f =
             let table = below-table b s₀ t h k (same-t ∙ w .same-length) to-t in
             let given = walked-done light (stmts s₀) (mates s₀) a l r b s t here e in
@@ -120,8 +120,9 @@ module _ (light : Bool) (s₀ : List ℕ) (depth b p q : ℕ) where
               below = to-t;
               table = table;
               covers =
+                  ⊎-elim (λ c. c) (λ g.
                   gives-ok (CoversSet m′) (walkBy light (d .0) (setOf s b)) (setOf t b) (given (d .0) (d .1))
-                  (by-covers light m′ (stmts s₀) (mates s₀) (d .0) l r (d .1) (subst (λ k. FlagsAll m′ (stmtIn k) l r) table (f .1)) (setOf s b)
-                  (speaks-more m m′ (setOf s b) (f .0) (w .covers)));
+                  (by-covers light m′ (stmts s₀) (mates s₀) (d .0) l r (d .1) (subst (λ k. FlagsAll m′ (stmtIn k) l r) table (g .1)) (setOf s b)
+                  (speaks-more m m′ (setOf s b) (g .0) (w .covers)))) f;
               stands = stands-turned light (stmts s₀) (mates s₀) depth p q l r (setOf s₀ b) (setOf s b) (w .stands) more first-here (setOf t b) given;
             }

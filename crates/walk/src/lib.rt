@@ -292,8 +292,8 @@ fn turn(
 }
 
 // The walk, light or not, of the piece on the labels from p up to q on the set of the region at b, which the
-// flags cover. What a statement or a block may bring is added to them; they are made anew where that has made
-// them too many. From that region on, 2 * depth + 2 regions are its own.
+// flags cover. What a statement or a block may bring is added to them; they are made anew where that takes
+// longer, or has made them too many. From that region on, 2 * depth + 2 regions are its own.
 fn walk_with(
     s: &mut [u64],
     depth: usize,
@@ -319,7 +319,7 @@ fn walk_with(
                     return Answer::Refused(n);
                 }
                 Answer::Done => {
-                    m = footprint::with_statements(s, m, l, r);
+                    m = footprint::flags_after(s, m, b, l, r);
                     r = footprint::spared_plain(s, m, p, l);
                 }
             }

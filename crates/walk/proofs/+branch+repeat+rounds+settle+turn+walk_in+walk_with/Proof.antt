@@ -15,7 +15,7 @@ use Rattle.code_table.specs.Statements.{stmtFrom, instrOf, Known}
 use Rattle.code_table.specs.Table.{tableWords, tableOf, stmts, mates}
 use Rattle.code_table.proofs.Meanings.{plain-stmt, if-stmt, while-stmt}
 use Rattle.sets.specs.Region.{setOf}
-use Rattle.footprint.specs.Footprints.{Extends, Labels, FlagsAll}
+use Rattle.footprint.specs.Footprints.{Labels, Follows}
 use Rattle.footprint.specs.declared.Footprint.{Footprint}
 use Rattle.rules.specs.declared.Answer.the-variants.{Done}
 use Rattle.walk.specs.Piece.{Lies}
@@ -54,7 +54,7 @@ use Rattle.code_table.proofs.fetch.Reads as fetch-reads
 use Rattle.code_table.proofs.mate.Reads as mate-reads
 use Rattle.footprint.proofs.of_set.Reads as of-set-reads
 use Rattle.footprint.proofs.renewed.Reads as renewed-reads
-use Rattle.footprint.proofs.with_statements.Reads as with-statements-reads
+use Rattle.footprint.proofs.flags_after.Reads as flags-after-reads
 use Rattle.footprint.proofs.spared_plain.Reads as spared-plain-reads
 use Rattle.footprint.proofs.spares_all.Reads as spares-all-reads
 use Rattle.rules.proofs.rule.Reads as rule-reads
@@ -883,11 +883,12 @@ turn-rule-requires t c κs =
     let ready = g .pre .1 .0 .ready in
     let d = k .before .fetch in
     let some = turn-some t g in (
-      omega (arith, ready .room),
-      omega (arith, some, ready .knows .few),
-      turn-plain t k,
-      subst Known (sym (d .ensures)) (ready .knows .known (g .args .p) some),
-      ready .tidy .numbered,
+      record { there = omega (arith, ready .room); numbered = ready .tidy .numbered },
+      record {
+        label = omega (arith, some, ready .knows .few);
+        kind = turn-plain t k;
+        known = subst Known (sym (d .ensures)) (ready .knows .known (g .args .p) some);
+      },
     )
 
 turn-same-length : (t : ℕ) → turn-lts.Need-same-length (turn-told t) (turn-at t) turn.Post
@@ -972,8 +973,8 @@ walk-with-told t = (
   spares-all-reads.Learnt,
   turn-below t,
   turn.Post,
-  with-statements-reads.Asked,
-  with-statements-reads.Learnt,
+  flags-after-reads.Asked,
+  flags-after-reads.Learnt,
 )
 
 -- the places of `walk_with`: where it begins
@@ -1048,7 +1049,7 @@ walk-with-renewed t c =
 -- the walk behind its last statement or block
 walk-with-turned : (t : ℕ) (c : WalkTurned t) → c .turn .result ≡ Done → (m : Footprint)
     → let k = renewed-of t c in let f = begun-of t k in let g = walk-with-start t (head-of t f) in
-    Extends (k .renewed .result) m × FlagsAll m (stmts (c .turn .last .0)) (f .beginning .result) (head-of t f .loop .r)
+    Follows (k .renewed .result) m (stmts (c .turn .last .0)) (f .beginning .result) (head-of t f .loop .r) (setOf (c .turn .last .0) (g .args .b))
     → Walking (g .args .light) (g .args .s .now) (g .args .depth) (g .args .b) (g .args .p) (g .args .q) (c .turn .last .0) m (f .beginning .result)
 walk-with-turned t c e m flags =
     let k = renewed-of t c in
@@ -1067,7 +1068,7 @@ renewed-of-spared t c = c .before .before .before .before
 abbrev turn-stopped : (t : ℕ) → walk-with-lts.After-known-told (walk-with-told t) (walk-with-at t) walk-with.Post walk-with-Inv-loop walk-with-μ-loop → WalkTurned t
 turn-stopped t c = c .before .before .before .before .before
 
-abbrev turn-taken : (t : ℕ) → walk-with-lts.After-with-statements-arg (walk-with-told t) (walk-with-at t) walk-with.Post walk-with-Inv-loop walk-with-μ-loop → WalkTurned t
+abbrev turn-taken : (t : ℕ) → walk-with-lts.After-flags-after-arg (walk-with-told t) (walk-with-at t) walk-with.Post walk-with-Inv-loop walk-with-μ-loop → WalkTurned t
 turn-taken t c = c .before .before .before .before .before
 
 walk-with-spared-plain-requires : (t : ℕ) → walk-with-lts.Need-spared-plain-requires (walk-with-told t) (walk-with-at t) walk-with.Post walk-with-Inv-loop walk-with-μ-loop
@@ -1168,10 +1169,12 @@ walk-with-returns t c =
 walk-with-enum-told : (t : ℕ) → walk-with-lts.Need-enum-told (walk-with-told t) (walk-with-at t) walk-with.Post walk-with-Inv-loop walk-with-μ-loop
 walk-with-enum-told t c = search needs
 
-walk-with-with-statements-requires : (t : ℕ) → walk-with-lts.Need-with-statements-requires (walk-with-told t) (walk-with-at t) walk-with.Post walk-with-Inv-loop walk-with-μ-loop
-walk-with-with-statements-requires t c κs =
+walk-with-flags-after-requires : (t : ℕ) → walk-with-lts.Need-flags-after-requires (walk-with-told t) (walk-with-at t) walk-with.Post walk-with-Inv-loop walk-with-μ-loop
+walk-with-flags-after-requires t c κs =
     let w = turn-taken t c in
-    walk-with-labels t (begun-of t (renewed-of t w)) (w .turn .last .0) (w .turn .kept .0)
+    let f = begun-of t (renewed-of t w) in
+    let h = head-of t f in
+    (walk-with-labels t f (w .turn .last .0) (w .turn .kept .0), omega (arith, walk-with-start t h .pre .1 .0 .ready .room, h .loop .inv .same-length, w .turn .kept .0))
 
 walk-with-spared-plain-requires-3 : (t : ℕ) → walk-with-lts.Need-spared-plain-requires-3 (walk-with-told t) (walk-with-at t) walk-with.Post walk-with-Inv-loop walk-with-μ-loop
 walk-with-spared-plain-requires-3 t c κs =
@@ -1189,8 +1192,8 @@ walk-with-loop-again-2 t c =
     let w = turn-taken t (k .before) in
     let f = begun-of t (renewed-of t w) in
     let g = walk-with-start t (head-of t f) in
-    passes-over (g .args .light) (g .args .s .now) (g .args .depth) (g .args .b) (g .args .p) (g .args .q) (w .turn .last .0) (k .with-statements .result) (f .beginning .result)
-    (walk-with-turned t w (k .before .before .enum-told .given .1) (k .with-statements .result) (k .with-statements .ensures)) (c .spared-plain3 .result) (c .spared-plain3 .ensures)
+    passes-over (g .args .light) (g .args .s .now) (g .args .depth) (g .args .b) (g .args .p) (g .args .q) (w .turn .last .0) (k .flags-after .result) (f .beginning .result)
+    (walk-with-turned t w (k .before .before .enum-told .given .1) (k .flags-after .result) (k .flags-after .ensures)) (c .spared-plain3 .result) (c .spared-plain3 .ensures)
 
 walk-with-same-length-2 : (t : ℕ) → walk-with-lts.Need-same-length-2 (walk-with-told t) (walk-with-at t) walk-with.Post walk-with-Inv-loop walk-with-μ-loop
 walk-with-same-length-2 t c = search needs
@@ -1322,7 +1325,7 @@ pub +branch+repeat+rounds+settle+turn+walk-in+walk-with-spec : {M : Type 1} → 
     (walk-with-same-length t)
     (walk-with-returns t)
     (walk-with-enum-told t)
-    (walk-with-with-statements-requires t)
+    (walk-with-flags-after-requires t)
     (walk-with-spared-plain-requires-3 t)
     (walk-with-loop-less-2 t)
     (walk-with-loop-again-2 t)
