@@ -27,8 +27,11 @@ abbrev μ-loop : tie.MeasureT-loop
 μ-loop s₀ b label d out₀ seen₀ count k₀ s out seen k = count - k
 
 -- where the function begins, the head of the loop from a turn, and the turn from its two answers
+abbrev entered : tie.After-size Inv-loop μ-loop → tie.Start Inv-loop μ-loop
+entered c = c .before .before .before .before .before
+
 abbrev begun : tie.At-loop Inv-loop μ-loop → tie.Start Inv-loop μ-loop
-begun c = c .before .before .before .before .before .before
+begun c = entered (c .before)
 
 abbrev head : tie.After-change-slot-arg3 Inv-loop μ-loop → tie.At-loop Inv-loop μ-loop
 head c = c .before .before .before .before
@@ -60,7 +63,7 @@ size-requires c κs = search needs
 
 loop-holds : tie.Need-loop-holds Inv-loop μ-loop
 loop-holds c =
-    let a = c .before .before .before .before .before .args in
+    let a = entered c .args in
     let n = c .size .ensures in
     (omega arith, n .0, n .1, refl, refl, refl, λ i h. refl, sym (n .0), mapped-none (imageOf (a .label) (a .d)) (setOf (a .s .now) (a .b)))
 

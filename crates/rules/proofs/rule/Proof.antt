@@ -4,6 +4,13 @@ use borrow.Author.Needs.{needs}
 use Rattle.rules.proofs.rule.Statement.{statement}
 use Rattle.rules.proofs.rule.Tie as tie
 
+-- where the function begins, from a store to one cell and from one to several
+abbrev one-cell : tie.Then2 → tie.Start
+one-cell c = c .before .before .before .before
+
+abbrev several-cells : tie.Else2 → tie.Start
+several-cells c = c .before .before .before .before
+
 change-requires : tie.Need-change-requires
 change-requires c κs =
     let p = c .before .before .before .pre in
@@ -17,7 +24,7 @@ returns c = c .before .before .change .ensures
 
 change-requires-2 : tie.Need-change-requires-2
 change-requires-2 c κs =
-    let p = c .before .before .before .before .before .pre in
+    let p = one-cell (c .before) .pre in
     (p .0, record { statement = p .1; one = inr (c .before .if2 .taken) })
 
 same-length-2 : tie.Need-same-length-2
@@ -37,9 +44,9 @@ same-length-3 c = search needs
 
 returns-3 : tie.Need-returns-3
 returns-3 c =
-    let r = c .before .before .spread .ensures in
-    let st = c .before .before .before .before .before .before .before in
-    (r .0 (st .before .args .label), r .1)
+    let spread = c .before .before in
+    let r = spread .spread .ensures in
+    (r .0 (several-cells (spread .before .before) .args .label), r .1)
 
 pub rule-spec : {M : Type 1} → statement M
 rule-spec =

@@ -12,6 +12,10 @@ use borrow.Author.Needs.{needs}
 use Rattle.sets.proofs.order_slots.Statement.{statement}
 use Rattle.sets.proofs.order_slots.Tie as tie
 
+-- where the function begins
+abbrev entered : tie.After-capped → tie.Start
+entered c = c .before .before .before
+
 mul-capped : tie.Need-mul-capped
 mul-capped c = search needs
 
@@ -41,7 +45,7 @@ compare-slot-requires c κs = search needs
 
 returns : tie.Need-returns
 returns c =
-    let a = c .before .before .before .before .before .args in
+    let a = entered (c .before .before) .args in
     let n = c .before .before .capped in
     let s = a .s .now in
     let words =
