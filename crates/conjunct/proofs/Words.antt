@@ -1,7 +1,7 @@
 -- Loops over the words of a conjunct: compared, changed one by one, and tested. What a loop has done after i words is `Rest`, `Changed`
 -- or `Sought`; each has a law for no word, for one word more, and for all of them.
 use mathlib.Core.Bool.{Bool, true, false, _||_}
-use mathlib.Core.List.{List, [], _∷_, map, map-append}
+use mathlib.Core.List.{List, map, map-append}
 use mathlib.Core.Path.{_≡_, refl, sym, ap, _∙_}
 use Prim.Native.Nat.{ℕ, zero, suc, _+_, _-_, _<_, _≤_, compare, Ordering·lt, Ordering·eq, Ordering·gt}
 use native.Mathlib.Numerals.{add-one}
@@ -70,10 +70,12 @@ module _ (l l₀ : List ℕ) (i v : ℕ) (h : i < length l) (k : i < length l₀
       let p : i + 0 ≡ i = omega arith in
       ap (λ j. getD l j 0) (sym p) ∙ sym (getD-drop i l 0 0) ∙ ap (λ x. getD x 0 0) e ∙ getD-drop i l₀ 0 0 ∙ ap (λ j. getD l₀ j 0) p
 
+  -- and so are those behind it
+  pub behind-same : drop (i + 1) l ≡ drop (i + 1) l₀
+  behind-same = rw (add-one i) (ap (drop 1) (sym (drop-cons l i 0 h) ∙ e ∙ drop-cons l₀ i 0 k))
+
   pub after-same : drop (i + 1) (set l i v) ≡ drop (i + 1) l₀
-  after-same =
-      let t : drop (suc i) l ≡ drop (suc i) l₀ = ap (drop 1) (sym (drop-cons l i 0 h) ∙ e ∙ drop-cons l₀ i 0 k) in
-      drop-set-lt (i + 1) l i v (omega arith) ∙ rw (add-one i) t
+  after-same = drop-set-lt (i + 1) l i v (omega arith) ∙ behind-same
 
   mapped-more : (f : Node → Node) → nodesOf (take i l) ≡ map f (nodesOf (take i l₀)) → nodeOf v ≡ f (nodeOf (getD l i 0))
       → nodesOf (take (i + 1) (set l i v)) ≡ map f (nodesOf (take (i + 1) l₀))

@@ -1,7 +1,9 @@
+pub mod Sources
 pub mod Snoc
 pub mod Ranks
 pub mod Notes
 pub mod Renumbered
+pub mod OneSource
 pub mod Fresh
 pub mod Plain
 pub mod Replacing

@@ -1,17 +1,17 @@
 -- The distinct atoms of a conjunct that grows at its end; the words of a right side; and what a substitution answers.
-use mathlib.Core.Bool.{true, cond}
+use mathlib.Core.Bool.{Bool, true, cond}
 use mathlib.Core.List.{List, [], _∷_, _++_, map, flatMap}
 use mathlib.Core.Path.{_≡_}
 use Prim.Native.Nat.{ℕ, _+_, _≤_, _<_, _^_}
 use lib.ListN.{length, take}
-use Rattle.model.specs.Conjunct.{Atom, Node, const, atom, var, op, conv, Conj, rank, renamed, onAtom, renumber, has, AtAtom}
+use Rattle.model.specs.Conjunct.{Source, Atom, Node, const, atom, var, op, conv, Conj, atoms, rank, renamed, onAtom, renumber, has, AtAtom}
 use Rattle.model.specs.Lists.{All, every}
 use Rattle.model.specs.Walk.{replace}
 use Rattle.model.specs.Sizes.{mostNodes}
 use Rattle.model.specs.Touch.{isVar, isLoad}
 use Rattle.model.specs.TidySets.{Numbered}
 use Rattle.conjunct.specs.Word.{isAtom, atomOf, nodeOf, nodesOf}
-use Rattle.conjunct.specs.Value.{conjOf}
+use Rattle.conjunct.specs.Value.{conjOf, ConjunctIn}
 use Rattle.conjunct.specs.declared.numbering.Noted.{Noted}
 use Rattle.conjunct.specs.declared.numbering.Rank.{Rank}
 use Rattle.conjunct.specs.declared.numbering.Right.{Right}
@@ -25,6 +25,10 @@ behind (atom a) ks = cond (has a ks) ks (ks ++ (a ∷ []))
 behind (var x ty) ks = ks
 behind (op o ty) ks = ks
 behind (conv ty) ks = ks
+
+-- numbered anew are the atoms whose source passes, and no others
+unfoldable pub renumberPassing : (Source → Bool) → Conj → Conj
+renumberPassing P e = let ks = atoms e in map (onAtom (λ a. cond (P (a .src)) (atom (renamed ks a)) (atom a))) e
 
 -- the atoms of words that are all atoms'
 abbrev pub atomsOf : List ℕ → List Atom
@@ -61,6 +65,12 @@ pub record Behind (ks : List ℕ) (w m : ℕ) (after : List ℕ) (r : Noted) : T
 pub record LoadBehind (t k : ℕ) (ks : List ℕ) (w : ℕ) (after : List ℕ) : Type 0 where
   pub atoms : atomsOf after ≡ cond (isLoad t k (nodeOf w)) (behind (nodeOf w) (atomsOf ks)) (atomsOf ks)
   pub all : Atoms after
+
+-- what a numbering of the atoms of u's source in the first n words is given: a conjunct, an atom, and words to work in
+pub record SourceIn (ws : List ℕ) (n u : ℕ) (seen : List ℕ) : Type 0 where
+  pub conjunct : ConjunctIn ws n
+  pub source : isAtom u ≡ true
+  pub space : mostNodes ≤ length seen
 
 -- the words of a right side
 abbrev pub rightWords : Right → List ℕ

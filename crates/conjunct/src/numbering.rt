@@ -5,13 +5,13 @@ ghost use mathlib.Core.List.{map, flatMap, _++_};
 ghost use Prim.Native.Nat.{ℕ, _+_, _<_, _≤_};
 ghost use lib.Dec.{eqb};
 ghost use lib.ListN.{length, take};
-ghost use Rattle.model.specs.Conjunct.{atom, var, renumber, atoms};
+ghost use Rattle.model.specs.Conjunct.{atom, var, renumber, atoms, sameSource};
 ghost use Rattle.model.specs.Walk.{replace, loads};
 ghost use Rattle.model.specs.Sizes.{mostNodes};
 ghost use Rattle.model.specs.Touch.{some};
-ghost use Rattle.conjunct.specs.Word.{isAtom, keyOf, nodeOf, nodesOf};
+ghost use Rattle.conjunct.specs.Word.{isAtom, sourceOf, keyOf, nodeOf, nodesOf};
 ghost use Rattle.conjunct.specs.Value.{conjOf, ConjunctIn};
-ghost use Rattle.conjunct.specs.Behind.{SeenAtoms, RoomBehind, Ranked, Behind, LoadBehind, rightWords, Substitutable, Replaced, rightOf, variableBy, Exchangeable};
+ghost use Rattle.conjunct.specs.Behind.{SeenAtoms, RoomBehind, Ranked, Behind, LoadBehind, SourceIn, renumberPassing, rightWords, Substitutable, Replaced, rightOf, variableBy, Exchangeable};
 use super::MOST_NODES;
 use super::node;
 
@@ -98,6 +98,28 @@ pub fn renumber(words: &mut [u64], n: usize, seen: &mut [u64])
     }
 }
 
+// the n of the atoms of u's source count from 1 by first appearance, all other words stay; `seen` is
+// room to work in, and holds the atoms of this source alone
+fn renumber_source(words: &mut [u64], n: usize, u: u64, seen: &mut [u64])
+    requires { ⌜ SourceIn (now words) n u (now seen) ⌝ }
+    ensures { λ _. ⌜ conjOf (now (words .exit)) n ≡ renumberPassing (sameSource (sourceOf u)) (conjOf (now (words .entry)) n) ⌝ }
+{
+    let key = node::source(u);
+    let mut m: usize = 0;
+    let mut i: usize = 0;
+    while i < n {
+        let w = words[i];
+        if node::source(w) != key {
+            i += 1;
+            continue;
+        }
+        let p = note(seen, m, w);
+        words[i] = p.word;
+        m = p.count;
+        i += 1;
+    }
+}
+
 fn put(out: &mut [u64], m: usize, p: Right)
     requires { ⌜ (p .len ≤ 3) × (m + p .len ≤ length (now out)) ⌝ }
     ensures { λ _. ⌜ take (m + p .len) (now (out .exit)) ≡ take m (now (out .entry)) ++ rightWords p ⌝ }
@@ -177,8 +199,8 @@ fn variable_swapped(w: u64, v: u64, u: u64) -> u64
     if node::same_variable(w, v) { u } else { w }
 }
 
-// the one node of r for the variable x in the words, numbered anew; `seen` is room to work in. Without an
-// atom in r the numbers stay.
+// the one node of r for the variable x in the words, numbered anew; `seen` is room to work in. If it is an
+// atom, those of its source get other numbers; all others keep theirs.
 pub fn replace_variable(words: &mut [u64], x: u64, r: Right, seen: &mut [u64])
     requires { ⌜ Exchangeable (now words) x r (now seen) ⌝ }
     ensures { λ _. ⌜ nodesOf (now (words .exit)) ≡ renumber (flatMap (replace x (rightOf r)) (nodesOf (now (words .entry)))) ⌝ }
@@ -191,8 +213,8 @@ pub fn replace_variable(words: &mut [u64], x: u64, r: Right, seen: &mut [u64])
         words[i] = variable_swapped(words[i], v, u);
         i += 1;
     }
-    if has_atom(r) {
-        renumber(words, n, seen);
+    if node::is_atom(u) {
+        renumber_source(words, n, u, seen);
     }
 }
 

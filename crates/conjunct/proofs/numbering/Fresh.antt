@@ -8,7 +8,7 @@ use native.Mathlib.Omega.{arith}
 use lib.Dec.{eqb, eqb·suc-suc, eqb·zero-suc, eqb·suc-zero}
 use lib.ListN.{length, take, drop, getD, set, length-map, length-append, take-append-drop}
 use lib.Seq.{take-suc, take-suc-set}
-use Rattle.model.proofs.conjuncts.Atoms.{every-map}
+use Rattle.model.proofs.conjuncts.Atoms.{at-any, every-map}
 use Rattle.model.proofs.conjuncts.Renumber.{moved, movedAll, renumber-moved}
 use Rattle.model.proofs.basics.Lists.{all-of}
 use Rattle.model.proofs.basics.Tests.{case}
@@ -90,13 +90,6 @@ lift-apart zero zero = refl
 lift-apart zero (suc n) = eqb·zero-suc (suc n) ∙ sym (eqb·zero-suc n)
 lift-apart (suc m) zero = eqb·suc-zero (suc m) ∙ sym (eqb·suc-zero m)
 lift-apart (suc m) (suc n) = eqb·suc-suc (suc m) (suc n)
-
-at-any : (v : Node) → AtAtom (λ a. Unit {0}) v
-at-any (const ty i) = tt
-at-any (atom a) = tt
-at-any (var x ty) = tt
-at-any (op o ty) = tt
-at-any (conv ty) = tt
 
 renumber-lifted : (e : Conj) → renumber (movedAll lifted e) ≡ renumber e
 unfolding lifted

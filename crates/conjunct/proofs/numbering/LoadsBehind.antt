@@ -1,15 +1,14 @@
 -- The loads from an array among the atoms of a conjunct that grows at its end.
-use mathlib.Core.Bool.{true, false, _||_, cond}
-use mathlib.Core.List.{List, [], _∷_, _++_, map, append-nil, map-append}
+use mathlib.Core.Bool.{Bool, true, false, cond}
+use mathlib.Core.List.{List, [], _∷_, map, map-append}
 use mathlib.Core.Path.{_≡_, refl, sym, ap, ap₂, _∙_}
 use Prim.Native.Nat.{ℕ, _+_, _<_}
 use native.Mathlib.Numerals.{add-one}
 use native.Mathlib.Omega.{arith}
 use lib.ListN.{length, take, getD, set}
 use lib.Seq.{take-suc}
-use Rattle.model.proofs.conjuncts.Atoms.{atom-eq}
 use Rattle.model.proofs.basics.Tests.{case, true→T, and-left, and-right}
-use Rattle.model.specs.Conjunct.{Atom, Node, const, atom, var, op, conv, sameAtom, atoms, has}
+use Rattle.model.specs.Conjunct.{Atom, Node, const, atom, var, op, conv, atoms, has, AtAtom}
 use Rattle.model.specs.Lists.{every}
 use Rattle.model.specs.Walk.{onArray, loads}
 use Rattle.model.specs.Touch.{isLoad}
@@ -17,44 +16,28 @@ use Rattle.conjunct.proofs.node.Atoms.{is-atom, other-kept}
 use Rattle.conjunct.specs.Word.{isAtom, atomOf, nodeOf, nodesOf}
 use Rattle.conjunct.proofs.numbering.Notes.{more-words, more-atoms}
 use Rattle.conjunct.proofs.numbering.Snoc.{atoms-snoc}
+use Rattle.conjunct.proofs.numbering.Sources.{passing, passing-behind, passing-other}
 use Rattle.conjunct.specs.Behind.{behind, atomsOf, Atoms, LoadBehind}
 
 module _ (t k : ℕ) where
-  loads-join : (xs ys : List Atom) → loads t k (xs ++ ys) ≡ loads t k xs ++ loads t k ys
-  unfolding loads
-  loads-join [] ys = refl
-  loads-join (x ∷ xs) ys =
-      let ih = loads-join xs ys in
-      case (onArray t k (x .src))
-      (λ z. cond z (x ∷ loads t k (xs ++ ys)) (loads t k (xs ++ ys)) ≡ cond z (x ∷ loads t k xs) (loads t k xs) ++ loads t k ys) (λ p. ap (x ∷_) ih)
-      (λ p. ih)
+  -- the loads are the atoms whose source is the array
+  loads-passing : (ks : List Atom) → loads t k ks ≡ passing (onArray t k) ks
+  unfolding loads passing
+  loads-passing [] = refl
+  loads-passing (a ∷ ks) = ap (λ ls. cond (onArray t k (a .src)) (a ∷ ls) ls) (loads-passing ks)
 
-  -- a load from the array is among the loads if and only if it is among the atoms
-  has-loads : (a : Atom) (ks : List Atom) → onArray t k (a .src) ≡ true → has a (loads t k ks) ≡ has a ks
-  unfolding loads
-  has-loads a [] h = refl
-  has-loads a (b ∷ ks) h =
-      let ih = has-loads a ks h in
-      case (onArray t k (b .src)) (λ z. has a (cond z (b ∷ loads t k ks) (loads t k ks)) ≡ (sameAtom a b || has a ks)) (λ p. ap (sameAtom a b ||_) ih)
-      (λ p. ih ∙ case (sameAtom a b) (λ z. has a ks ≡ (z || has a ks))
-      (λ q. absurd (true→T (sym p ∙ sym (ap (λ x. onArray t k (x .src)) (atom-eq a b q)) ∙ h))) (λ q. refl))
+  load-source : (v : Node) (b : Bool) → isLoad t k v ≡ b → AtAtom (λ a. onArray t k (a .src) ≡ b) v
+  load-source (const ty i) b h = tt
+  load-source (atom a) b h = h
+  load-source (var x ty) b h = tt
+  load-source (op o ty) b h = tt
+  load-source (conv ty) b h = tt
 
   loads-behind : (v : Node) (ks : List Atom) → loads t k (behind v ks) ≡ cond (isLoad t k v) (behind v (loads t k ks)) (loads t k ks)
-  unfolding behind loads
-  loads-behind (const ty i) ks = refl
-  loads-behind (atom a) ks =
-      case (onArray t k (a .src))
-      (λ z. onArray t k (a .src) ≡ z
-      → loads t k (cond (has a ks) ks (ks ++ (a ∷ [])))
-      ≡ cond z (cond (has a (loads t k ks)) (loads t k ks) (loads t k ks ++ (a ∷ []))) (loads t k ks))
-      (λ p q. rw (has-loads a ks q)
-      (case (has a ks) (λ z. loads t k (cond z ks (ks ++ (a ∷ []))) ≡ cond z (loads t k ks) (loads t k ks ++ (a ∷ []))) (λ r. refl)
-      (λ r. loads-join ks (a ∷ []) ∙ ap (λ z. loads t k ks ++ cond z (a ∷ []) []) q)))
-      (λ p q. case (has a ks) (λ z. loads t k (cond z ks (ks ++ (a ∷ []))) ≡ loads t k ks) (λ r. refl)
-      (λ r. loads-join ks (a ∷ []) ∙ ap (λ z. loads t k ks ++ cond z (a ∷ []) []) q ∙ append-nil (loads t k ks))) refl
-  loads-behind (var x ty) ks = refl
-  loads-behind (op o ty) ks = refl
-  loads-behind (conv ty) ks = refl
+  loads-behind v ks =
+      rw (loads-passing (behind v ks), loads-passing ks)
+      (case (isLoad t k v) (λ z. passing (onArray t k) (behind v ks) ≡ cond z (behind v (passing (onArray t k) ks)) (passing (onArray t k) ks))
+      (λ p. passing-behind (onArray t k) v ks (load-source v true p)) (λ p. passing-other (onArray t k) v ks (load-source v false p)))
 
   -- a load is an atom
   not-load : (v : Node) → ((f : Atom → Node) → Rattle.model.specs.Conjunct.onAtom f v ≡ v) → isLoad t k v ≡ true → ⊥

@@ -1,24 +1,26 @@
 -- The two answers of a substitution, from the words that it has put together.
 use mathlib.Core.Bool.{true, false, cond}
 use mathlib.Core.List.{List, [], _∷_, _++_, map, flatMap}
-use mathlib.Core.Path.{_≡_, refl, sym, ap, _∙_}
+use mathlib.Core.Path.{_≡_, refl, sym, ap, _∙_, subst}
 use Prim.Native.Nat.{ℕ, _+_, _<_, _≤_}
 use native.Mathlib.Numerals.{add-one}
 use native.Mathlib.Omega.{arith}
 use lib.ListN.{length, take, getD, set, length-append}
 use lib.Seq.{length-take-le, take-suc-set}
-use Rattle.model.specs.Conjunct.{Conj, renumber, AtAtom}
+use Rattle.model.specs.Conjunct.{Conj, sameSource, renumber, AtAtom}
 use Rattle.model.proofs.basics.Tests.{case}
 use Rattle.model.specs.Lists.{All}
 use Rattle.model.specs.Walk.{replace}
 use Rattle.model.specs.Sizes.{mostNodes}
-use Rattle.model.specs.Touch.{isVar, some}
+use Rattle.model.specs.Touch.{isVar}
 use Rattle.model.specs.TidySets.{Numbered}
-use Rattle.conjunct.specs.Word.{isAtom, nodeOf, nodesOf}
+use Rattle.conjunct.specs.Word.{isAtom, sourceOf, atomOf, nodeOf, nodesOf}
 use Rattle.conjunct.specs.Value.{conjOf}
 use Rattle.conjunct.proofs.numbering.Fresh.{flat-snoc, flat-part, fresh-length, fresh-renumber}
-use Rattle.conjunct.proofs.numbering.Plain.{none-taken, still-numbered}
-use Rattle.conjunct.specs.Behind.{rightWords, rightOf, pieceOf, variableBy}
+use Rattle.conjunct.proofs.node.Atoms.{is-atom}
+use Rattle.conjunct.proofs.numbering.OneSource.{one-source}
+use Rattle.conjunct.proofs.numbering.Plain.{NoAtoms, still-numbered}
+use Rattle.conjunct.specs.Behind.{rightWords, rightOf, pieceOf, variableBy, renumberPassing}
 use Rattle.conjunct.specs.declared.numbering.Right.{Right}
 
 -- ---- one word more
@@ -61,10 +63,10 @@ module _ (l : List ℕ) (n x : ℕ) (r : Right) (inside : n ≤ length l) (numbe
   replaced-done put after t c = c ∙ ap renumber t ∙ fresh-renumber x (rightWords r) fresh (take n l) numbered
 
   -- all words put together, where the right side has no atom
-  pub replaced-plain : (put : Conj) → put ≡ nodesOf (flatMap (pieceOf x (rightWords r)) (take n l)) → some isAtom (r .nodes) ≡ false
+  pub replaced-plain : (put : Conj) → put ≡ nodesOf (flatMap (pieceOf x (rightWords r)) (take n l)) → NoAtoms (rightWords r)
       → put ≡ renumber (flatMap (replace x (rightOf r)) (conjOf l n))
   replaced-plain put t none =
-      let kept = still-numbered x (rightWords r) (none-taken (r .len) (r .nodes) none) (take n l) numbered in
+      let kept = still-numbered x (rightWords r) none (take n l) numbered in
       t ∙ sym kept ∙ fresh-renumber x (rightWords r) fresh (take n l) numbered
 
 -- ---- a right side of one node
@@ -81,9 +83,21 @@ one-by-one x u (w ∷ ws) =
     ≡ nodesOf (cond z (u ∷ []) (w ∷ []) ++ flatMap (pieceOf x (u ∷ [])) ws))
     (λ p. ap (nodeOf u ∷_) (one-by-one x u ws)) (λ p. ap (nodeOf w ∷_) (one-by-one x u ws))
 
--- put in the places of the variable node by node
-pub exchanged : (x : ℕ) (r : Right) → r .len ≡ 1 → length (r .nodes) ≡ 3 → (ws : List ℕ)
-    → map (variableBy x (nodeOf (getD (r .nodes) 0 0))) (nodesOf ws) ≡ nodesOf (flatMap (pieceOf x (rightWords r)) ws)
-exchanged x r one three ws =
-    let u = getD (r .nodes) 0 0 in
-    one-by-one x u ws ∙ ap (λ l. nodesOf (flatMap (pieceOf x l) ws)) (sym (ap (λ k. take k (r .nodes)) one ∙ first-word (r .nodes) three))
+module _ (x : ℕ) (r : Right) (one : r .len ≡ 1) (three : length (r .nodes) ≡ 3) where
+  one-word : rightWords r ≡ (getD (r .nodes) 0 0 ∷ [])
+  one-word = ap (λ k. take k (r .nodes)) one ∙ first-word (r .nodes) three
+
+  -- put in the places of the variable node by node
+  pub exchanged : (ws : List ℕ) → map (variableBy x (nodeOf (getD (r .nodes) 0 0))) (nodesOf ws) ≡ nodesOf (flatMap (pieceOf x (rightWords r)) ws)
+  exchanged ws = one-by-one x (getD (r .nodes) 0 0) ws ∙ ap (λ l. nodesOf (flatMap (pieceOf x l) ws)) (sym one-word)
+
+  pub one-plain : isAtom (getD (r .nodes) 0 0) ≡ false → NoAtoms (rightWords r)
+  one-plain h = subst NoAtoms (sym one-word) (h, tt)
+
+  -- if it is an atom, those of its source numbered anew are all that are to be numbered
+  pub exchanged-source : isAtom (getD (r .nodes) 0 0) ≡ true → (ws : List ℕ) → Numbered (nodesOf ws) → (put : Conj)
+      → put ≡ map (variableBy x (nodeOf (getD (r .nodes) 0 0))) (nodesOf ws)
+      → renumberPassing (sameSource (sourceOf (getD (r .nodes) 0 0))) put ≡ renumber put
+  exchanged-source h ws numbered put e =
+      let u = getD (r .nodes) 0 0 in
+      rw (e, is-atom u h) (one-source x (atomOf u) (nodesOf ws) numbered)

@@ -1,16 +1,16 @@
 -- A conjunct that grows at its end: its distinct atoms, their ranks, and its numbering.
-use mathlib.Core.Bool.{true, false, _&&_, _||_, cond}
+use mathlib.Core.Bool.{Bool, true, false, _&&_, _||_, cond}
 use mathlib.Core.List.{List, [], _∷_, _++_, map, append-nil, map-append}
 use mathlib.Core.Path.{_≡_, refl, sym, ap, ap₂, _∙_, subst}
 use Prim.Native.Nat.{suc}
 use lib.Dec.{eqb}
 use Rattle.model.proofs.conjuncts.Atoms.{has-atoms, atom-eq, atom-self, source-self}
 use Rattle.model.proofs.basics.Tests.{case, true→T, eqb-self}
-use Rattle.model.specs.Conjunct.{Atom, Node, const, atom, var, op, conv, Conj, sameSource, sameAtom, without, note, atoms, rank, renamed, has, AtAtom}
-use Rattle.model.specs.Conjunct.{onAtom, renumber}
+use Rattle.model.specs.Conjunct.{Source, Atom, Node, const, atom, var, op, conv, Conj, sameSource, sameAtom, without, note, atoms, rank, renamed, has, AtAtom}
+use Rattle.model.specs.Conjunct.{onAtom}
 use Rattle.model.specs.Lists.{All}
 use Rattle.conjunct.proofs.node.Atoms.{alike}
-use Rattle.conjunct.specs.Behind.{behind}
+use Rattle.conjunct.specs.Behind.{behind, renumberPassing}
 
 -- ---- the atoms
 
@@ -116,12 +116,14 @@ module _ (f g : Atom → Node) (P : Atom → Type 0) (same : (a : Atom) → P a 
   map-same (conv ty ∷ e) h = ap (conv ty ∷_) (map-same e (h .1))
 
 -- one node more: the others keep their numbers
-pub renumber-snoc : (e : Conj) (v : Node) → renumber (e ++ (v ∷ [])) ≡ renumber e ++ (onAtom (λ a. atom (renamed (behind v (atoms e)) a)) v ∷ [])
-unfolding renumber renamed
-renumber-snoc e v =
-    let f : List Atom → Atom → Node = λ ks a. atom (record { src = a .src; n = suc (rank a ks) }) in
+pub renumber-snoc : (P : Source → Bool) (e : Conj) (v : Node)
+    → renumberPassing P (e ++ (v ∷ []))
+    ≡ renumberPassing P e ++ (onAtom (λ a. cond (P (a .src)) (atom (renamed (behind v (atoms e)) a)) (atom a)) v ∷ [])
+unfolding renumberPassing renamed
+renumber-snoc P e v =
+    let f : List Atom → Atom → Node = λ ks a. cond (P (a .src)) (atom (record { src = a .src; n = suc (rank a ks) })) (atom a) in
     ap (λ ks. map (onAtom (f ks)) (e ++ (v ∷ []))) (atoms-snoc e v)
     ∙ map-append (onAtom (f (behind v (atoms e)))) e (v ∷ [])
     ∙ ap (_++ (onAtom (f (behind v (atoms e))) v ∷ []))
     (map-same (f (behind v (atoms e))) (f (atoms e)) (λ a. has a (atoms e) ≡ true)
-    (λ a h. ap (λ n. atom (record { src = a .src; n = suc n })) (rank-kept v a (atoms e) h)) e (has-atoms e))
+    (λ a h. ap (λ n. cond (P (a .src)) (atom (record { src = a .src; n = suc n })) (atom a)) (rank-kept v a (atoms e) h)) e (has-atoms e))

@@ -2,17 +2,19 @@
 use mathlib.Core.Path.{_≡_, refl, _∙_}
 use Prim.Native.Nat.{_-_, _≤_, _<_}
 use native.Mathlib.Omega.{arith}
-use lib.ListN.{length, length-set}
+use lib.ListN.{length, getD, length-set}
 use borrow.Author.Needs.{needs}
 use Rattle.model.specs.Sizes.{mostNodes}
-use Rattle.conjunct.proofs.numbering.Renumbered.{Numbering, numbering-none, numbering-next}
+use Rattle.conjunct.specs.Value.{conjOf}
+use Rattle.conjunct.specs.Word.{nodeOf}
+use Rattle.conjunct.proofs.numbering.Renumbered.{Numbering, numbering-none, numbering-next, anySource, any-passes, renumber-any}
 use Rattle.conjunct.proofs.numbering.renumber.Statement.{statement}
 use Rattle.conjunct.proofs.numbering.renumber.Tie as tie
 
 abbrev Inv-loop : tie.InvT-loop
 Inv-loop words₀ n seen₀ m₀ i₀ words seen m i =
     (i ≤ n) × (n ≤ mostNodes) × (n ≤ length words₀) × (length words ≡ length words₀) × (mostNodes ≤ length seen₀) × (length seen ≡ length seen₀)
-    × Numbering words words₀ seen m i
+    × Numbering anySource words words₀ seen m i
 
 abbrev μ-loop : tie.MeasureT-loop
 μ-loop words₀ n seen₀ m₀ i₀ words seen m i = n - i
@@ -30,7 +32,7 @@ loop-holds c =
       refl,
       search needs,
       refl,
-      numbering-none (a .words .now) (a .seen .now),
+      numbering-none anySource (a .words .now) (a .seen .now),
     )
 
 mul-w : tie.Need-mul-w Inv-loop μ-loop
@@ -69,7 +71,7 @@ loop-again c =
       length-set (lp .words) (lp .i) (p .result .word) ∙ lp .inv .3,
       lp .inv .4,
       p .kept .0 ∙ lp .inv .5,
-      numbering-next (lp .words) l₀ (lp .seen) (lp .m) (lp .i) h k (lp .inv .6) (p .last .0) (p .result) (p .ensures),
+      numbering-next anySource (lp .words) l₀ (lp .seen) (lp .m) (lp .i) h k (lp .inv .6) (any-passes (nodeOf (getD (lp .words) (lp .i) 0))) (p .last .0) (p .result) (p .ensures),
     )
 
 same-length : tie.Need-same-length Inv-loop μ-loop
@@ -81,8 +83,9 @@ same-length-2 c = search needs
 returns : tie.Need-returns Inv-loop μ-loop
 returns c =
     let lp = c .before .loop in
-    let e : lp .i ≡ c .before .before .before .before .args .n = omega arith in
-    rw e at (lp .inv .6 .done)
+    let a = c .before .before .before .before .args in
+    let e : lp .i ≡ a .n = omega arith in
+    (rw e at (lp .inv .6 .done)) ∙ renumber-any (conjOf (a .words .now) (a .n))
 
 pub renumber-spec : {M : Type 1} → statement M
 renumber-spec =

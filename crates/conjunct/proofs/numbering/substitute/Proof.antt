@@ -9,6 +9,7 @@ use lib.Seq.{length-take-le}
 use borrow.Author.Needs.{needs}
 use borrow.Author.Tests.{not-true}
 use Rattle.model.specs.Sizes.{mostNodes}
+use Rattle.conjunct.proofs.numbering.Plain.{none-taken}
 use Rattle.conjunct.proofs.numbering.Replacing.{piece-there, piece-other, more-there, more-other, replaced-over, replaced-done, replaced-plain}
 use Rattle.conjunct.specs.Behind.{rightWords, pieceOf}
 use Rattle.conjunct.specs.Value.{conjOf}
@@ -156,7 +157,7 @@ returns-3 c =
     let p = start .pre in
     let lp = at-loop .loop in
     let none : c .before .has-atom .result ≡ false = search (not-true, c .if4 .taken) in
-    let plain = sym (c .before .has-atom .ensures) ∙ none in
+    let plain = none-taken (a .r .len) (a .r .nodes) (sym (c .before .has-atom .ensures) ∙ none) in
     let e : lp .i ≡ a .n = omega arith in (
       lp .inv .2,
       replaced-plain (a .e .now) (a .n) (a .x) (a .r) (p .there) (p .numbered) (p .fresh) (conjOf (lp .out) (lp .m)) (ap nodesOf (rw e at (lp .inv .5))) plain,
