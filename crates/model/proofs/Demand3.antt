@@ -14,7 +14,7 @@ use Rattle.model.specs.Program.{Program, Tables, countsRight, readProgra
 use Rattle.model.specs.Condition.{Condition, encode, readCondition, analysis}
 use Rattle.model.specs.Input.{Input, readInput}
 use Rattle.model.specs.Filter.{fewCombinations, hasReadings, holds, passNumber, heldNumber, filterInput}
-use Rattle.model.specs.Run.{zeros, Line, markByte, choicesOf, Ran}
+use Rattle.model.specs.Run.{zeros, Line, markByte, choicesOf, Ran, originsOf}
 use Rattle.model.specs.Exact.{Note}
 use Rattle.model.specs.Demands.{Record, Matches, Marks, Demand3}
 use Rattle.model.specs.Sizes.{mostFields, mostVariables, mostArrays, mostStatements}
@@ -99,8 +99,8 @@ unfolding linesOf
 lines-unmarked program condition input limit choices log ran a passed r =
     let same : a .P ≡ r .P = ok-eq (a .P) (r .P) (sym (a .reads) ∙ r .reads) in
     let reads : readInput (a .P .tables .fields) input ≡ ok (r .I) = subst (λ P. readInput (P .tables .fields) input ≡ ok (r .I)) (sym same) (r .readsInput) in
-    sound (r .I) (r .P .code) (a .S) (subst (λ P. derived (P .code) ≡ ok (a .S)) same (a .derives)) (passes-meets program condition a input (r .I) reads passed) limit
-    (length log / 12) (choicesOf choices)
+    sound (r .I) (r .P .code) (a .S) (subst (λ P. derived (P .code) ≡ ok (a .S)) same (a .derives)) (passes-meets program condition a input (r .I) reads passed)
+    (originsOf (r .P)) limit (length log / 12) (choicesOf choices)
 
 pub demand3 : Demand3
 demand3 program condition input limit choices log ran accepted passed e =

@@ -15,7 +15,7 @@ use Rattle.model.specs.Values.{Val, stepOp}
 use Rattle.model.specs.Code.{Right, number, copy, calc, change, read, load, Instr, assign, store, site, Code, done, step, branch, loop}
 use Rattle.model.specs.Program.{Program, Tables, readProgram}
 use Rattle.model.specs.Input.{Input, readInput}
-use Rattle.model.specs.Run.{State, zeros, index, Next, go, halt, exec, append, permit, roomLeft, taken, choicesOf}
+use Rattle.model.specs.Run.{State, zeros, index, Next, go, halt, exec, append, permit, roomLeft, taken, choicesOf, Origins, labelOf, quiet, due, settled, originsOf}
 
 -- a whole number, and the set of places in the list of steps from which it came
 pub record Made : Type 0 where
@@ -113,18 +113,41 @@ abbrev pub following : Next → (State → List ℕ → List Note) → List Note
 following (go σ ch) f = f σ ch
 following (halt c) f = []
 
--- the notes of a run of at most n steps with room for so many lines
-unfoldable pub notes : Input → ℕ → ℕ → State → Store → List Bool → Code → List ℕ → List Note
-notes I zero room σ τ H c ch = []
-notes I (suc n) room σ τ H done ch = []
-notes I (suc n) room σ τ H (step l i rest) ch =
+-- what an assignment of a call makes: whole number and set go together
+abbrev pub movedStore : Store → Instr → Store
+movedStore τ (assign a ty (number n)) = makeVar τ a (given (immediate ty n))
+movedStore τ (assign a ty (copy b)) = makeVar τ a (τ .vars b)
+movedStore τ (assign a ty (calc o b c)) = τ
+movedStore τ (assign a ty (change b u)) = τ
+movedStore τ (assign a ty (read f)) = τ
+movedStore τ (assign a ty (load r k x)) = τ
+movedStore τ (store r k x y ty) = τ
+movedStore τ (site a ty) = τ
+
+-- what there is past the assignments of calls that a piece of program begins with
+unfoldable pub settledStore : Origins → Store → Code → Store
+settledStore o τ done = τ
+settledStore o τ (step l i rest) = cond (quiet (o l) i) (settledStore o (movedStore τ i) rest) τ
+settledStore o τ (branch l v y n rest) = τ
+settledStore o τ (loop l v body rest) = τ
+
+-- the notes of one step, and then the run goes on
+abbrev pub noting : Input → Origins → ℕ → State → Store → List Bool → Code → List ℕ → (ℕ → State → Store → List Bool → Code → List ℕ → List Note) → List Note
+noting I o room σ τ H done ch next = []
+noting I o room σ τ H (step l i rest) ch next =
     following (permit room i (exec I σ i ch))
-    (λ σ′ ch′. noted l i H τ ++ notes I n (roomLeft room i) σ′ (make I σ ch (length H) i τ) (over σ i ∷ H) rest ch′)
-notes I (suc n) room σ τ H (branch l v y m rest) ch = notes I n room σ τ (false ∷ H) (cond (taken σ v) (append y rest) (append m rest)) ch
-notes I (suc n) room σ τ H (loop l v body rest) ch = notes I n room σ τ (false ∷ H) (cond (taken σ v) (append body (loop l v body rest)) rest) ch
+    (λ σ′ ch′. noted (labelOf (o l)) i H τ ++ next (roomLeft room i) σ′ (make I σ ch (length H) i τ) (over σ i ∷ H) rest ch′)
+noting I o room σ τ H (branch l v y m rest) ch next = next room σ τ (false ∷ H) (cond (taken σ v) (append y rest) (append m rest)) ch
+noting I o room σ τ H (loop l v body rest) ch next = next room σ τ (false ∷ H) (cond (taken σ v) (append body (loop l v body rest)) rest) ch
+
+-- the notes of a run of at most n steps with room for so many lines
+unfoldable pub notes : Input → Origins → ℕ → ℕ → State → Store → List Bool → Code → List ℕ → List Note
+notes I o zero room σ τ H c ch = []
+notes I o (suc n) room σ τ H c ch =
+    noting I o room (settled o σ c) (settledStore o τ c) H (due o c) ch (λ r σ′ τ′ H′ c′ ch′. notes I o n r σ′ τ′ H′ c′ ch′)
 
 -- the exact run of a program's and an input's bytes with a limit, choices and a log of so many bytes, or the refusal
 unfoldable pub exactRun : List ℕ → List ℕ → ℕ → List ℕ → ℕ → Out (List Note)
 exactRun program input limit choices room =
     readProgram program >>= λ P. readInput (P .tables .fields) input >>= λ I.
-    ok (notes I limit (room / recordSize) zeros nothing [] (P .code) (choicesOf choices))
+    ok (notes I (originsOf P) limit (room / recordSize) zeros nothing [] (P .code) (choicesOf choices))

@@ -5,6 +5,7 @@ pub mod Bytes
 pub mod Values
 pub mod Code
 pub mod Kinds
+pub mod Procedures
 pub mod Program
 pub mod Conjunct
 pub mod Walk

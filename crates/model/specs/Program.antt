@@ -13,6 +13,7 @@ use Rattle.model.specs.Refusals.{Out, ok, _>>=_, check, wrongSections, t
 use Rattle.model.specs.Bytes.{byteAt, u16At, u32At, part, entries, pairsAt, chained}
 use Rattle.model.specs.Kinds.{Kind, aNumber, aCopy, anOperation, aConversion, aRead, aLoad, aStore, aSite, anIf, anElse, anEnd, aWhile, noKind, kindOf}
 use Rattle.model.specs.Code.{Instr, assign, store, site, number, copy, calc, change, read, load, Stmt, plain, if, else, end, while, Code, treeOf}
+use Rattle.model.specs.Procedures.{Origin, counted}
 
 -- ---- the tables
 
@@ -230,10 +231,16 @@ stmtOf T q = meaningOf (kindOf (q .kind)) T q
 
 -- ---- the whole
 
--- a program: its tables and its block tree
+-- a program: its tables, its block tree and the origin of each statement
 pub record Program : Type 0 where
   pub tables : Tables
   pub code : Code
+  pub origins : List Origin
+
+-- the statements from the label l on, each a step under its own label
+abbrev pub ownSteps : ℕ → List Statement → List Origin
+ownSteps l [] = []
+ownSteps l (q ∷ qs) = counted l ∷ ownSteps (suc l) qs
 
 -- the program of a byte string, or the first of checks 2 to 8 that it fails
 unfoldable pub readProgram : List ℕ → Out Program
@@ -245,4 +252,4 @@ readProgram s =
     (check (every (formRight T) (T .statements)) wrongStatement
     (check (every (typesAgree T) (T .statements)) typesDisagree
     (check (every (immediateRight T) (T .statements)) wrongImmediate
-    (treeOf (map (stmtOf T) (T .statements)) >>= λ c. ok (record { tables = T; code = c })))))))
+    (treeOf (map (stmtOf T) (T .statements)) >>= λ c. ok (record { tables = T; code = c; origins = ownSteps 0 (T .statements) })))))))

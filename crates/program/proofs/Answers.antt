@@ -6,7 +6,7 @@ use Prim.Native.Nat.{ℕ}
 use native.Mathlib.Omega.{arith}
 use Rattle.model.specs.Code.{treeOf}
 use Rattle.model.specs.Lists.{every}
-use Rattle.model.specs.Program.{Layout as Sections, Program, layoutOf, readProgram}
+use Rattle.model.specs.Program.{Layout as Sections, Program, layoutOf, ownSteps, readProgram}
 use Rattle.model.specs.Program.{sectionsRight, countsRight, typesRight, formRight, typesAgree, immediateRight}
 use Rattle.model.specs.Refusals.{Out, ok, refused, _>>=_, mapped, check}
 use Rattle.model.specs.Refusals.{wrongSections, tooManyEntries, wrongTypes, wrongStatement, typesDisagree, wrongImmediate}
@@ -48,7 +48,7 @@ by-checks s =
     let form = every (formRight T) (T .statements) in
     let agree = every (typesAgree T) (T .statements) in
     let inside = every (immediateRight T) (T .statements) in
-    let tree : Out Program = treeOf (stmtsOf T) >>= λ c. ok (record { tables = T; code = c }) in
+    let tree : Out Program = treeOf (stmtsOf T) >>= λ c. ok (record { tables = T; code = c; origins = ownSteps 0 (T .statements) }) in
     let in₇ = check inside wrongImmediate tree in
     let in₆ = check agree typesDisagree in₇ in
     let in₅ = check form wrongStatement in₆ in
@@ -60,7 +60,7 @@ by-checks s =
     ∙ ap (check form wrongStatement) (check-mapped g agree typesDisagree in₇
     ∙ ap (check agree typesDisagree) (check-mapped g inside wrongImmediate tree
     ∙ ap (check inside wrongImmediate)
-    (mapped-bind g (λ c. layoutOf s) (λ c. record { tables = T; code = c }) (treeOf (stmtsOf T)) (λ c. refl)))))))
+    (mapped-bind g (λ c. layoutOf s) (λ c. record { tables = T; code = c; origins = ownSteps 0 (T .statements) }) (treeOf (stmtsOf T)) (λ c. refl)))))))
 
 -- ---- checks 5 to 7
 

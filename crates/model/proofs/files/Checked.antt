@@ -1,10 +1,11 @@
 -- What checks 2 to 8 leave of a program: each test passes, and so numbers name something and types agree in every statement.
-use mathlib.Core.Path.{_≡_, refl, sym, subst}
+use mathlib.Core.Path.{_≡_, refl, sym, ap, subst, _∙_}
 use mathlib.Core.Bool.{Bool, true, false, _&&_, not}
-use mathlib.Core.List.{List, map}
-use Prim.Native.Nat.{ℕ, _<_}
+use mathlib.Core.List.{List, [], _∷_, map}
+use Prim.Native.Nat.{ℕ, zero, suc, _+_, _<_}
+use native.Mathlib.Omega.{arith}
 use lib.Dec.{leb, ltb, eqb}
-use lib.ListN.{length}
+use lib.ListN.{length, getD}
 use borrow.Author.Tests.{ltb-true, eqb-true}
 use Rattle.arith.specs.Types.{signed}
 use Rattle.model.specs.Lists.{All, every}
@@ -12,7 +13,9 @@ use Rattle.model.specs.Refusals.{Out, ok, _>>=_, check, wrongSections, t
 use Rattle.model.specs.Code.{Code, treeOf}
 use Rattle.model.specs.Program.{Statement, Tables, tablesAt, layoutOf, sectionsRight, countsRight, typeRight, arrayRight, typesRight}
 use Rattle.model.specs.Program.{isVariable, isField, isArray, unused, formOf, formRight, variableType, fieldType, arrayOf, alike, cellAlike}
-use Rattle.model.specs.Program.{agreeOf, typesAgree, immediateOf, immediateRight, meaningOf, stmtOf, Program, readProgram}
+use Rattle.model.specs.Program.{agreeOf, typesAgree, immediateOf, immediateRight, meaningOf, stmtOf, Program, ownSteps, readProgram}
+use Rattle.model.specs.Procedures.{counted, silent}
+use Rattle.model.specs.Run.{originsOf}
 use Rattle.model.specs.Kinds.{Kind, aNumber, aCopy, anOperation, aConversion, aRead, aLoad, aStore, aSite, anIf, anElse, anEnd, aWhile, noKind, kindOf}
 use Rattle.model.specs.Sizes.{mostCells}
 use Rattle.model.specs.Typing.{AtPlain, Indexed, TypedInstr, Typed}
@@ -33,12 +36,13 @@ pub record Checked (s : List ℕ) (P : Program) : Type 0 where
   pub agree : every (typesAgree (P .tables)) (P .tables .statements) ≡ true
   pub immediates : every (immediateRight (P .tables)) (P .tables .statements) ≡ true
   pub tree : treeOf (map (stmtOf (P .tables)) (P .tables .statements)) ≡ ok (P .code)
+  pub origins : P .origins ≡ ownSteps 0 (P .tables .statements)
 
 pub program-checked : (s : List ℕ) (P : Program) → readProgram s ≡ ok P → Checked s P
 unfolding readProgram
 program-checked s P e =
     let T = tablesAt s (layoutOf s) in
-    let whole : Code → Out Program = λ c. ok (record { tables = T; code = c }) in
+    let whole : Code → Out Program = λ c. ok (record { tables = T; code = c; origins = ownSteps 0 (T .statements) }) in
     let o₈ : Out Program = treeOf (map (stmtOf T) (T .statements)) >>= whole in
     let o₇ : Out Program = check (every (immediateRight T) (T .statements)) wrongImmediate o₈ in
     let o₆ : Out Program = check (every (typesAgree T) (T .statements)) typesDisagree o₇ in
@@ -52,9 +56,20 @@ program-checked s P e =
     let c₆ = check-ok (every (typesAgree T) (T .statements)) typesDisagree o₇ P (c₅ .1) in
     let c₇ = check-ok (every (immediateRight T) (T .statements)) wrongImmediate o₈ P (c₆ .1) in
     let c₈ = bind-ok (treeOf (map (stmtOf T) (T .statements))) whole P (c₇ .1) in
-    let r : Program = record { tables = T; code = c₈ .0 } in
-    let z : Checked s r = record { tables = refl; sections = c₂ .0; counts = c₃ .0; types = c₄ .0; forms = c₅ .0; agree = c₆ .0; immediates = c₇ .0; tree = c₈ .1 } in
+    let r : Program = record { tables = T; code = c₈ .0; origins = ownSteps 0 (T .statements) } in
+    let z : Checked s r = record { tables = refl; sections = c₂ .0; counts = c₃ .0; types = c₄ .0; forms = c₅ .0; agree = c₆ .0; immediates = c₇ .0; tree = c₈ .1; origins = refl } in
     subst (Checked s) {x = r} (ok-eq r P (c₈ .2)) z
+
+own-step : (l k : ℕ) (qs : List Statement) → k < length qs → getD (ownSteps l qs) k silent ≡ counted (l + k)
+own-step l k [] h = absurd (omega arith)
+own-step l zero (q ∷ qs) h = let e : l + 0 ≡ l = omega arith in rw e
+own-step l (suc k) (q ∷ qs) h = let e : l + suc k ≡ suc l + k = omega arith in rw e (own-step (suc l) k qs (omega arith))
+
+-- each statement is a step under its own label
+pub own-label : (s : List ℕ) (P : Program) → Checked s P → (l : ℕ) → l < length (P .tables .statements) → originsOf P l ≡ counted l
+own-label s P c l h =
+    let e : 0 + l ≡ l = omega arith in
+    ap (λ os. getD os l silent) (c .origins) ∙ own-step 0 l (P .tables .statements) h ∙ ap counted e
 
 -- ---- one statement
 

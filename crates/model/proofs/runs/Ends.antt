@@ -1,5 +1,5 @@
 -- A run ends with a number from 0 to 4.
-use mathlib.Core.Path.{_≡_, sym, ap, subst, _∙_}
+use mathlib.Core.Path.{_≡_, subst}
 use mathlib.Core.Bool.{cond}
 use mathlib.Core.List.{List, [], _∷_}
 use Prim.Native.Nat.{ℕ, zero, suc, _/_, _≤_}
@@ -9,9 +9,8 @@ use lib.ListN.{length}
 use Rattle.model.specs.Refusals.{ok}
 use Rattle.model.specs.Code.{number, copy, calc, change, read, load, Instr, assign, store, site, Code, done, step, branch, loop}
 use Rattle.model.specs.Input.{Input}
-use Rattle.model.specs.Program.{Program}
 use Rattle.model.specs.Run.{State, zeros, Next, go, halt, takingChoice, exec, append, logged, permit, roomLeft, taken}
-use Rattle.model.specs.Run.{Ended, stepped, after, spent, execute, choicesOf, Ran, ranOf, run}
+use Rattle.model.specs.Run.{Ended, stepped, after, spent, Origins, labelOf, due, settled, turn, execute, choicesOf, Ran, ranOf, originsOf, run}
 use Rattle.model.proofs.runs.Records.{run-runs}
 
 -- what a statement leads to is no end, or one from 0 to 4
@@ -51,18 +50,23 @@ spent-ends (step l i rest) = omega arith
 spent-ends (branch l v y n rest) = omega arith
 spent-ends (loop l v body rest) = omega arith
 
-execute-ends : (I : Input) (n room : ℕ) (σ : State) (c : Code) (ch : List ℕ) → execute I n room σ c ch .cause ≤ 4
+turn-ends : (I : Input) (o : Origins) (room : ℕ) (σ : State) (c : Code) (ch : List ℕ) (next : ℕ → State → Code → List ℕ → Ended)
+    → ((r : ℕ) (σ : State) (c : Code) (ch : List ℕ) → next r σ c ch .cause ≤ 4) → turn I o room σ c ch next .cause ≤ 4
+turn-ends I o room σ done ch next ih = omega arith
+turn-ends I o room σ (step l i rest) ch next ih =
+    after-ends (permit room i (exec I σ i ch)) (λ σ′ ch′. stepped (logged (labelOf (o l)) i σ) (next (roomLeft room i) σ′ rest ch′))
+    (permit-ends room i (exec I σ i ch) (exec-ends I σ i ch)) (λ σ′ ch′. ih (roomLeft room i) σ′ rest ch′)
+turn-ends I o room σ (branch l v y m rest) ch next ih = ih room σ (cond (taken σ v) (append y rest) (append m rest)) ch
+turn-ends I o room σ (loop l v body rest) ch next ih = ih room σ (cond (taken σ v) (append body (loop l v body rest)) rest) ch
+
+execute-ends : (I : Input) (o : Origins) (n room : ℕ) (σ : State) (c : Code) (ch : List ℕ) → execute I o n room σ c ch .cause ≤ 4
 unfolding execute
-execute-ends I zero room σ c ch = spent-ends c
-execute-ends I (suc n) room σ done ch = omega arith
-execute-ends I (suc n) room σ (step l i rest) ch =
-    after-ends (permit room i (exec I σ i ch)) (λ σ′ ch′. stepped (logged l i σ) (execute I n (roomLeft room i) σ′ rest ch′))
-    (permit-ends room i (exec I σ i ch) (exec-ends I σ i ch)) (λ σ′ ch′. execute-ends I n (roomLeft room i) σ′ rest ch′)
-execute-ends I (suc n) room σ (branch l v y m rest) ch = execute-ends I n room σ (cond (taken σ v) (append y rest) (append m rest)) ch
-execute-ends I (suc n) room σ (loop l v body rest) ch = execute-ends I n room σ (cond (taken σ v) (append body (loop l v body rest)) rest) ch
+execute-ends I o zero room σ c ch = spent-ends (due o c)
+execute-ends I o (suc n) room σ c ch =
+    turn-ends I o room (settled o σ c) (due o c) ch (λ r σ′ c′ ch′. execute I o n r σ′ c′ ch′) (execute-ends I o n)
 
 pub run-ends : (program input : List ℕ) (limit : ℕ) (choices log : List ℕ) (R : Ran) → run program input limit choices log ≡ ok R → R .end ≤ 4
 unfolding ranOf
 run-ends program input limit choices log R e =
     let r = run-runs program input limit choices log R e in
-    subst (λ (Q : Ran). Q .end ≤ 4) (r .gives) (execute-ends (r .I) limit (length log / 12) zeros (r .P .code) (choicesOf choices))
+    subst (λ (Q : Ran). Q .end ≤ 4) (r .gives) (execute-ends (r .I) (originsOf (r .P)) limit (length log / 12) zeros (r .P .code) (choicesOf choices))

@@ -1,6 +1,6 @@
 -- The exact run follows the run: a value is marked exactly where a step of its making overflowed, and unmarked it is its whole number.
 use mathlib.Core.Path.{_≡_, refl, sym, _∙_, ap, ap₂}
-use mathlib.Core.Bool.{Bool, true, false, _&&_, _||_, cond, true≢false, or-assoc, or-comm, or-self-left}
+use mathlib.Core.Bool.{Bool, true, false, _&&_, _||_, cond, true≢false, false≢true, or-assoc, or-comm, or-self-left}
 use mathlib.Core.List.{List, [], _∷_, _++_, Forall₂, Forall₂·nil, Forall₂·cons}
 use Prim.Native.Nat.{ℕ, zero, suc, _+_, _%_, _<_}
 use native.Mathlib.Omega.{arith as linear}
@@ -13,10 +13,13 @@ use Rattle.arith.specs.Step.{overflows, exactOf}
 use Rattle.arith.specs.Words.{immediate}
 use Rattle.arith.proofs.StepLaws.{step-wraps}
 use Rattle.model.specs.Code.{number, copy, calc, change, read, load, Instr, assign, store, site, Code, done, step, branch, loop}
-use Rattle.model.specs.Exact.{Made, given, Store, nothing, makeVar, makeCell, member, put, both, first, make, over, flag, overflowCount, Note, noted, following, notes}
+use Rattle.model.specs.Exact.{Made, given, Store, nothing, makeVar, makeCell, member, put, both, first, make, over, flag, overflowCount, Note, noted, following}
+use Rattle.model.specs.Exact.{movedStore, settledStore, noting, notes}
 use Rattle.model.specs.Input.{Input}
 use Rattle.model.specs.Lists.{All}
-use Rattle.model.specs.Run.{State, zeros, setVar, setCell, reading, Next, go, halt, takingChoice, index, exec, append, Line, logged, permit, roomLeft, taken, Ended, stepped, after, execute}
+use Rattle.model.specs.Run.{State, zeros, setVar, setCell, reading, Next, go, halt, takingChoice, index, exec, append, Line, logged, permit, roomLeft, taken, Ended, stepped, after}
+use Rattle.model.specs.Run.{Origins, labelOf, quiet, moved, due, settled, turn, execute}
+use Rattle.model.specs.Procedures.{Origin, counted, silent}
 use Rattle.model.specs.Values.{Val, plain, Operation, stepOp, operated, converted}
 use Rattle.model.proofs.basics.Lists.{all-imp}
 use Rattle.model.proofs.runs.Runs.{Leads, permit-leads}
@@ -152,6 +155,10 @@ beside-cond : (H : List Bool) (v w : Val) (m n : Made) → Beside H v m → Besi
 beside-cond H v w m n p q true = p
 beside-cond H v w m n p q false = q
 
+-- a variable changed, with no step
+along-var : (H : List Bool) (σ : State) (τ : Store) → Alongside H σ τ → (a : ℕ) (w : Val) (m : Made) → Beside H w m → Alongside H (setVar σ a w) (makeVar τ a m)
+along-var H σ τ h a w m p = record { inVars = λ x. beside-cond H w (σ .vars x) m (τ .vars x) p (h .inVars x) (eqb x a); inCells = h .inCells }
+
 module _ (H : List Bool) (σ : State) (τ : Store) (h : Alongside H σ τ) (b : Bool) where
   alongside-older : Alongside (b ∷ H) σ τ
   alongside-older = record {
@@ -230,22 +237,54 @@ module _ (I : Input) where
   after-alike P f g k (go σ ch) h = k σ ch h
   after-alike P f g k (halt c) h = Forall₂·nil
 
-  pub run-alike : (n room : ℕ) (H : List Bool) (σ : State) (τ : Store) (c : Code) (ch : List ℕ) → Alongside H σ τ
-      → Forall₂ Follows (execute I n room σ c ch .log) (notes I n room σ τ H c ch)
-  unfolding execute notes
-  run-alike zero room H σ τ c ch h = Forall₂·nil
-  run-alike (suc n) room H σ τ done ch h = Forall₂·nil
-  run-alike (suc n) room H σ τ (step l i rest) ch h =
-      let τ′ = make I σ ch (length H) i τ in
-      let P : State → Type 0 = λ σ′. Alongside (over σ i ∷ H) σ′ τ′ in
-      after-alike P (λ σ′ ch′. stepped (logged l i σ) (execute I n (roomLeft room i) σ′ rest ch′))
-      (λ σ′ ch′. noted l i H τ ++ notes I n (roomLeft room i) σ′ τ′ (over σ i ∷ H) rest ch′)
-      (λ σ′ ch′ k. alike-append (logged-alike H σ τ l i h) (run-alike n (roomLeft room i) (over σ i ∷ H) σ′ τ′ rest ch′ k))
-      (permit room i (exec I σ i ch)) (permit-leads P room i (exec I σ i ch) (make-alongside H σ τ i ch h))
-  run-alike (suc n) room H σ τ (branch l v y m rest) ch h =
-      run-alike n room (false ∷ H) σ τ (cond (taken σ v) (append y rest) (append m rest)) ch (alongside-older H σ τ h false)
-  run-alike (suc n) room H σ τ (loop l v body rest) ch h =
-      run-alike n room (false ∷ H) σ τ (cond (taken σ v) (append body (loop l v body rest)) rest) ch (alongside-older H σ τ h false)
+  -- ---- past the assignments of calls
+
+  quiet-alongside : (H : List Bool) (σ : State) (τ : Store) (x : Origin) (i : Instr) → quiet x i ≡ true → Alongside H σ τ → Alongside H (moved σ i) (movedStore τ i)
+  quiet-alongside H σ τ (counted l) i e h = absurd (false≢true e)
+  quiet-alongside H σ τ silent (assign a ty (number n)) e h = along-var H σ τ h a _ _ (beside-given H (immediate ty n))
+  quiet-alongside H σ τ silent (assign a ty (copy b)) e h = along-var H σ τ h a _ _ (h .inVars b)
+  quiet-alongside H σ τ silent (assign a ty (calc o b c)) e h = h
+  quiet-alongside H σ τ silent (assign a ty (change b u)) e h = h
+  quiet-alongside H σ τ silent (assign a ty (read f)) e h = h
+  quiet-alongside H σ τ silent (assign a ty (load r k x)) e h = h
+  quiet-alongside H σ τ silent (store r k x y ty) e h = h
+  quiet-alongside H σ τ silent (site a ty) e h = h
+
+  module _ (o : Origins) where
+    settled-alongside : (H : List Bool) (σ : State) (τ : Store) (c : Code) → Alongside H σ τ → Alongside H (settled o σ c) (settledStore o τ c)
+    unfolding settled settledStore
+    settled-alongside H σ τ done h = h
+    settled-alongside H σ τ (step l i rest) h =
+        case (quiet (o l) i) (λ z. Alongside H (cond z (settled o (moved σ i) rest) σ) (cond z (settledStore o (movedStore τ i) rest) τ))
+        (λ e. settled-alongside H (moved σ i) (movedStore τ i) rest (quiet-alongside H σ τ (o l) i e h)) (λ e. h)
+    settled-alongside H σ τ (branch l v y m rest) h = h
+    settled-alongside H σ τ (loop l v body rest) h = h
+
+    turn-alike : (room : ℕ) (H : List Bool) (σ : State) (τ : Store) (c : Code) (ch : List ℕ)
+        (f : ℕ → State → Code → List ℕ → Ended) (g : ℕ → State → Store → List Bool → Code → List ℕ → List Note)
+        → ((r : ℕ) (H : List Bool) (σ : State) (τ : Store) (c : Code) (ch : List ℕ) → Alongside H σ τ → Forall₂ Follows (f r σ c ch .log) (g r σ τ H c ch))
+        → Alongside H σ τ → Forall₂ Follows (turn I o room σ c ch f .log) (noting I o room σ τ H c ch g)
+    turn-alike room H σ τ done ch f g ih h = Forall₂·nil
+    turn-alike room H σ τ (step l i rest) ch f g ih h =
+        let τ′ = make I σ ch (length H) i τ in
+        let P : State → Type 0 = λ σ′. Alongside (over σ i ∷ H) σ′ τ′ in
+        let k = labelOf (o l) in
+        after-alike P (λ σ′ ch′. stepped (logged k i σ) (f (roomLeft room i) σ′ rest ch′))
+        (λ σ′ ch′. noted k i H τ ++ g (roomLeft room i) σ′ τ′ (over σ i ∷ H) rest ch′)
+        (λ σ′ ch′ a. alike-append (logged-alike H σ τ k i h) (ih (roomLeft room i) (over σ i ∷ H) σ′ τ′ rest ch′ a))
+        (permit room i (exec I σ i ch)) (permit-leads P room i (exec I σ i ch) (make-alongside H σ τ i ch h))
+    turn-alike room H σ τ (branch l v y m rest) ch f g ih h =
+        ih room (false ∷ H) σ τ (cond (taken σ v) (append y rest) (append m rest)) ch (alongside-older H σ τ h false)
+    turn-alike room H σ τ (loop l v body rest) ch f g ih h =
+        ih room (false ∷ H) σ τ (cond (taken σ v) (append body (loop l v body rest)) rest) ch (alongside-older H σ τ h false)
+
+    pub run-alike : (n room : ℕ) (H : List Bool) (σ : State) (τ : Store) (c : Code) (ch : List ℕ) → Alongside H σ τ
+        → Forall₂ Follows (execute I o n room σ c ch .log) (notes I o n room σ τ H c ch)
+    unfolding execute notes
+    run-alike zero room H σ τ c ch h = Forall₂·nil
+    run-alike (suc n) room H σ τ c ch h =
+        turn-alike room H (settled o σ c) (settledStore o τ c) (due o c) ch (λ r σ′ c′ ch′. execute I o n r σ′ c′ ch′) (λ r σ′ τ′ H′ c′ ch′. notes I o n r σ′ τ′ H′ c′ ch′)
+        (run-alike n) (settled-alongside H σ τ c h)
 
   pub begin : Alongside [] zeros nothing
   begin = record { inVars = λ x. beside-given [] (pos 0); inCells = λ t k i. beside-given [] (pos 0) }

@@ -16,7 +16,7 @@ use Rattle.model.specs.Refusals.{Out, ok, _>>=_, wrongInput}
 use Rattle.model.specs.Bytes.{bytes2, bytes4, bytes8, Pair, pairAt, pairsAt, chained}
 use Rattle.model.specs.Program.{Tables, Program, fieldType, readProgram}
 use Rattle.model.specs.Input.{Input, width, bitsAt, readingAt, readingsOf, lengthsRight, readInput}
-use Rattle.model.specs.Run.{zeros, Line, execute, markByte, recordBytes, written, choicesOf, Ran, ranOf, run}
+use Rattle.model.specs.Run.{zeros, Line, execute, markByte, recordBytes, written, choicesOf, Ran, ranOf, originsOf, run}
 use Rattle.model.specs.Exact.{nothing, Note, notes, exactRun}
 use Rattle.model.specs.Demands.{Record, recordAt, recordsOf, Marks, MarkExact}
 use Rattle.model.specs.Typing.{TypedInput}
@@ -99,25 +99,26 @@ pub record Runs (program input : List ℕ) (limit : ℕ) (choices log : List ℕ
   pub I : Input
   pub reads : readProgram program ≡ ok P
   pub readsInput : readInput (P .tables .fields) input ≡ ok I
-  pub gives : ranOf (execute I limit (length log / 12) zeros (P .code) (choicesOf choices)) log ≡ ran
+  pub gives : ranOf (execute I (originsOf P) limit (length log / 12) zeros (P .code) (choicesOf choices)) log ≡ ran
 
 pub run-runs : (program input : List ℕ) (limit : ℕ) (choices log : List ℕ) (ran : Ran) → run program input limit choices log ≡ ok ran
     → Runs program input limit choices log ran
 unfolding run
 run-runs program input limit choices log ran e =
-    let onInput : (P : Program) → Input → Out Ran = λ P I. ok (ranOf (execute I limit (length log / 12) zeros (P .code) (choicesOf choices)) log) in
+    let onInput : (P : Program) → Input → Out Ran = λ P I. ok (ranOf (execute I (originsOf P) limit (length log / 12) zeros (P .code) (choicesOf choices)) log) in
     let p = bind-ok (readProgram program) (λ P. readInput (P .tables .fields) input >>= onInput P) ran e in
     let q = bind-ok (readInput (p .0 .tables .fields) input) (onInput (p .0)) ran (p .2) in
-    record { P = p .0; I = q .0; reads = p .1; readsInput = q .1; gives = ok-eq (ranOf (execute (q .0) limit (length log / 12) zeros (p .0 .code) (choicesOf choices)) log) ran (q .2) }
+    let E = execute (q .0) (originsOf (p .0)) limit (length log / 12) zeros (p .0 .code) (choicesOf choices) in
+    record { P = p .0; I = q .0; reads = p .1; readsInput = q .1; gives = ok-eq (ranOf E log) ran (q .2) }
 
 module _ (program input : List ℕ) (limit : ℕ) (choices log : List ℕ) (ran : Ran) (r : Runs program input limit choices log ran) where
   -- the lines of the run
   unfoldable pub linesOf : List Line
-  linesOf = execute (r .I) limit (length log / 12) zeros (r .P .code) (choicesOf choices) .log
+  linesOf = execute (r .I) (originsOf (r .P)) limit (length log / 12) zeros (r .P .code) (choicesOf choices) .log
 
   -- the notes of the exact run
   unfoldable pub notesOf : List Note
-  notesOf = notes (r .I) limit (length log / 12) zeros nothing [] (r .P .code) (choicesOf choices)
+  notesOf = notes (r .I) (originsOf (r .P)) limit (length log / 12) zeros nothing [] (r .P .code) (choicesOf choices)
 
   pub exact-notes : exactRun program input limit choices (length log) ≡ ok notesOf
   unfolding exactRun notesOf
@@ -129,14 +130,14 @@ module _ (program input : List ℕ) (limit : ℕ) (choices log : List ℕ) (ran 
 
   pub lines-follow : Forall₂ Follows linesOf notesOf
   unfolding linesOf notesOf
-  lines-follow = run-alike (r .I) limit (length log / 12) [] zeros nothing (r .P .code) (choicesOf choices) (begin (r .I))
+  lines-follow = run-alike (r .I) (originsOf (r .P)) limit (length log / 12) [] zeros nothing (r .P .code) (choicesOf choices) (begin (r .I))
 
   pub lines-inside : All (λ l. fits (l .type) (l .value .num) ≡ true) linesOf
   unfolding linesOf
   lines-inside =
       let T = r .P .tables in
       let typed = input-typed T input (r .I) (r .readsInput) in
-      run-inside T (r .I) typed limit (length log / 12) zeros (r .P .code) (choicesOf choices) (zeros-inside T (r .I) typed)
+      run-inside T (r .I) typed (originsOf (r .P)) limit (length log / 12) zeros (r .P .code) (choicesOf choices) (zeros-inside T (r .I) typed)
       (program-typed program (r .P) (program-checked program (r .P) (r .reads)))
 
   pub ran-marks : Forall₂ Marks (recordsOf (ran .records) (ran .log)) notesOf

@@ -9,7 +9,7 @@ use Rattle.model.specs.Conjunct.{Source, field, cell, Node, const, atom,
 use Rattle.model.specs.Input.{Input}
 use Rattle.model.specs.Lists.{All}
 use Rattle.model.specs.Refusals.{Out, ok, refused, _>>=_}
-use Rattle.model.specs.Run.{State, zeros, exec, append, Line, logged, execute}
+use Rattle.model.specs.Run.{State, zeros, exec, append, Line, logged, Origins, labelOf, execute}
 use Rattle.model.specs.Sizes.{mostRounds}
 use Rattle.model.specs.Values.{Val, plain}
 use Rattle.model.specs.Walk.{before, gather, back, rounds, joined, walk, here, sites, zeroed, start, join, derived}
@@ -170,11 +170,11 @@ module _ (I : Input) where
   logged-unmarked σ l (store t k i x ty) h = tt
   logged-unmarked σ l (site a ty) h = (h .0 .0 (λ s n. 0) (tt, tt), tt)
 
-  run-unmarked : (n room : ℕ) (σ : State) (c : Code) (ch : List ℕ) → Good σ c → All Unmarked (execute I n room σ c ch .log)
+  run-unmarked : (o : Origins) (n room : ℕ) (σ : State) (c : Code) (ch : List ℕ) → Good σ c → All Unmarked (execute I o n room σ c ch .log)
   unfolding sites
-  run-unmarked =
-      run-all I Unmarked Good
-      (λ σ l i rest ch h. (logged-unmarked σ l i (all-left (Safe σ) (here i) (map (_>>= back l i) (sites rest)) h), step-good σ l i rest ch h))
+  run-unmarked o =
+      run-all I o Unmarked Good
+      (λ σ l i rest ch h. (logged-unmarked σ (labelOf (o l)) i (all-left (Safe σ) (here i) (map (_>>= back l i) (sites rest)) h), step-good σ l i rest ch h))
       branch-good loop-good
 
   -- ---- the start
@@ -242,6 +242,6 @@ module _ (I : Input) where
 
   -- The analysis is sound
   pub sound : (c : Code) (R : Conjuncts) → derived c ≡ ok R → All (Meets I zeros) R
-      → (n room : ℕ) (ch : List ℕ) → All (λ line. line .value .mark ≡ false) (execute I n room zeros c ch .log)
+      → (o : Origins) (n room : ℕ) (ch : List ℕ) → All (λ line. line .value .mark ≡ false) (execute I o n room zeros c ch .log)
   unfolding derived
-  sound c R p h n room ch = run-unmarked n room zeros c ch ((join-safe [] (sites c) (subst (Safe zeros) (sym p) h)) .1)
+  sound c R p h o n room ch = run-unmarked o n room zeros c ch ((join-safe [] (sites c) (subst (Safe zeros) (sym p) h)) .1)

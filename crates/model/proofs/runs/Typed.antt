@@ -14,7 +14,7 @@ use Rattle.model.specs.Code.{number, copy, calc, change, read, load, Ins
 use Rattle.model.specs.Input.{Input}
 use Rattle.model.specs.Lists.{All}
 use Rattle.model.specs.Program.{Tables, variableType, fieldType, arrayOf}
-use Rattle.model.specs.Run.{State, zeros, setVar, setCell, reading, takingChoice, index, exec, append, Line, logged, execute}
+use Rattle.model.specs.Run.{State, zeros, setVar, setCell, reading, takingChoice, index, exec, append, Line, logged, Origins, labelOf, execute}
 use Rattle.model.specs.Values.{Val, stepOp, operated, converted}
 use Rattle.model.specs.Typing.{TypedInstr, Typed, TypedInput, InTypes}
 use Rattle.model.proofs.basics.Lists.{all-getD}
@@ -67,11 +67,11 @@ module _ (T : Tables) (I : Input) (typed : TypedInput T I) where
   logged-inside σ h l (store s k i x ty) t = tt
   logged-inside σ h l (site a ty) t = (rw (← t .0) (h .inVars a), tt)
 
-  pub run-inside : (n room : ℕ) (σ : State) (c : Code) (ch : List ℕ) → InTypes T σ → Typed T c → All Inside (execute I n room σ c ch .log)
-  run-inside n room σ c ch h t =
+  pub run-inside : (o : Origins) (n room : ℕ) (σ : State) (c : Code) (ch : List ℕ) → InTypes T σ → Typed T c → All Inside (execute I o n room σ c ch .log)
+  run-inside o n room σ c ch h t =
       let each = each-append (TypedInstr T) in
-      run-all I Inside (λ σ c. InTypes T σ × Typed T c)
-      (λ σ l i rest ch h. (logged-inside σ (h .0) l i (h .1 .0), leads-imp (λ σ′ k. (k, h .1 .1)) (exec I σ i ch) (exec-in σ (h .0) i (h .1 .0) ch)))
+      run-all I o Inside (λ σ c. InTypes T σ × Typed T c)
+      (λ σ l i rest ch h. (logged-inside σ (h .0) (labelOf (o l)) i (h .1 .0), leads-imp (λ σ′ k. (k, h .1 .1)) (exec I σ i ch) (exec-in σ (h .0) i (h .1 .0) ch)))
       (λ σ l v y m rest b h. (h .0, cond-typed b (append y rest) (append m rest) (each y rest (h .1 .0) (h .1 .2)) (each m rest (h .1 .1) (h .1 .2))))
       (λ σ l v body rest b h. (h .0, cond-typed b (append body (loop l v body rest)) rest (each body (loop l v body rest) (h .1 .0) (h .1)) (h .1 .1)))
       n room σ c ch (h, t)
