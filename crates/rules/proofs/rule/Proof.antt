@@ -1,5 +1,8 @@
 -- `rules::rule` meets its contract: a conjunct comes to one, but before a store to several cells.
 use mathlib.Core.Logic.{inl, inr}
+use native.Mathlib.Omega.{arith}
+use Rattle.model.specs.Kinds.{aStore}
+use Rattle.code_table.specs.Statements.{OfKind}
 use borrow.Author.Needs.{needs}
 use Rattle.rules.proofs.rule.Statement.{statement}
 use Rattle.rules.proofs.rule.Tie as tie
@@ -10,6 +13,10 @@ one-cell c = c .before .before .before .before
 
 abbrev several-cells : tie.Else2 → tie.Start
 several-cells c = c .before .before .before .before
+
+-- what is left of all kinds is a store
+stored : (c : tie.Else1) → OfKind aStore (c .before .before .args .d)
+stored c = search (needs, c .if1 .left)
 
 change-requires : tie.Need-change-requires
 change-requires c κs =
@@ -25,7 +32,8 @@ returns c = c .before .before .change .ensures
 change-requires-2 : tie.Need-change-requires-2
 change-requires-2 c κs =
     let p = one-cell (c .before) .pre in
-    (p .0, record { statement = p .1; one = inr (c .before .if2 .taken) })
+    let is-store = stored (c .before .before .before) in
+    (p .0, record { statement = p .1; one = inr (omega (arith, c .before .if2 .taken, p .1 .known .stores is-store .1 .0)) })
 
 same-length-2 : tie.Need-same-length-2
 same-length-2 c = search needs
@@ -37,7 +45,7 @@ spread-requires : tie.Need-spread-requires
 spread-requires c κs =
     let else1 = c .before .before .before in
     let p = else1 .before .before .pre in
-    (p .0, record { store = search (needs, else1 .if1 .left); several = c .before .if2 .left; known = p .1 .known })
+    (p .0, record { store = stored else1; several = λ e. omega (arith, c .before .if2 .left, e); known = p .1 .known })
 
 same-length-3 : tie.Need-same-length-3
 same-length-3 c = search needs
