@@ -58,7 +58,7 @@ module _ (P : Source → Bool) where
       go false false f e i = i
 
   -- it is among those that pass if and only if it is among all
-  pub passing-has : (a : Atom) (ks : List Atom) → P (a .src) ≡ true → has a (passing ks) ≡ has a ks
+  passing-has : (a : Atom) (ks : List Atom) → P (a .src) ≡ true → has a (passing ks) ≡ has a ks
   unfolding passing
   passing-has a [] h = refl
   passing-has a (b ∷ ks) h =
