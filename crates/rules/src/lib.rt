@@ -125,7 +125,7 @@ fn substitute_slot(
     match t {
         Substituted::Over => Answer::Refused(TOO_MANY_NODES),
         Substituted::Nodes(m) => {
-            sets::write_slot(s, a, out, m);
+            sets::slots::write_slot(s, a, out, m);
             Answer::Done
         }
     }

@@ -13,7 +13,7 @@ use Rattle.conjunct.proofs.node.WordOrder.{Tri, less, equal, more, tri}
 use Rattle.conjunct.specs.Word.{nodesOf}
 use Rattle.sets.proofs.Overlaid.{overlay-before, overlay-beyond, overlay-inside}
 use Rattle.sets.proofs.Rows.{few-most, few-is, part-same, slot-same, slot-kept, rows-same}
-use Rattle.sets.proofs.Slots.{slot-words}
+use Rattle.sets.proofs.slots.Words.{slot-words}
 use Rattle.sets.specs.Region.{few, slotAt, rowsFrom, rowsOf, setOf, Outside, Within, Apart, regionWords, slotWords}
 
 -- ---- the words of a slot

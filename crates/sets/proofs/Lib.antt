@@ -1,6 +1,5 @@
 pub mod Overlaid
 pub mod Rows
-pub mod Slots
 pub mod Places
 pub mod Placed
 pub mod Inserting

@@ -1,23 +1,23 @@
-// Sets of conjuncts in regions of one lent slice. specs/Region.antt says what a region holds. Every
-// operation leaves what lies outside of the region that it names.
+// Sets of conjuncts in regions of one lent slice; module slots has one conjunct of a region. specs/Region.antt
+// says what a region holds. Every operation leaves what lies outside of the region that it names.
 ghost use mathlib.Core.Path.{_≡_};
 ghost use mathlib.Core.Bool.{true};
 ghost use mathlib.Core.List.{[], _∷_, _++_};
 ghost use Prim.Native.Nat.{_+_, _*_, _<_, _≤_};
-ghost use lib.Dec.{isEq};
 ghost use lib.ListN.{length, getD, take, drop};
-ghost use Rattle.model.specs.Conjunct.{order, orderNodes, unionOf, same};
+ghost use Rattle.model.specs.Conjunct.{unionOf, same};
 ghost use Rattle.model.specs.Sizes.{mostConjuncts, mostNodes};
 ghost use Rattle.model.specs.TidySets.{Canon};
-ghost use Rattle.bytes_le.specs.Overlay.{overlay};
 ghost use Rattle.conjunct.specs.Word.{nodesOf};
-ghost use Rattle.conjunct.specs.Value.{conjOf, orderingOf, ConjunctIn};
-ghost use Rattle.sets.specs.Region.{few, slotAt, rowsFrom, firstOf, setOf, Outside, Within, Search, Spotted, Inserted, Joined};
-ghost use Rattle.sets.specs.Region.{TwoSlots, TwoRegions, ThreeRegions, Room, RoomBeside, Space, SpaceBeside, PlaceIn};
+ghost use Rattle.conjunct.specs.Value.{conjOf, ConjunctIn};
+ghost use Rattle.sets.specs.Region.{few, rowsFrom, firstOf, setOf, Outside, Within, Search, Spotted, Inserted, Joined};
+ghost use Rattle.sets.specs.Region.{TwoRegions, ThreeRegions, Room, RoomBeside, Space, SpaceBeside, PlaceIn};
 ghost use Rattle.sets.specs.Region.{regionWords, slotWords};
 ghost use Rattle.sets.specs.Minus.{has, minus};
 use conjunct::MOST_NODES;
 use conjunct::Order;
+
+pub mod slots;
 
 // the conjuncts of the largest set
 const MOST_CONJUNCTS: usize = 64;
@@ -44,57 +44,6 @@ fn at_most(c: u64) -> usize
     MOST_CONJUNCTS
 }
 
-// ---- one slot
-
-// the words of the slot at a to `out`; how many they are
-fn read_slot(s: &[u64], a: usize, out: &mut [u64]) -> usize
-    requires { ⌜ (a + slotWords ≤ length (now s)) × (mostNodes ≤ length (now out)) ⌝ }
-    ensures { λ n. ⌜ (n ≤ mostNodes) × (take n (now (out .exit)) ≡ slotAt (now (s .entry)) a) ⌝ }
-{
-    let n = conjunct::capped(s[a] as usize);
-    let mut j: usize = 0;
-    while j < n {
-        out[j] = s[a + 1 + j];
-        j += 1;
-    }
-    n
-}
-
-// n words to the slot at a
-pub fn write_slot(s: &mut [u64], a: usize, w: &[u64], n: usize)
-    requires { ⌜ (a + slotWords ≤ length (now s)) × ConjunctIn (now w) n ⌝ }
-    ensures { λ _. ⌜ now (s .exit) ≡ overlay (now (s .entry)) a (n ∷ take n (now (w .entry))) ⌝ }
-{
-    s[a] = n as u64;
-    let mut j: usize = 0;
-    while j < n {
-        s[a + 1 + j] = w[j];
-        j += 1;
-    }
-}
-
-// the conjunct of the slot at `from` to the slot at `to`
-fn copy_slot(s: &mut [u64], to: usize, from: usize)
-    requires { ⌜ TwoSlots (now s) to from ⌝ }
-    ensures { λ _. ⌜ (slotAt (now (s .exit)) to ≡ slotAt (now (s .entry)) from) × Outside to slotWords (now (s .entry)) (now (s .exit)) ⌝ }
-{
-    let n = 1 + conjunct::capped(s[from] as usize);
-    let mut j: usize = 0;
-    while j < n {
-        s[to + j] = s[from + j];
-        j += 1;
-    }
-}
-
-// m words against the conjunct of the slot at a
-fn compare_slot(w: &[u64], m: usize, s: &[u64], a: usize) -> Order
-    requires { ⌜ (m ≤ length (now w)) × (a + slotWords ≤ length (now s)) ⌝ }
-    ensures { λ r. ⌜ orderingOf r ≡ order (nodesOf (take m (now (w .entry)))) (nodesOf (slotAt (now (s .entry)) a)) ⌝ }
-{
-    let n = conjunct::capped(s[a] as usize);
-    conjunct::order_at(w, 0, m, s, a + 1, n)
-}
-
 // ---- a region
 
 pub fn size(s: &[u64], base: usize) -> usize
@@ -111,7 +60,7 @@ pub fn get(s: &[u64], base: usize, i: usize, out: &mut [u64]) -> usize
 {
     let n = at_most(s[base]);
     if i < n {
-        return read_slot(s, base + 1 + SLOT * i, out);
+        return slots::read_slot(s, base + 1 + SLOT * i, out);
     }
     0
 }
@@ -147,7 +96,7 @@ fn shift(s: &mut [u64], a: usize, n: usize)
     let mut k = n;
     while k > 0 {
         k -= 1;
-        copy_slot(s, a + SLOT * k + SLOT, a + SLOT * k);
+        slots::copy_slot(s, a + SLOT * k + SLOT, a + SLOT * k);
     }
 }
 
@@ -160,7 +109,7 @@ fn bisect(s: &[u64], base: usize, n: usize, w: &[u64], m: usize) -> Spot
     let mut hi = n;
     while lo < hi {
         let mid = (lo + hi) / 2;
-        let o = compare_slot(w, m, s, base + 1 + SLOT * mid);
+        let o = slots::compare_slot(w, m, s, base + 1 + SLOT * mid);
         match o {
             Order::Less => hi = mid,
             Order::Same => return Spot::Here,
@@ -178,7 +127,7 @@ fn find(s: &[u64], base: usize, n: usize, w: &[u64], m: usize) -> Spot
     if n == 0 {
         return Spot::Before(0);
     }
-    let o = compare_slot(w, m, s, base + 1 + SLOT * (n - 1));
+    let o = slots::compare_slot(w, m, s, base + 1 + SLOT * (n - 1));
     match o {
         Order::Less => bisect(s, base, n, w, m),
         Order::Same => Spot::Here,
@@ -197,7 +146,7 @@ fn place_at(s: &mut [u64], base: usize, n: usize, i: usize, w: &[u64], m: usize)
 {
     let a = base + 1 + SLOT * i;
     shift(s, a, n - i);
-    write_slot(s, a, w, m);
+    slots::write_slot(s, a, w, m);
     s[base] = (n + 1) as u64;
 }
 
@@ -228,7 +177,7 @@ pub fn copy(s: &mut [u64], to: usize, from: usize)
     let n = at_most(s[from]);
     let mut i: usize = 0;
     while i < n {
-        copy_slot(s, to + 1 + SLOT * i, from + 1 + SLOT * i);
+        slots::copy_slot(s, to + 1 + SLOT * i, from + 1 + SLOT * i);
         i += 1;
     }
     s[to] = n as u64;
@@ -261,28 +210,6 @@ pub fn union(s: &mut [u64], to: usize, from: usize) -> bool
     join(s, to, from, &mut words)
 }
 
-// the conjunct of the slot at a against that of the slot at b
-fn order_slots(s: &[u64], a: usize, b: usize) -> Order
-    requires { ⌜ (a + slotWords ≤ length (now s)) × (b + slotWords ≤ length (now s)) ⌝ }
-    ensures { λ r. ⌜ orderingOf r ≡ order (nodesOf (slotAt (now (s .entry)) a)) (nodesOf (slotAt (now (s .entry)) b)) ⌝ }
-{
-    let n = conjunct::capped(s[a] as usize);
-    compare_slot(&s[a + 1..], n, s, b)
-}
-
-// are the conjuncts of two slots the same?
-fn same_slot(s: &[u64], a: usize, b: usize) -> bool
-    requires { ⌜ (a + slotWords ≤ length (now s)) × (b + slotWords ≤ length (now s)) ⌝ }
-    ensures { λ r. ⌜ r ≡ isEq (orderNodes (nodesOf (slotAt (now (s .entry)) a)) (nodesOf (slotAt (now (s .entry)) b))) ⌝ }
-{
-    let o = order_slots(s, a, b);
-    match o {
-        Order::Less => false,
-        Order::Same => true,
-        Order::More => false,
-    }
-}
-
 // are two sets the same?
 pub fn equal(s: &[u64], a: usize, b: usize) -> bool
     requires { ⌜ (a + regionWords ≤ length (now s)) × (b + regionWords ≤ length (now s)) ⌝ }
@@ -295,7 +222,7 @@ pub fn equal(s: &[u64], a: usize, b: usize) -> bool
     }
     let mut i: usize = 0;
     while i < n {
-        if !same_slot(s, a + 1 + SLOT * i, b + 1 + SLOT * i) {
+        if !slots::same_slot(s, a + 1 + SLOT * i, b + 1 + SLOT * i) {
             return false;
         }
         i += 1;
@@ -314,7 +241,7 @@ fn rises(s: &[u64], base: usize) -> bool
     let mut i: usize = 0;
     while i + 1 < n {
         let a = base + 1 + SLOT * i;
-        let o = order_slots(s, a, a + SLOT);
+        let o = slots::order_slots(s, a, a + SLOT);
         match o {
             Order::Less => i += 1,
             Order::Same => return false,

@@ -6,7 +6,7 @@ use Prim.Native.Nat.{ℕ, _+_, _-_, _/_, _%_, _≤_, _<_}
 use native.Mathlib.Omega.{arith}
 use lib.ListN.{length, getD, length-set}
 use Rattle.conjunct.specs.Word.{place2, place3, nodeOf, nodesOf}
-use Rattle.sets.proofs.Slots.{slot-words}
+use Rattle.sets.proofs.slots.Words.{slot-words}
 use Rattle.footprint.proofs.Flags.{extends-self, covers-plain, covers-variable, covers-past-load, covers-load, Noted, noted-none, noted-next}
 use Rattle.footprint.specs.Footprints.{Extends, Covers}
 use Rattle.model.specs.Sizes.{mostNodes, mostArrays}

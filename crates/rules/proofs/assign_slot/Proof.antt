@@ -13,7 +13,7 @@ use Rattle.model.specs.Walk.{replace}
 use Rattle.conjunct.proofs.numbering.Fresh.{right-fresh}
 use Rattle.conjunct.specs.Behind.{rightOf}
 use Rattle.conjunct.specs.Word.{nodesOf}
-use Rattle.sets.proofs.Slots.{slot-words}
+use Rattle.sets.proofs.slots.Words.{slot-words}
 use Rattle.sets.specs.Region.{slotAt}
 use Rattle.rules.proofs.ByKind.{writes-assign}
 use Rattle.rules.proofs.Imaging.{image-assign, image-none}

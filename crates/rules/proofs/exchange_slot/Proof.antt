@@ -9,7 +9,7 @@ use Rattle.model.specs.TidySets.{Numbered}
 use Rattle.model.specs.Walk.{replace}
 use Rattle.conjunct.specs.Behind.{rightOf}
 use Rattle.conjunct.specs.Word.{nodesOf}
-use Rattle.sets.proofs.Slots.{slot-part, slot-count, put-back}
+use Rattle.sets.proofs.slots.Words.{slot-part, slot-count, put-back}
 use Rattle.sets.specs.Region.{slotAt}
 use borrow.Author.Needs.{needs}
 use Rattle.rules.proofs.exchange_slot.Statement.{statement}

@@ -7,7 +7,7 @@ use lib.Seq.{take-length}
 use Rattle.model.specs.Walk.{swapAll}
 use Rattle.conjunct.specs.Value.{conjOf}
 use Rattle.conjunct.specs.Word.{nodesOf}
-use Rattle.sets.proofs.Slots.{slot-part, slot-count, put-back}
+use Rattle.sets.proofs.slots.Words.{slot-part, slot-count, put-back}
 use Rattle.sets.specs.Region.{slotAt}
 use Rattle.rules.proofs.Imaging.{image-cell}
 use borrow.Author.Needs.{needs}

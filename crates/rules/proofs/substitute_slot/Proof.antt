@@ -11,7 +11,7 @@ use Rattle.model.specs.Walk.{replace}
 use Rattle.conjunct.specs.Behind.{rightOf, Replaced}
 use Rattle.conjunct.specs.Word.{nodesOf}
 use Rattle.conjunct.specs.declared.numbering.Substituted.the-variants.{Nodes}
-use Rattle.sets.proofs.Slots.{slot-words, stored}
+use Rattle.sets.proofs.slots.Words.{slot-words, stored}
 use Rattle.sets.specs.Region.{slotAt}
 use Rattle.rules.proofs.Limiting.{renumber-length}
 use borrow.Author.Needs.{needs}

@@ -6,7 +6,7 @@ use lib.ListN.{length, length-map}
 use borrow.Author.Needs.{needs}
 use Rattle.conjunct.specs.Word.{nodesOf, nodeOf}
 use Rattle.sets.proofs.Rows.{set-at, set-past}
-use Rattle.sets.proofs.Slots.{slot-count}
+use Rattle.sets.proofs.slots.Words.{slot-count}
 use Rattle.sets.specs.Region.{slotAt, slotWords}
 use Rattle.sets.proofs.node_count.Statement.{statement}
 use Rattle.sets.proofs.node_count.Tie as tie

@@ -1,4 +1,4 @@
--- `sets::write_slot` meets its contract.
+-- `sets::slots::write_slot` meets its contract.
 use mathlib.Core.Path.{_≡_, refl, ap, _∙_}
 use Prim.Native.Nat.{_+_, _-_, _≤_}
 use native.Mathlib.Omega.{arith}
@@ -6,9 +6,9 @@ use lib.ListN.{length, take, getD, set, length-set}
 use borrow.Author.Needs.{needs}
 use Rattle.bytes_le.proofs.Overlays.{overlay-more}
 use Rattle.bytes_le.specs.Overlay.{overlay}
-use Rattle.sets.proofs.Slots.{written}
-use Rattle.sets.proofs.write_slot.Statement.{statement}
-use Rattle.sets.proofs.write_slot.Tie as tie
+use Rattle.sets.proofs.slots.Words.{written}
+use Rattle.sets.proofs.slots.write_slot.Statement.{statement}
+use Rattle.sets.proofs.slots.write_slot.Tie as tie
 use Rattle.sets.specs.Region.{slotWords}
 
 abbrev Inv-loop : tie.InvT-loop

@@ -1,4 +1,4 @@
--- `sets::same_slot` meets its contract: the conjuncts are compared, and the answer tells.
+-- `sets::slots::same_slot` meets its contract: the conjuncts are compared, and the answer tells.
 use mathlib.Core.Path.{_≡_, sym, ap, _∙_}
 use lib.Dec.{isEq}
 use Rattle.model.specs.Conjunct.{orderNodes}
@@ -9,8 +9,8 @@ use Rattle.conjunct.specs.declared.Order.{Order}
 use Rattle.conjunct.specs.declared.Order.the-variants.{Less, Same, More}
 use Rattle.sets.specs.Region.{slotAt}
 use borrow.Author.Needs.{needs}
-use Rattle.sets.proofs.same_slot.Statement.{statement}
-use Rattle.sets.proofs.same_slot.Tie as tie
+use Rattle.sets.proofs.slots.same_slot.Statement.{statement}
+use Rattle.sets.proofs.slots.same_slot.Tie as tie
 
 -- the answer of the comparison is the test's
 compared : (c : tie.After-order-slots) (o : Order) → c .order-slots .result ≡ o

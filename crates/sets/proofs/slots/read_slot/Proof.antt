@@ -1,13 +1,13 @@
--- `sets::read_slot` meets its contract.
+-- `sets::slots::read_slot` meets its contract.
 use mathlib.Core.Path.{_≡_, _∙_}
 use Prim.Native.Nat.{_+_, _-_, _≤_}
 use native.Mathlib.Omega.{arith}
 use lib.ListN.{length, take, drop, getD, length-set}
 use borrow.Author.Needs.{needs}
 use Rattle.model.specs.Sizes.{mostNodes}
-use Rattle.sets.proofs.Slots.{read-more, slot-words}
-use Rattle.sets.proofs.read_slot.Statement.{statement}
-use Rattle.sets.proofs.read_slot.Tie as tie
+use Rattle.sets.proofs.slots.Words.{read-more, slot-words}
+use Rattle.sets.proofs.slots.read_slot.Statement.{statement}
+use Rattle.sets.proofs.slots.read_slot.Tie as tie
 
 abbrev Inv-loop : tie.InvT-loop
 Inv-loop s a out₀ n j₀ out j = (j ≤ n) × (n ≤ mostNodes) × (length out ≡ length out₀) × (take j out ≡ take j (drop (a + 1) s))

@@ -1,4 +1,4 @@
--- `sets::copy_slot` meets its contract.
+-- `sets::slots::copy_slot` meets its contract.
 use mathlib.Core.Path.{_≡_, refl, _∙_}
 use Prim.Native.Nat.{_+_, _-_, _≤_}
 use native.Mathlib.Omega.{arith}
@@ -6,8 +6,8 @@ use lib.ListN.{length, take, drop, getD, length-set}
 use borrow.Author.Needs.{needs}
 use Rattle.bytes_le.specs.Overlay.{overlay}
 use Rattle.sets.proofs.Copied.{word-copied, slot-copied}
-use Rattle.sets.proofs.copy_slot.Statement.{statement}
-use Rattle.sets.proofs.copy_slot.Tie as tie
+use Rattle.sets.proofs.slots.copy_slot.Statement.{statement}
+use Rattle.sets.proofs.slots.copy_slot.Tie as tie
 use Rattle.sets.specs.Region.{slotWords}
 
 abbrev Inv-loop : tie.InvT-loop

@@ -1,4 +1,4 @@
--- `sets::order_slots` meets its contract: the words of the first slot are compared with the second.
+-- `sets::slots::order_slots` meets its contract: the words of the first slot are compared with the second.
 use mathlib.Core.Path.{ap, _∙_}
 use Prim.Native.Nat.{_+_, _-_}
 use native.Mathlib.Omega.{arith}
@@ -6,11 +6,11 @@ use lib.ListN.{length, drop}
 use lib.Seq.{take-take}
 use Rattle.model.specs.Conjunct.{order}
 use Rattle.conjunct.specs.Word.{nodesOf}
-use Rattle.sets.proofs.Slots.{slot-words}
+use Rattle.sets.proofs.slots.Words.{slot-words}
 use Rattle.sets.specs.Region.{slotAt}
 use borrow.Author.Needs.{needs}
-use Rattle.sets.proofs.order_slots.Statement.{statement}
-use Rattle.sets.proofs.order_slots.Tie as tie
+use Rattle.sets.proofs.slots.order_slots.Statement.{statement}
+use Rattle.sets.proofs.slots.order_slots.Tie as tie
 
 -- where the function begins
 abbrev entered : tie.After-capped → tie.Start

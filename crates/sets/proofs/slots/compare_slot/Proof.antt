@@ -1,10 +1,10 @@
--- `sets::compare_slot` meets its contract.
+-- `sets::slots::compare_slot` meets its contract.
 use mathlib.Core.Path.{_∙_}
 use native.Mathlib.Omega.{arith}
 use borrow.Author.Needs.{needs}
-use Rattle.sets.proofs.Slots.{slot-order}
-use Rattle.sets.proofs.compare_slot.Statement.{statement}
-use Rattle.sets.proofs.compare_slot.Tie as tie
+use Rattle.sets.proofs.slots.Words.{slot-order}
+use Rattle.sets.proofs.slots.compare_slot.Statement.{statement}
+use Rattle.sets.proofs.slots.compare_slot.Tie as tie
 
 -- places on the way, by the place from which they are seen
 abbrev start : tie.After-order-at → tie.Start
