@@ -147,7 +147,7 @@ const IFS: Nest = Nest { depth: 3, rounds: 10, piece: Piece::If, pieces: 180, ..
 const STRAIGHT: Nest = Nest { depth: 0, rounds: 0, pieces: 200, touched: 2, loads: 6, ..DEEP };
 
 /// The accepted recipe that takes the shortcuts longest of all that were found, over an hour in plain Rust: what
-/// `examples/worst.rs` comes to, with as many sites as there may be, each of 119 nodes and 57 readings.
+/// `examples/worst.rs` of `gate` comes to, with as many sites as there may be, each of 119 nodes and 57 readings.
 pub const WORST: Nest = Nest {
     rounds: 14,
     restart: true,

@@ -1,6 +1,6 @@
-//! A search for the accepted recipe that takes the analysis with its shortcuts longest: hill climbing over nested
-//! whiles, some steps from each of several starts. As such recipes take minutes, a time is that of few pieces and
-//! of three of the sites, and the rest is reckoned from these: times are linear in the pieces.
+//! A search for the accepted recipe that takes the proved analysis longest: hill climbing over nested whiles, some
+//! steps from each of several starts. As such recipes take minutes, a time is that of few pieces and of three of the
+//! sites, and the rest is reckoned from these: times are linear in the pieces.
 //!
 //! MINUTES gives how long to search, SEED where to begin.
 //!
@@ -8,8 +8,10 @@
 
 #![allow(clippy::cast_precision_loss, reason = "counts are small")]
 
+use gate::{derive, scratch, CONDITION};
+use gate_oracle::condition::MOST_CONJUNCTS;
 use gate_oracle::generate::Rng;
-use gate_oracle::nests::{Nest, Piece, Sites, ROWS};
+use gate_oracle::nests::{Nest, Piece, Sites, ROWS, WORST};
 use gate_oracle::recipe::MOST_STATEMENTS;
 use std::time::{Duration, Instant};
 
@@ -39,11 +41,12 @@ fn processor(begun: Instant) -> f64 {
 /// Seconds of the analysis of a recipe, or nothing if it is refused.
 fn seconds(nest: Nest) -> Option<f64> {
     let file = nest.recipe();
+    let (mut condition, mut words) = (vec![0; CONDITION], scratch());
     let begun = Instant::now();
     let start = processor(begun);
     let mut turns = 0.0;
     loop {
-        gate_oracle::derive_quickly(&file).ok()?;
+        derive(&file, &mut condition, &mut words).ok()?;
         turns += 1.0;
         let taken = processor(begun) - start;
         if taken > SHORTEST {
@@ -97,16 +100,17 @@ fn step(rng: &mut Rng, mut nest: Nest) -> Nest {
             3 => nest.restart = !nest.restart,
             4 => nest.long = !nest.long,
             5 => nest.piece = rng.pick(&[Piece::Copies, Piece::Cell, Piece::Store, Piece::If]),
-            6 => nest.touched = rng.between(1, 20),
+            6 => nest.touched = rng.between(1, 40),
             7 => nest.loads = rng.between(0, 4),
             8 => nest.reads = rng.between(0, TERMS),
             _ => {
                 let count = rng.between(1, TERMS);
-                nest.sites = rng.pick(&[Sites::Same(1), Sites::Different(count), Sites::Numbered(count)]);
+                nest.sites = rng.pick(&[Sites::Same(1), Sites::Different(count), Sites::Numbered(MOST_CONJUNCTS)]);
             }
         }
     }
     let number = usize::from(matches!(nest.sites, Sites::Numbered(_)));
+    nest.touched = nest.touched.min(TERMS - nest.loads - number);
     nest.readings = TERMS - nest.touched - nest.loads - number;
     nest.reads = nest.reads.min(nest.readings);
     nest
@@ -118,7 +122,9 @@ fn main() {
     let begun = Instant::now();
     let (mut tried, mut accepted, mut worst) = (0, 0, 0.0);
     while begun.elapsed() < limit {
-        let mut at = (0..20).fold(ROWS[1].1, |nest, _| step(rng, nest));
+        // Far from a row of the table, or near the worst that was known.
+        let (start, steps) = if rng.chance(50) { (ROWS[1].1, 20) } else { (WORST, 2) };
+        let mut at = (0..steps).fold(start, |nest, _| step(rng, nest));
         let (mut longest, mut vain) = (0.0, 0);
         while vain < PATIENCE && begun.elapsed() < limit {
             vain += 1;
