@@ -8,7 +8,7 @@ use native.Mathlib.Numerals.{add-one}
 use native.Mathlib.Omega.{arith}
 use Rattle.model.specs.Code.{site, Code, Stmt, plain, if, else, end, while}
 use Rattle.model.specs.Conjunct.{Conjuncts, unionOf, long, limits, var}
-use Rattle.model.specs.Kinds.{Kind, aNumber, aCopy, anOperation, aConversion, aRead, aLoad, aStore, aSite, anIf, anElse, anEnd, aWhile, noKind, kindOf}
+use Rattle.model.specs.Kinds.{Kind, aNumber, aCopy, anOperation, aConversion, aRead, aLoad, aStore, aSite, anIf, anElse, anEnd, aWhile, aProcedure, aCall, noKind, kindOf}
 use Rattle.model.specs.Placement.{Laid}
 use Rattle.model.specs.Sizes.{mostNested}
 use Rattle.model.specs.Refusals.{Out, ok, refused, _>>=_}
@@ -60,6 +60,8 @@ module _ (d : Decoded) where
       go anElse n = refl
       go anEnd n = refl
       go aWhile n = refl
+      go aProcedure n = refl
+      go aCall n = refl
       go noKind n = refl
 
 -- a site adds something

@@ -8,7 +8,7 @@ use lib.Dec.{eqb}
 use borrow.Author.Tests.{eqb-true, eqb-false}
 use Rattle.model.specs.Code.{Instr, assign, store, site, done, step, Stmt, plain, if, else, end, while}
 use Rattle.model.specs.Conjunct.{Conjuncts, unionOf, limits, var}
-use Rattle.model.specs.Kinds.{Kind, aNumber, aCopy, anOperation, aConversion, aRead, aLoad, aStore, aSite, anIf, anElse, anEnd, aWhile, noKind, kindOf}
+use Rattle.model.specs.Kinds.{Kind, aNumber, aCopy, anOperation, aConversion, aRead, aLoad, aStore, aSite, anIf, anElse, anEnd, aWhile, aProcedure, aCall, noKind, kindOf}
 use Rattle.model.specs.Refusals.{Out, ok, _>>=_}
 use Rattle.model.specs.TidySets.{Mem, Sub, Tidy}
 use Rattle.model.specs.Touch.{isVar, isLoad, some, writes, touches}
@@ -136,6 +136,8 @@ keeps-row d x below other = go (kindOf (d .kind)) (kind-number (d .kind))
     go anElse n = absurd (omega arith)
     go anEnd n = absurd (omega arith)
     go aWhile n = absurd (omega arith)
+    go aProcedure n = absurd (omega arith)
+    go aCall n = absurd (omega arith)
     go noKind n = absurd (omega arith)
 
 pub site-row : (d : Decoded) → d .kind ≡ 10 → stmtFrom d ≡ plain (site (d .a) (d .ty))

@@ -4,7 +4,7 @@ use Prim.Native.Nat.{ℕ, _-_, _≤_, _<_}
 use native.Mathlib.Decide.{decLt}
 use native.Mathlib.Omega.{arith}
 use Rattle.model.specs.Code.{Stmt, if, while}
-use Rattle.model.specs.Kinds.{Kind, aNumber, aCopy, anOperation, aConversion, aRead, aLoad, aStore, aSite, anIf, anElse, anEnd, aWhile, noKind, kindOf}
+use Rattle.model.specs.Kinds.{Kind, aNumber, aCopy, anOperation, aConversion, aRead, aLoad, aStore, aSite, anIf, anElse, anEnd, aWhile, aProcedure, aCall, noKind, kindOf}
 use Rattle.model.proofs.files.KindNumbers.{IsNumber, kind-number}
 use Rattle.code_table.specs.declared.Decoded.{Decoded}
 use Rattle.code_table.specs.Statements.{stmtFor, stmtFrom}
@@ -36,6 +36,8 @@ module _ (d : Decoded) (mate : ℕ → ℕ) (s : ℕ) where
       go anElse n = refl
       go anEnd n = refl
       go aWhile n = absurd (no-while n)
+      go aProcedure n = refl
+      go aCall n = refl
       go noKind n = refl
 
 -- a statement of another kind begins no while
@@ -56,6 +58,8 @@ no-while d other v = go (kindOf (d .kind)) (kind-number (d .kind))
     go anElse n e = let z : _≡_ {A = ℕ} 0 1 = cc in omega arith
     go anEnd n e = let z : _≡_ {A = ℕ} 0 1 = cc in omega arith
     go aWhile n e = other n
+    go aProcedure n e = let z : _≡_ {A = ℕ} 0 1 = cc in omega arith
+    go aCall n e = let z : _≡_ {A = ℕ} 0 1 = cc in omega arith
     go noKind n e = let z : _≡_ {A = ℕ} 0 1 = cc in omega arith
 
 -- one label more that begins no block around i

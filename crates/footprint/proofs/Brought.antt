@@ -12,7 +12,7 @@ use lib.Dec.{eqb}
 use borrow.Author.Tests.{ne-eqb}
 use Rattle.model.specs.Code.{Right, number, copy, calc, change, read, load, Instr, assign, store, site, Code, done, step, branch, loop, Stmt, plain, if, else, end, while}
 use Rattle.model.specs.Conjunct.{Source, field, cell, Atom, Node, const, atom, var, op, conv, Conj, Conjuncts, sameAtom, atoms, renamed, onAtom, renumber}
-use Rattle.model.specs.Kinds.{Kind, aNumber, aCopy, anOperation, aConversion, aRead, aLoad, aStore, aSite, anIf, anElse, anEnd, aWhile, noKind, kindOf}
+use Rattle.model.specs.Kinds.{Kind, aNumber, aCopy, anOperation, aConversion, aRead, aLoad, aStore, aSite, anIf, anElse, anEnd, aWhile, aProcedure, aCall, noKind, kindOf}
 use Rattle.model.specs.Lists.{All}
 use Rattle.model.specs.Placement.{Laid}
 use Rattle.model.specs.Touch.{isVar, isLoad, some}
@@ -190,6 +190,8 @@ module _ (m : Footprint) where
         go anElse n = tt
         go anEnd n = tt
         go aWhile n = tt
+        go aProcedure n = tt
+        go aCall n = tt
         go noKind n = tt
 
     -- a kind that brings nothing
@@ -210,6 +212,8 @@ module _ (m : Footprint) where
         go anElse n = tt
         go anEnd n = tt
         go aWhile n = tt
+        go aProcedure n = tt
+        go aCall n = tt
         go noKind n = tt
 
   -- ---- the statements of a piece

@@ -7,7 +7,7 @@ use native.Mathlib.Decide.{decLt}
 use native.Mathlib.Omega.{arith}
 use Rattle.model.specs.Code.{Instr, assign, store, site, Code, done, step, branch, loop, Stmt, plain}
 use Rattle.model.specs.Conjunct.{Conjuncts}
-use Rattle.model.specs.Kinds.{Kind, aNumber, aCopy, anOperation, aConversion, aRead, aLoad, aStore, aSite, anIf, anElse, anEnd, aWhile, noKind, kindOf}
+use Rattle.model.specs.Kinds.{Kind, aNumber, aCopy, anOperation, aConversion, aRead, aLoad, aStore, aSite, anIf, anElse, anEnd, aWhile, aProcedure, aCall, noKind, kindOf}
 use Rattle.model.specs.Placement.{Laid}
 use Rattle.model.specs.Touch.{some, writes, touches}
 use Rattle.model.proofs.files.KindNumbers.{IsNumber, kind-number, operation-most}
@@ -38,6 +38,8 @@ module _ (m : Footprint) (d : Decoded) where
       go anElse n = absurd (omega arith)
       go anEnd n = absurd (omega arith)
       go aWhile n = absurd (omega arith)
+      go aProcedure n = absurd (omega arith)
+      go aCall n = absurd (omega arith)
       go noKind n = absurd (omega arith)
 
   -- it changes an array
@@ -63,6 +65,8 @@ module _ (m : Footprint) (d : Decoded) where
       go anElse n = tt
       go anEnd n = tt
       go aWhile n = tt
+      go aProcedure n = tt
+      go aCall n = tt
       go noKind n = tt
 
 pub quiet-next : (m : Footprint) (stmt : ℕ → Stmt) (p i : ℕ) → SparedAll m stmt p i → Spares m (stmt i) → SparedAll m stmt p (i + 1)

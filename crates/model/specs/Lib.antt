@@ -6,6 +6,7 @@ pub mod Values
 pub mod Code
 pub mod Kinds
 pub mod Procedures
+pub mod Inlined
 pub mod Program
 pub mod Conjunct
 pub mod Walk

@@ -1,19 +1,20 @@
--- The program file (document 01: recipe) and checks 2 to 8, each over the whole file before the next.
-use mathlib.Core.Bool.{Bool, true, false, _&&_, not}
+-- The program file (document 01: recipe) and checks 2 to 8 and 16, each over the whole file before the next.
+use mathlib.Core.Bool.{Bool, true, false, _&&_, _||_, not, cond}
 use mathlib.Core.List.{List, [], _∷_, map}
-use Prim.Native.Nat.{ℕ, zero, suc, _+_, _*_, _/_, _%_}
+use Prim.Native.Nat.{ℕ, zero, suc, _+_, _-_, _*_, _/_, _%_}
 use lib.Dec.{leb, ltb, eqb}
-use lib.ListN.{length, getD}
+use lib.ListN.{length, getD, take, drop}
 use Rattle.arith.specs.Types.{signed}
 use Rattle.arith.specs.Step.{fits}
 use Rattle.arith.specs.Words.{immediate}
-use Rattle.model.specs.Sizes.{sectionTable, mostProgram, arraySize, statementSize, mostFields, mostVariables, mostArrays, mostStatements, mostCells}
+use Rattle.model.specs.Sizes.{sectionTable, mostProgram, arraySize, statementSize, mostFields, mostVariables, mostArrays, mostStatements, mostCells, mostParameters, mostRows}
 use Rattle.model.specs.Lists.{every}
-use Rattle.model.specs.Refusals.{Out, ok, _>>=_, check, wrongSections, tooManyEntries, wrongTypes, wrongStatement, typesDisagree, wrongImmediate}
-use Rattle.model.specs.Bytes.{byteAt, u16At, u32At, part, entries, pairsAt, chained}
-use Rattle.model.specs.Kinds.{Kind, aNumber, aCopy, anOperation, aConversion, aRead, aLoad, aStore, aSite, anIf, anElse, anEnd, aWhile, noKind, kindOf}
+use Rattle.model.specs.Refusals.{Out, ok, _>>=_, check, instead, wrongSections, tooManyEntries, wrongTypes, wrongStatement, typesDisagree, wrongImmediate, wrongProcedures}
+use Rattle.model.specs.Bytes.{byteAt, u16At, u32At, bytes4, part, entries, pairsAt, chained}
+use Rattle.model.specs.Kinds.{Kind, aNumber, aCopy, anOperation, aConversion, aRead, aLoad, aStore, aSite, anIf, anElse, anEnd, aWhile, aProcedure, aCall, noKind, kindOf, begins}
 use Rattle.model.specs.Code.{Instr, assign, store, site, number, copy, calc, change, read, load, Stmt, plain, if, else, end, while, Code, treeOf}
-use Rattle.model.specs.Procedures.{Origin, counted}
+use Rattle.model.specs.Procedures.{Item, own, procedure, call, openAfter, allClosed, between, Parts, partsFrom, partsRight}
+use Rattle.model.specs.Inlined.{Origin, counted, Row, rowsOf}
 
 -- ---- the tables
 
@@ -110,6 +111,21 @@ arrayRight r = typeRight (r .ty) && eqb (r .pad) 0 && leb 1 (r .len) && leb (r .
 unfoldable pub typesRight : Tables → Bool
 typesRight T = every typeRight (T .fields) && every typeRight (T .variables) && every arrayRight (T .arrays)
 
+-- ---- procedures and calls
+
+-- the statements that begin a procedure
+abbrev pub beginnings : List Statement → List Statement
+beginnings [] = []
+beginnings (q ∷ qs) = cond (begins (kindOf (q .kind))) (q ∷ beginnings qs) (beginnings qs)
+
+-- the beginning of the procedure with a number, by order of appearance
+abbrev pub beginningOf : Tables → ℕ → Statement
+beginningOf T p = getD (beginnings (T .statements)) p (record { kind = 0; a = 0; b = 0; c = 0; imm = 0 })
+
+-- the immediate's first bytes are the arguments of a call, as many as the procedure has parameters
+abbrev pub argumentsOf : Tables → Statement → List ℕ
+argumentsOf T q = take (beginningOf T (q .b) .a) (bytes4 (q .imm))
+
 -- ---- check 5: kinds, operands and unused bytes
 
 module _ (T : Tables) where
@@ -127,6 +143,16 @@ module _ (T : Tables) where
 abbrev pub unused : ℕ → Bool
 unused x = eqb x 0
 
+-- a beginning: its parameters, and its own variables, which there are
+unfoldable pub procedureForm : Tables → Statement → Bool
+procedureForm T q = leb (q .a) mostParameters && leb (q .b + q .c) (length (T .variables)) && unused (q .imm)
+
+-- a call: its target, a procedure that there is, and in the immediate the arguments, with zeros after them
+unfoldable pub callForm : Tables → Statement → Bool
+callForm T q =
+    isVariable T (q .a) && ltb (q .b) (length (beginnings (T .statements))) && unused (q .c)
+    && every (isVariable T) (argumentsOf T q) && every unused (drop (beginningOf T (q .b) .a) (bytes4 (q .imm)))
+
 -- what a, b, c and the immediate have to be, by kind
 abbrev pub formOf : Kind → Tables → Statement → Bool
 formOf aNumber T q = isVariable T (q .a) && unused (q .b) && unused (q .c)
@@ -141,6 +167,8 @@ formOf anIf T q = isVariable T (q .a) && unused (q .b) && unused (q .c) && unuse
 formOf anElse T q = unused (q .a) && unused (q .b) && unused (q .c) && unused (q .imm)
 formOf anEnd T q = unused (q .a) && unused (q .b) && unused (q .c) && unused (q .imm)
 formOf aWhile T q = isVariable T (q .a) && unused (q .b) && unused (q .c) && unused (q .imm)
+formOf aProcedure T q = false
+formOf aCall T q = false
 formOf noKind T q = false
 
 unfoldable pub formRight : Tables → Statement → Bool
@@ -168,6 +196,18 @@ alike T x y = eqb (variableType T x) (variableType T y)
 abbrev pub cellAlike : Tables → (array x index : ℕ) → Bool
 cellAlike T r x i = eqb (arrayOf T r .ty) (variableType T x) && not (signed (variableType T i))
 
+-- the variables have the types of those from x on, one by one
+unfoldable pub allAlike : Tables → List ℕ → ℕ → Bool
+allAlike T [] x = true
+allAlike T (b ∷ bs) x = alike T b x && allAlike T bs (suc x)
+
+-- the arguments of a call have their parameters' types and the target the result's; a call of a procedure with no own variables, or
+-- fewer than its parameters, is passed over
+unfoldable pub callAlike : Tables → Statement → Bool
+callAlike T q =
+    let p = beginningOf T (q .b) in
+    eqb (p .c) 0 || ltb (p .c) (p .a) || (allAlike T (argumentsOf T q) (p .b) && alike T (q .a) (p .b + p .c - 1))
+
 -- the types in a statement agree, by kind, and an index is unsigned; a conversion, a site and a test take any type
 abbrev pub agreeOf : Kind → Tables → Statement → Bool
 agreeOf aNumber T q = true
@@ -182,6 +222,8 @@ agreeOf anIf T q = true
 agreeOf anElse T q = true
 agreeOf anEnd T q = true
 agreeOf aWhile T q = true
+agreeOf aProcedure T q = true
+agreeOf aCall T q = true
 agreeOf noKind T q = true
 
 unfoldable pub typesAgree : Tables → Statement → Bool
@@ -203,6 +245,8 @@ immediateOf anIf T q = true
 immediateOf anElse T q = true
 immediateOf anEnd T q = true
 immediateOf aWhile T q = true
+immediateOf aProcedure T q = true
+immediateOf aCall T q = true
 immediateOf noKind T q = true
 
 unfoldable pub immediateRight : Tables → Statement → Bool
@@ -210,7 +254,7 @@ immediateRight T q = immediateOf (kindOf (q .kind)) T q
 
 -- ---- check 8: blocks
 
--- a statement with its types, by kind; what is no kind counts as an end
+-- a statement of kinds 0 to 14 with its types; any other counts as an end
 abbrev pub meaningOf : Kind → Tables → Statement → Stmt
 meaningOf aNumber T q = plain (assign (q .a) (variableType T (q .a)) (number (q .imm)))
 meaningOf aCopy T q = plain (assign (q .a) (variableType T (q .a)) (copy (q .b)))
@@ -224,10 +268,37 @@ meaningOf anIf T q = if (q .a)
 meaningOf anElse T q = else
 meaningOf anEnd T q = end
 meaningOf aWhile T q = while (q .a)
+meaningOf aProcedure T q = end
+meaningOf aCall T q = end
 meaningOf noKind T q = end
 
 unfoldable pub stmtOf : Tables → Statement → Stmt
 stmtOf T q = meaningOf (kindOf (q .kind)) T q
+
+-- a statement of any kind
+abbrev pub listedOf : Kind → Tables → Statement → Item
+listedOf aNumber T q = own (stmtOf T q)
+listedOf aCopy T q = own (stmtOf T q)
+listedOf (anOperation o) T q = own (stmtOf T q)
+listedOf aConversion T q = own (stmtOf T q)
+listedOf aRead T q = own (stmtOf T q)
+listedOf aLoad T q = own (stmtOf T q)
+listedOf aStore T q = own (stmtOf T q)
+listedOf aSite T q = own (stmtOf T q)
+listedOf anIf T q = own (stmtOf T q)
+listedOf anElse T q = own (stmtOf T q)
+listedOf anEnd T q = own (stmtOf T q)
+listedOf aWhile T q = own (stmtOf T q)
+listedOf aProcedure T q = procedure (q .a) (q .b) (q .c)
+listedOf aCall T q = call (q .a) (q .b) (argumentsOf T q)
+listedOf noKind T q = own (stmtOf T q)
+
+unfoldable pub itemOf : Tables → Statement → Item
+itemOf T q = listedOf (kindOf (q .kind)) T q
+
+-- the statements
+abbrev pub itemsOf : Tables → List Item
+itemsOf T = map (itemOf T) (T .statements)
 
 -- ---- the whole
 
@@ -253,3 +324,33 @@ readProgram s =
     (check (every (typesAgree T) (T .statements)) typesDisagree
     (check (every (immediateRight T) (T .statements)) wrongImmediate
     (treeOf (map (stmtOf T) (T .statements)) >>= λ c. ok (record { tables = T; code = c; origins = ownSteps 0 (T .statements) })))))))
+
+-- the statements of the inlined program
+abbrev pub inlinedRows : Tables → Parts → List Row
+inlinedRows T P = rowsOf (variableType T) (length (T .variables)) P
+
+-- check 16 of the inlined program: at most 16,384 statements, and at most 4 deep (its blocks match, since those of the program do)
+unfoldable pub programOf : Tables → List Row → Out Program
+programOf T rows =
+    check (leb (length rows) mostRows) wrongProcedures
+    (instead wrongProcedures (treeOf (map (λ r. r .stmt) rows))
+    >>= λ c. ok (record { tables = T; code = c; origins = map (λ r. r .origin) rows }))
+
+-- a program as it is listed: its tables, and its procedures with the statements after them
+pub record Outline : Type 0 where
+  pub tables : Tables
+  pub parts : Parts
+
+-- the outline of a byte string, or the first of checks 2 to 8, and 16 of the procedures, that it fails
+unfoldable pub readOutline : List ℕ → Out Outline
+readOutline s =
+    let T = tablesAt s (layoutOf s) in
+    check (sectionsRight s) wrongSections
+    (check (countsRight T) tooManyEntries
+    (check (typesRight T) wrongTypes
+    (check (every (formRight T) (T .statements)) wrongStatement
+    (check (every (typesAgree T) (T .statements)) typesDisagree
+    (check (every (immediateRight T) (T .statements)) wrongImmediate
+    (openAfter [] (itemsOf T) >>= allClosed >>= λ none.
+    partsFrom 0 [] between (itemsOf T) >>= λ P.
+    check (partsRight P) wrongProcedures (ok (record { tables = T; parts = P }))))))))

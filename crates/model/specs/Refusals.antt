@@ -23,6 +23,11 @@ abbrev pub check : {A : Type 0} → Bool → ℕ → Out A → Out A
 check true n o = o
 check false n o = refused n
 
+-- the same result, or another refusal
+abbrev pub instead : {A : Type 0} → ℕ → Out A → Out A
+instead n (ok a) = ok a
+instead n (refused m) = refused n
+
 -- condition output or scratch shorter than documented
 abbrev pub lentTooShort : ℕ
 lentTooShort = 1
@@ -82,3 +87,8 @@ tooManyCombinations = 14
 -- a field that some conjunct reads has no readings
 abbrev pub blankField : ℕ
 blankField = 15
+
+-- a procedure stands late or inside another, uses or shares variables that it may not, has none or fewer than its parameters, calls
+-- itself or a later one; or the inlined program is too long or too deep
+abbrev pub wrongProcedures : ℕ
+wrongProcedures = 16

@@ -55,6 +55,14 @@ mostNested = 4
 abbrev pub mostInside : ℕ
 mostInside = 3
 
+-- the parameters of a procedure at the most: as many as an immediate has bytes
+abbrev pub mostParameters : ℕ
+mostParameters = 4
+
+-- the statements of the longest inlined program
+abbrev pub mostRows : ℕ
+mostRows = 16384
+
 -- ---- the condition
 
 -- the nodes of the longest conjunct

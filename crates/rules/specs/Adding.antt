@@ -9,7 +9,7 @@ use Rattle.model.specs.Code.{Right, number, copy, calc, change, read, load}
 use Rattle.model.specs.Conjunct.{Conjuncts, unionOf, long, limits}
 use Rattle.model.specs.Lists.{All}
 use Rattle.model.specs.Refusals.{refused}
-use Rattle.model.specs.Kinds.{Kind, aNumber, aCopy, anOperation, aConversion, aRead, aLoad, aStore, aSite, anIf, anElse, anEnd, aWhile, noKind, kindOf}
+use Rattle.model.specs.Kinds.{Kind, aNumber, aCopy, anOperation, aConversion, aRead, aLoad, aStore, aSite, anIf, anElse, anEnd, aWhile, aProcedure, aCall, noKind, kindOf}
 use Rattle.model.specs.Sizes.{mostNodes}
 use Rattle.model.specs.TidySets.{Canon, Sub, Numbered}
 use Rattle.code_table.specs.declared.Decoded.{Decoded}
@@ -33,6 +33,8 @@ sideFor anIf d = load (d .b) (d .len) (d .c)
 sideFor anElse d = load (d .b) (d .len) (d .c)
 sideFor anEnd d = load (d .b) (d .len) (d .c)
 sideFor aWhile d = load (d .b) (d .len) (d .c)
+sideFor aProcedure d = load (d .b) (d .len) (d .c)
+sideFor aCall d = load (d .b) (d .len) (d .c)
 sideFor noKind d = load (d .b) (d .len) (d .c)
 
 -- the right side of an assignment

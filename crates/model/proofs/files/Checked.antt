@@ -14,9 +14,9 @@ use Rattle.model.specs.Code.{Code, treeOf}
 use Rattle.model.specs.Program.{Statement, Tables, tablesAt, layoutOf, sectionsRight, countsRight, typeRight, arrayRight, typesRight}
 use Rattle.model.specs.Program.{isVariable, isField, isArray, unused, formOf, formRight, variableType, fieldType, arrayOf, alike, cellAlike}
 use Rattle.model.specs.Program.{agreeOf, typesAgree, immediateOf, immediateRight, meaningOf, stmtOf, Program, ownSteps, readProgram}
-use Rattle.model.specs.Procedures.{counted, silent}
+use Rattle.model.specs.Inlined.{counted, silent}
 use Rattle.model.specs.Run.{originsOf}
-use Rattle.model.specs.Kinds.{Kind, aNumber, aCopy, anOperation, aConversion, aRead, aLoad, aStore, aSite, anIf, anElse, anEnd, aWhile, noKind, kindOf}
+use Rattle.model.specs.Kinds.{Kind, aNumber, aCopy, anOperation, aConversion, aRead, aLoad, aStore, aSite, anIf, anElse, anEnd, aWhile, aProcedure, aCall, noKind, kindOf}
 use Rattle.model.specs.Sizes.{mostCells}
 use Rattle.model.specs.Typing.{AtPlain, Indexed, TypedInstr, Typed}
 use Rattle.model.proofs.basics.Every.{every-all}
@@ -169,6 +169,8 @@ module _ (T : Tables) (known : typesRight T ≡ true) where
     kind-typed anElse f g h = tt
     kind-typed anEnd f g h = tt
     kind-typed aWhile f g h = tt
+    kind-typed aProcedure f g h = tt
+    kind-typed aCall f g h = tt
     kind-typed noKind f g h = tt
 
     statement-typed : formRight T q ≡ true → typesAgree T q ≡ true → immediateRight T q ≡ true → AtPlain (TypedInstr T) (stmtOf T q)

@@ -19,7 +19,7 @@ use Rattle.model.specs.Input.{Input}
 use Rattle.model.specs.Lists.{All}
 use Rattle.model.specs.Run.{State, zeros, setVar, setCell, reading, Next, go, halt, takingChoice, index, exec, append, Line, logged, permit, roomLeft, taken, Ended, stepped, after}
 use Rattle.model.specs.Run.{Origins, labelOf, quiet, moved, due, settled, turn, execute}
-use Rattle.model.specs.Procedures.{Origin, counted, silent}
+use Rattle.model.specs.Inlined.{Origin, counted, silent}
 use Rattle.model.specs.Values.{Val, plain, Operation, stepOp, operated, converted}
 use Rattle.model.proofs.basics.Lists.{all-imp}
 use Rattle.model.proofs.runs.Runs.{Leads, permit-leads}
