@@ -6,6 +6,8 @@ pub mod conjuncts
 pub mod walks
 -- the run: positions, steps, marks and the log; and that the analysis is sound
 pub mod runs
+-- procedures: the parts of a program, its blocks, the types and variables of the inlined program
+pub mod procedures
 -- what is read and written: programs, parts of files, the condition file, scratch
 pub mod files
 -- the filter: combinations, choices, the first failure and its cause, blank fields

@@ -1,6 +1,7 @@
 -- Statements in which numbers name something and types agree, as checks 4 to 7 leave them, and values inside their types.
 use mathlib.Core.Path.{_≡_}
 use mathlib.Core.Bool.{true, false}
+use mathlib.Core.List.{List, _++_, map}
 use Prim.Native.Nat.{ℕ, _<_}
 use lib.ListN.{length}
 use Rattle.arith.specs.Types.{signed}
@@ -8,6 +9,7 @@ use Rattle.arith.specs.Step.{fits}
 use Rattle.arith.specs.Words.{immediate}
 use Rattle.model.specs.Lists.{All}
 use Rattle.model.specs.Code.{Right, number, copy, calc, change, read, load, Instr, assign, store, site, Code, done, step, branch, loop, Stmt, plain, if, else, end, while}
+use Rattle.model.specs.Inlined.{Row}
 use Rattle.model.specs.Program.{Tables, variableType, fieldType, arrayOf}
 use Rattle.model.specs.Input.{Input}
 use Rattle.model.specs.Run.{State}
@@ -72,3 +74,23 @@ module _ (T : Tables) where
   pub record InTypes (σ : State) : Type 0 where
     pub inVars : (x : ℕ) → fits (variableType T x) (σ .vars x .num) ≡ true
     pub inCells : (r k i : ℕ) → fits (arrayOf T r .ty) (σ .cells r k i .num) ≡ true
+
+-- ---- the inlined program
+
+-- the type of the variable that a statement assigns
+abbrev pub assigned : Stmt → ℕ
+assigned (plain (assign a ty r)) = ty
+assigned (plain (store r k i x ty)) = 0
+assigned (plain (site a ty)) = 0
+assigned (if v) = 0
+assigned else = 0
+assigned end = 0
+assigned (while v) = 0
+
+-- the types of the variables of its places
+abbrev pub placeTypes : List Row → List ℕ
+placeTypes rows = map (λ r. assigned (r .stmt)) rows
+
+-- the tables with a variable for each place of the inlined program: of the type that the statement there assigns
+abbrev pub widened : Tables → List Row → Tables
+widened T rows = record { fields = T .fields; variables = T .variables ++ placeTypes rows; arrays = T .arrays; statements = T .statements }

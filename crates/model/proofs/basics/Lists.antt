@@ -1,5 +1,5 @@
 -- What holds of every element of a list, or of some element.
-use mathlib.Core.Path.{_≡_, refl, sym, subst}
+use mathlib.Core.Path.{_≡_, refl, sym, ap, subst}
 use mathlib.Core.Logic.{inl, inr}
 use mathlib.Core.List.{List, [], _∷_, _++_, map, List·Memᴰ, List·Memᴰ·head, List·Memᴰ·tail}
 use Prim.Native.Nat.{ℕ, zero, suc, _+_, _<_}
@@ -97,3 +97,8 @@ pub drop-map : {A B : Type 0} (f : A → B) (n : ℕ) (xs : List A) → drop n (
 drop-map f zero xs = refl
 drop-map f (suc n) [] = refl
 drop-map f (suc n) (x ∷ xs) = drop-map f n xs
+
+-- one more at the end
+pub length-snoc : {A : Type 0} (xs : List A) (x : A) → length (xs ++ (x ∷ [])) ≡ suc (length xs)
+length-snoc [] x = refl
+length-snoc (y ∷ xs) x = ap suc (length-snoc xs x)

@@ -1,0 +1,4 @@
+pub mod Parted
+pub mod Balanced
+pub mod InlinedTypes
+pub mod Naming
