@@ -2,3 +2,4 @@ pub mod Parted
 pub mod Balanced
 pub mod InlinedTypes
 pub mod Naming
+pub mod Expanding
