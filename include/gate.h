@@ -1,6 +1,6 @@
 /* The survey gate: from a recipe to its condition, from a condition and a sheet to a verdict, and a
  * recipe's run. Each function is proved to equal its definition in document 01, with document 02's
- * Cards 1 to 3, for every input. docs/FORMATS.md has the files byte by byte, docs/REFUSALS.md the
+ * Cards 1 to 4, for every input. docs/FORMATS.md has the files byte by byte, docs/REFUSALS.md the
  * refusals and the causes of holds, examples/gate.c a program.
  *
  * Slices. A slice is a pointer and a number of elements. With a length of 0 the pointer may be NULL,
@@ -9,12 +9,12 @@
  * overlap each other; what is written to (`condition`, `log`, `scratch`, `steps`, `records`) overlaps
  * nothing else.
  *
- * Answers. An answer's upper 32 bits are the number of the refusal, 1 to 15, or 0; its lower 32 bits
+ * Answers. An answer's upper 32 bits are the number of the refusal, 1 to 16, or 0; its lower 32 bits
  * are then what each function says. After a refusal everything that is lent, but scratch, is as it was.
  *
  * Scratch. What is in it before a call does not matter; a call leaves some of its first gate_scratch()
- * words changed. The words from gate_scratch() on are as they were. The refusals 1 to 8, and of
- * gate_run every refusal, leave all of scratch as it was.
+ * words changed. The words from gate_scratch() on are as they were. The refusals 1 to 8
+ * leave all of scratch as it was.
  *
  * Threads. The library keeps no state, takes no memory and reads no file. Any number of threads may
  * call at once, each with its own scratch and its own outputs; what is only read may be shared.
@@ -32,7 +32,7 @@ extern "C" {
 #endif
 
 /* Sizes. */
-#define GATE_SCRATCH_WORDS 88270u /* words of scratch that serve every call: gate_scratch() */
+#define GATE_SCRATCH_WORDS 134350u /* words of scratch that serve every call: gate_scratch() */
 #define GATE_CONDITION_BYTES 61992u /* the least bytes of a condition output; no condition is longer */
 #define GATE_RECIPE_BYTES 8384u /* the longest recipe */
 #define GATE_SHEET_BYTES 33024u /* the longest sheet */
@@ -44,6 +44,8 @@ extern "C" {
 #define GATE_MOST_TRAYS 16u
 #define GATE_MOST_CELLS 256u /* of a tray */
 #define GATE_MOST_STATEMENTS 1024u
+#define GATE_MOST_WRITTEN 16384u /* statements of a recipe with each call written out */
+#define GATE_MOST_PARAMETERS 4u /* of a procedure */
 #define GATE_MOST_CONJUNCTS 64u
 #define GATE_MOST_NODES 120u /* of a conjunct */
 #define GATE_MOST_READINGS 128u /* of a field */
@@ -87,7 +89,8 @@ enum gate_refusal {
     GATE_REFUSAL_CONDITION = 12, /* the condition is damaged, or is no condition */
     GATE_REFUSAL_SHEET = 13, /* the sheet is damaged, or belongs to another recipe */
     GATE_REFUSAL_COMBINATIONS = 14, /* a conjunct has over 1,048,576 combinations of readings */
-    GATE_REFUSAL_BLANK = 15 /* a field that a conjunct reads has no readings */
+    GATE_REFUSAL_BLANK = 15, /* a field that a conjunct reads has no readings */
+    GATE_REFUSAL_PROCEDURES = 16 /* a procedure is wrong, or the calls written out are too long or too deep */
 };
 
 /* Of an answer: the number of the refusal, or 0; and what the function says where it is 0. */
@@ -112,7 +115,7 @@ uint64_t gate_scratch(void);
 
 /* Derives the recipe's condition. Gives its length in bytes; it stands at the start of `condition`, and
  * every byte past it is as it was. Wants GATE_CONDITION_BYTES and gate_scratch() words, else refuses
- * with 1; then 2 to 11. */
+ * with 1; then 2 to 8, 16, and 9 to 11. */
 uint64_t gate_derive(const uint8_t *recipe, size_t recipe_length,
                      uint8_t *condition, size_t condition_length,
                      uint64_t *scratch, size_t scratch_length);
@@ -129,8 +132,9 @@ uint64_t gate_check(const uint8_t *condition, size_t condition_length,
  * read: which reading of its field it takes, modulo their number; an odd last byte is passed over.
  * Gives the end. The records, GATE_RECORD_BYTES each, stand at the start of `log`, which may have any
  * length, and every byte past them is as it was; the numbers of steps and of records go to `steps` and
- * `records`, which a refusal leaves as they were. Wants gate_scratch() words, else refuses with 1; then
- * 2 to 8 and 13. */
+ * `records`, which a refusal leaves as they were. A call is one step besides those of its body, and a
+ * record has the label that its site has in the recipe. Wants gate_scratch() words, else refuses with
+ * 1; then 2 to 8, 16 and 13. */
 uint64_t gate_run(const uint8_t *recipe, size_t recipe_length,
                   const uint8_t *sheet, size_t sheet_length, uint32_t limit,
                   const uint8_t *choices, size_t choices_length,
@@ -142,8 +146,8 @@ uint64_t gate_run(const uint8_t *recipe, size_t recipe_length,
  * as gate_run, with `log`, `steps` and `records` as there and the condition as gate_derive writes it;
  * or GATE_END_HELD where the sheet is held (gate_check tells the cause), and then everything lent but
  * scratch is as it was. Wants GATE_CONDITION_BYTES and gate_scratch() words, else refuses with 1; then
- * 2 to 11 and 13 to 15. No record that it writes is marked, and each is the whole number of the exact
- * run. */
+ * 2 to 8, 16, 9 to 11 and 13 to 15. No record that it writes is marked, and each is the whole number
+ * of the exact run. */
 uint64_t gate_guarded(const uint8_t *recipe, size_t recipe_length,
                       const uint8_t *sheet, size_t sheet_length, uint32_t limit,
                       const uint8_t *choices, size_t choices_length,

@@ -1,11 +1,12 @@
 #!/usr/bin/env python3
 """cases.py CRATE: writes CRATE/data and CRATE/stdout of the program cases from the outside vectors and the cases beside them.
 
-The vectors come first, then the cases of the gate, then those of the run; no number has two cases."""
+The vectors come first, then the cases of the gate, then those of the run, then those of procedures; no number has two cases."""
 import sys
 from typing import List, Tuple
 
 import analysing
+import calling
 import filtering
 import reading
 import running
@@ -37,6 +38,12 @@ def run_cases() -> List[Tuple[str, running.Beside]]:
     return [(f"{number:03d}", one) for number, one in enumerate(running.beside(), first)]
 
 
+def calling_cases() -> List[Tuple[str, calling.Calling]]:
+    """The cases of procedures beside the vectors, with their numbers."""
+    first = len(vectors()) + len(filtering.beside()) + len(running.beside())
+    return [(f"{number:03d}", one) for number, one in enumerate(calling.beside(), first)]
+
+
 def put_data(stored: Stored) -> None:
     """The files of all cases."""
     for case in vectors():
@@ -52,6 +59,13 @@ def put_data(stored: Stored) -> None:
         stored.put(number, "sheet", one.sheet)
         stored.put(number, "choices", one.choices)
         stored.ask(number, 0, one.asks)
+    for number, one in calling_cases():
+        stored.put(number, "recipe", one.recipe)
+        stored.put(number, "sheet", one.sheet)
+        stored.put(number, "choices", one.choice_file)
+        if not isinstance(one.derive, str):
+            stored.put(number, "derived", one.derived())
+        stored.ask(number, one.room, ANALYSING | RUNNING)
 
 
 def write(crate: str) -> None:
@@ -62,10 +76,14 @@ def write(crate: str) -> None:
         stored.say([part.__name__])
         for case in vectors():
             stored.say(part.lines(case))
+        if part is analysing:
+            stored.say(line for number, one in calling_cases() for line in (number, *one.listing()))
         if part is filtering:
             stored.say(f"{number} condition {one.answer}" for number, one in gate_cases())
         if part is running:
             stored.say(f"{number} {one.answer}" for number, one in run_cases())
+            for number, one in calling_cases():
+                stored.say([f"{number} {one.run}", *([f"{number} log {one.log().hex()}"] if one.records else [])])
     stored.write_stdout()
 
 

@@ -20,7 +20,7 @@ def read_or_refused(answer: str) -> str:
 def recipe_lines(case: Case) -> List[str]:
     """The recipe, and the sheet by the recipe's fields."""
     recipe = case.content("recipe")
-    if case.derive in [f"refused {n}" for n in range(2, 9)]:
+    if case.derive in [f"refused {n}" for n in (*range(2, 9), 16)]:
         return [f"{case.number} recipe {case.derive}"]
     counts = number(recipe, 4), number(recipe, 12), number(recipe, 20) // 4, number(recipe, 28) // 8
     return [

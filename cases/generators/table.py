@@ -11,7 +11,7 @@ HERE = os.path.dirname(os.path.abspath(__file__))
 ROOT = os.path.dirname(os.path.dirname(HERE))
 sys.path[:0] = [HERE, os.path.join(ROOT, "python")]
 
-from cases import gate_cases, run_cases  # noqa: E402
+from cases import calling_cases, gate_cases, run_cases  # noqa: E402
 from vectors import cases  # noqa: E402
 
 from survey_gate.condition import Condition  # noqa: E402
@@ -19,7 +19,7 @@ from survey_gate.recipe import Recipe  # noqa: E402
 from survey_gate.sheet import readings_of  # noqa: E402
 from survey_gate.trouble import Refused  # noqa: E402
 
-IF, WHILE, LOAD, STORE, SITE = 11, 14, 8, 9, 10
+IF, WHILE, LOAD, STORE, SITE, PROCEDURE, CALL = 11, 14, 8, 9, 10, 15, 16
 ENDS = ("finished", "step limit", "field without readings", "choices used up", "log full")
 HEAD = """# The stored cases
 
@@ -27,16 +27,16 @@ What each stored case is there for. `rt check` and `.ci/run` run the programs be
 
 | program | cases | what it shows |
 |---|---|---|
-| `cases`, reading | 000 to %(last)s | the three readers: counts of what is read, refusals 2 to 8 of recipes, 12 of conditions, 13 of sheets, each sheet read for the recipe and for the condition |
-| `cases`, analysing | 000 to %(last)s | the analysis: the condition byte for byte and its listing, or refusals 2 to 11 |
+| `cases`, reading | 000 to %(last)s | the three readers: counts of what is read, refusals 2 to 8 and 16 of recipes, 12 of conditions, 13 of sheets, each sheet read for the recipe and for the condition |
+| `cases`, analysing | 000 to %(last)s, %(first_calling)s to %(calling)s | the analysis: the condition byte for byte and its listing, or refusals 2 to 11 and 16 |
 | `cases`, filtering | 000 to %(filter)s | the gate on the made-up condition and on the derived one: pass, held with the cause of the first failure, refusals 12 to 15 |
-| `cases`, running | 000 to %(last)s, %(first_run)s to %(run)s | the run: end, steps and every byte of the records; where the derived condition passes, the numbers of the whole-number run, unmarked |
+| `cases`, running | 000 to %(last)s, %(first_run)s to %(calling)s | the run: end, steps and every byte of the records; where the derived condition passes, the numbers of the whole-number run, unmarked |
 | `list` | one, on standard input | document 01's example of a listing: two reads of one field are two atoms |
 | `derive` | one | document 01's loop `x = x + 1` before a site: refused 11, and nothing is written |
 | `gate` | one | the files of 000: the made-up condition passes |
 | `run`, `guarded` | one | the files of 013: it passes, finishes and logs two records |
 
-The same vectors go through the library in C's form by `rust/gate/tests/vectors.rs`, through the independent implementation by `rust/oracle/tests/vectors.rs`, and as files through the Python package by `python/tests`.
+The answers of the cases beside the vectors were worked out by hand; those of procedures are the independent implementation's too (`rust/oracle/tests/stored.rs` holds it to every stored case), and none comes from the proved programs. The same vectors go through the library in C's form by `rust/gate/tests/vectors.rs`, through the independent implementation by `rust/oracle/tests/vectors.rs`, and as files through the Python package by `python/tests`.
 
 ## Beside the vectors
 
@@ -45,7 +45,7 @@ The same vectors go through the library in C's form by `rust/gate/tests/vectors.
 %(beside)s
 ## The vectors
 
-A recipe that is accepted, or refused with 9 to 11, shows its whiles, ifs, loads, stores and sites. `Made up` is the condition that comes with the case, put to the case's sheet; `derived` is the recipe's own. Where Card 1 has moved an answer of the gate and the vectors leave it empty, the table says `not compared`. The sets `base` and `card-01` were made before Card 2 and say `held` alone; there the cause is not compared, and `cases` does not print it. A run that is refused as the recipe is says `the same`. Labels and entries count from 0.
+A recipe that is accepted, or refused with 9 to 11, shows its procedures, calls, whiles, ifs, loads, stores and sites. `Made up` is the condition that comes with the case, put to the case's sheet; `derived` is the recipe's own. Where Card 1 has moved an answer of the gate and the vectors leave it empty, the table says `not compared`. The sets `base` and `card-01` were made before Card 2 and say `held` alone; there the cause is not compared, and `cases` does not print it. A run that is refused as the recipe is says `the same`. Labels and entries count from 0. No recipe of `base`, `card-01` and `card-02` has a procedure or a call, so that Card 4 moved none of their answers.
 
 %(sets)s
 
@@ -71,14 +71,14 @@ def told(answer, where):
 def shape(recipe):
     """What an accepted recipe is made of."""
     kinds = [statement.kind for statement in recipe.statements]
-    named = [("while", WHILE), ("if", IF), ("load", LOAD), ("store", STORE), ("site", SITE)]
+    named = [("procedure", PROCEDURE), ("call", CALL), ("while", WHILE), ("if", IF), ("load", LOAD), ("store", STORE), ("site", SITE)]
     return ", ".join(counted(str(kinds.count(kind)), word) for word, kind in named if kind in kinds)
 
 
 def recipe_told(case):
     data = case.content("recipe")
     where = place(lambda: Recipe.from_bytes(data))
-    if where or case.derive in [f"refused {n}" for n in range(2, 9)]:
+    if where or case.derive in [f"refused {n}" for n in (*range(2, 9), 16)]:
         return told(case.derive, where)
     parts = shape(Recipe.from_bytes(data))
     return f"{case.derive}: {parts}" if parts else case.derive
@@ -148,17 +148,27 @@ def sets_told(outside):
     return "; ".join(parts) + "."
 
 
+def calling_told(one):
+    """What a case of procedures is there for, with its answers, and with the place of a refusal."""
+    derive = one.listing()[0]
+    if derive.startswith("refused"):
+        return f"{one.what}: {told(derive, place(lambda: Recipe.from_bytes(one.recipe)))}"
+    return f"{one.what}: {derive}, {one.run}"
+
+
 def beside_told():
     """The rows of the cases beside the vectors."""
     rows = [("filtering", number, f"{one.what}: {told(one.answer, pair_place(one))}") for number, one in gate_cases()]
     rows += [("running", number, one.what) for number, one in run_cases()]
+    rows += [("analysing, running", number, calling_told(one)) for number, one in calling_cases()]
     return "".join(f"| {part} | {number} | {what} |\n" for part, number, what in rows)
 
 
 def table():
     """The whole of CASES.md."""
-    outside, of_gate, of_run = cases(), gate_cases(), run_cases()
-    numbers = {"last": outside[-1].number, "filter": of_gate[-1][0], "first_run": of_run[0][0], "run": of_run[-1][0]}
+    outside, of_gate, of_run, of_calling = cases(), gate_cases(), run_cases(), calling_cases()
+    numbers = {"last": outside[-1].number, "filter": of_gate[-1][0], "first_run": of_run[0][0]}
+    numbers.update(first_calling=of_calling[0][0], calling=of_calling[-1][0])
     head = HEAD % {"beside": beside_told(), "sets": sets_told(outside), **numbers}
     return head + "".join(row(case) for case in outside)
 

@@ -8,7 +8,7 @@ from typing import List, NamedTuple
 
 ROOT = os.path.dirname(os.path.dirname(os.path.dirname(os.path.abspath(__file__))))
 VECTORS = os.path.join(ROOT, "rust", "vectors")
-SETS = ("base", "card-01", "card-02")
+SETS = ("base", "card-01", "card-02", "card-04")
 SETS_WITHOUT_CAUSES = ("base", "card-01")
 CAUSES = {"held above": "held too big", "held below": "held too small", "held divisor": "held no divisor"}
 

@@ -14,8 +14,9 @@ from .ranges import TYPES
 from .trouble import close_to, excerpt
 
 NAME = r"[A-Za-z_][A-Za-z_0-9]*"
-KEYWORDS = ("field", "tray", "var", "read", "to", "site", "if", "else", "end", "while")
-STARTERS = ("field", "tray", "var", "site", "if", "else", "end", "while")
+KEYWORDS = ("field", "tray", "var", "read", "to", "site", "if", "else", "end", "while", "proc", "call")
+STARTERS = ("field", "tray", "var", "site", "if", "else", "end", "while", "proc")
+PROCS = ("proc", "procedure", "def", "func", "function", "fn", "fun", "sub")
 ELSES = ("else", "elif", "elsif", "elseif")
 ENDS = ("end", "endif", "endwhile", "done", "fi", "}")
 OPERAND = r"[A-Za-z_0-9.]+"
@@ -49,6 +50,11 @@ def first_word(words: str) -> str:
     return found.group() if found else ""
 
 
+def opens_procedure(words: str) -> bool:
+    """Whether the line looks like the opening of a procedure, in whatever language."""
+    return first_word(words) in PROCS and not re.match(r"[a-z]+\s*(=|\[)", words)
+
+
 def right_type(word: str, name: str) -> str:
     """What a word that is no type may mean in the declaration of the name."""
     if name in TYPES:
@@ -63,7 +69,12 @@ def right_type(word: str, name: str) -> str:
 
 def declaration(what: str, name: str) -> str:
     """How a name would be declared."""
-    return {"field": f"field {name} u32", "variable": f"var {name} u32", "tray": f"tray {name} u32 8"}[what]
+    return {
+        "field": f"field {name} u32",
+        "variable": f"var {name} u32",
+        "tray": f"tray {name} u32 8",
+        "procedure": f"proc {name}(x u32) -> y u32",
+    }[what]
 
 
 def instead(what: str, name: str) -> str:
@@ -71,7 +82,8 @@ def instead(what: str, name: str) -> str:
     return {
         "field": f"read it into a variable first, as `x = read {name}`",
         "tray": f"a cell of it goes into a variable, as `x = {name}[i]`",
-        "variable": "fields are named after `read`, and trays before `[`",
+        "variable": "fields are named after `read`, trays before `[` and procedures after `call`",
+        "procedure": f"it is called, as `x = call {name}(...)`",
     }[what]
 
 
@@ -80,6 +92,15 @@ def conversion(codes: Sequence[Tuple[str, Optional[int]]]) -> str:
     wanted = codes[0][1]
     name = next(name for name, code in codes[1:] if code is not None and code != wanted) if wanted is not None else codes[-1][0]
     return f"convert first, into a variable of the wanted type, as `y = to {name}`"
+
+
+def argument(a: str, name: str, word: str) -> Told:
+    """What is wrong with an argument that is no variable, and what would be right."""
+    if NUMBER_LIKE.fullmatch(word):
+        return f"the number {excerpt(word)} stands as an argument", f"give it a variable, as `n = {_decimal(word)}`, then `{a} = call {name}(n)`"
+    if not word:
+        return "an argument is missing", f"name the variables, with commas between, as `{a} = call {name}(x, y)`"
+    return f"the argument {excerpt(word)} is more than a variable", f"work it out first, as `x = a * b`, then `{a} = call {name}(x)`"
 
 
 # ---- looks
@@ -186,6 +207,35 @@ def _declaration(words: str) -> Optional[Told]:
     return f"{excerpt(words)} is no declaration", f"write `{form}`"
 
 
+def _procedure(words: str) -> Optional[Told]:
+    """The opening of a procedure whose parts are wrong, or in another language's form."""
+    if not opens_procedure(words):
+        return None
+    word = first_word(words)
+    form = "proc NAME(x u32, y u32) part u32 -> result u32"
+    if word != "proc":
+        return f"'{word}' opens no procedure", f"write `{form}`"
+    named = re.match(rf"proc\s+({NAME})\s*(\()?", words)
+    if not named:
+        return "this procedure has no name", f"write `{form}`"
+    if not named[2]:
+        return f"{named[1]} has no parentheses", f"the parameters stand in them, or nothing, as `proc {named[1]}() -> result u32`"
+    if "->" not in words:
+        right = "name it behind `->`, as `-> result u32`; it may be the last variable before it, as `-> x`"
+        return f"{named[1]} has no result", right
+    return f"{excerpt(words)} opens no procedure", f"write `{form}`: parameters, other own variables, the result"
+
+
+def _bare_call(words: str) -> Optional[Told]:
+    """A call that goes nowhere, or a return."""
+    found = re.match(rf"call\b\s*({NAME})?", words)
+    if found:
+        return f"{excerpt(words)} sets nothing", f"write where the result goes, as `x = call {found[1] or 'p'}(...)`"
+    if re.match(r"return\b", words):
+        return f"{excerpt(words)} is no statement", "set the variable behind `->`: a procedure gives what it holds at its end"
+    return None
+
+
 def _site(words: str) -> Optional[Told]:
     """A site on anything but a variable."""
     found = re.fullmatch(r"site\b\s*(.*)", words)
@@ -220,13 +270,13 @@ def _right_side(words: str) -> Optional[Told]:
     if not found:
         return None
     a, right = found.groups()
-    for look in (_literal, _conversion_word, _comparison, _other_operation, _load, _number_operand, _negative, _nested):
+    for look in (_literal, _call, _conversion_word, _comparison, _other_operation, _load, _number_operand, _negative, _nested):
         told = look(a, right)
         if told:
             return told
     if not right:
         return f"{a} is set to nothing", f"write a value, as `{a} = 5` or `{a} = b + c`"
-    return f"{excerpt(right)} is no value", "a value is a number, `b`, `b + c`, `to b`, `read f` or `t[i]`"
+    return f"{excerpt(right)} is no value", "a value is a number, `b`, `b + c`, `to b`, `read f`, `t[i]` or `call p(b, c)`"
 
 
 def _decimal(literal: str) -> str:
@@ -251,6 +301,20 @@ def _literal(a: str, right: str) -> Optional[Told]:
     if re.fullmatch(r"[+-]?[0-9]+[uUlLiI][0-9lL]*", right):
         return f"{excerpt(right)} has letters after its digits", "the type is the variable's: write the digits alone"
     return f"{excerpt(right)} is no whole number", "numbers are whole: scale the value, or divide in the recipe"
+
+
+def _call(a: str, right: str) -> Optional[Told]:
+    """A call with more in its line than variables in parentheses."""
+    found = re.match(rf"call\b\s*({NAME})?\s*(\(.*\))?(.*)", right)
+    if not found:
+        return None
+    name, given, more = found[1] or "p", found[2] or "", found[3].strip()
+    if given and not more:
+        told = f"work the arguments out first, one a line, then `{a} = call {name}(x, y)`"
+        return f"{excerpt(right)} has more than one operation", told
+    if given:
+        return f"{excerpt(right)} has more than a call", f"write `y = call {name}{given}`, and the rest on a line of its own"
+    return f"{excerpt(right)} has no parentheses", f"the arguments stand in them, or nothing, as `{a} = call {name}()`"
 
 
 def _conversion_word(a: str, right: str) -> Optional[Told]:
@@ -298,7 +362,8 @@ def _load(a: str, right: str) -> Optional[Told]:
         return None
     tray, index = found.groups()
     if "(" in right and "[" not in right:
-        return f"{excerpt(right)} calls a function", "there are none: a line has one operation, and a tray's cell is `t[i]`"
+        told = f"a procedure is called as `{a} = call {tray}({index})`, and a tray's cell is `t[i]`"
+        return f"{excerpt(right)} calls a function", told
     return _index_told(tray, index, f"{a} = {tray}[i]")
 
 
@@ -362,6 +427,6 @@ def _reading(words: str) -> Optional[Told]:
 
 
 HINTS: List[Look] = [
-    _characters, _comment, _else_if, _separator, _test, _end, _declaration,
-    _site, _assignment_sign, _right_side, _store, _reading,
+    _characters, _comment, _else_if, _separator, _test, _end, _declaration, _procedure,
+    _bare_call, _site, _assignment_sign, _right_side, _store, _reading,
 ]

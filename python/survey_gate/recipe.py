@@ -6,9 +6,10 @@ from dataclasses import dataclass, field
 from typing import Dict, Iterable, List, Optional, Sequence
 
 from . import files, recipe_file
+from .procedures import reached, start_of
 from .ranges import TYPES
 from .sizes import LONGEST_TEXT
-from .statements import Kind, Named, Names, Statement, text_of
+from .statements import Kind, Named, Names, Procedure, Statement, opened, text_of
 from .trouble import Mistake, Trouble, shown
 
 MOST_PLACES_TOLD = 10
@@ -20,14 +21,16 @@ class Recipe:
     """A recipe.
 
     `fields`, `variables` and `trays` have a name, a type code and (trays) a number of cells each; `statements` are as
-    in the file. From a text, `lines` has the line of each statement, `declared` that of each name, and `named` is
-    true; from a file the names are f0, v0 and t0 onward. `warnings` say what is allowed and seldom meant.
+    in the file, and `procedures` those that they open. From a text, `lines` has the line of each statement, `declared`
+    that of each name, and `named` is true; from a file the names are f0, v0, t0 and p0 onward. `warnings` say what is
+    allowed and seldom meant.
     """
 
     fields: List[Named] = field(default_factory=list)
     variables: List[Named] = field(default_factory=list)
     trays: List[Named] = field(default_factory=list)
     statements: List[Statement] = field(default_factory=list)
+    procedures: List[Procedure] = field(default_factory=list)
     lines: Optional[List[int]] = None
     declared: Dict[str, int] = field(default_factory=dict)
     named: bool = False
@@ -42,9 +45,9 @@ class Recipe:
 
     @classmethod
     def from_bytes(cls, data: bytes) -> "Recipe":
-        """The recipe of a file; raises Refused with 2 to 8 and the wrong entry."""
+        """The recipe of a file; raises Refused with 2 to 8 or 16 and the wrong entry."""
         names, statements = recipe_file.unpacked(data)
-        recipe = cls(names["field"], names["variable"], names["tray"], statements)
+        recipe = cls(names["field"], names["variable"], names["tray"], statements, opened(statements))
         recipe.warnings = recipe.noticed()
         return recipe
 
@@ -88,20 +91,44 @@ class Recipe:
         return recipe_file.packed(self.names, kept)
 
     def to_text(self) -> str:
-        """The recipe's text, indented by blocks. Reading it gives the same file."""
+        """The recipe's text, indented by blocks. Reading it gives the same file.
+
+        Variables are declared in the order of their numbers: a procedure declares its own, unless a procedure before it
+        has higher ones.
+        """
         lines = [f"field {part.name} {TYPES[part.code]}" for part in self.fields]
-        lines += [f"var {part.name} {TYPES[part.code]}" for part in self.variables]
+        declared = self.procedures[0].first if self.procedures else len(self.variables)
+        lines += self._declarations(0, declared)
         lines += [f"tray {part.name} {TYPES[part.code]} {part.cells}" for part in self.trays]
-        depth = 0
-        for statement in self.statements:
-            depth -= statement.kind in (Kind.ELSE, Kind.END)
-            lines.append("    " * depth + text_of(statement, self.names))
-            depth += statement.kind in (Kind.IF, Kind.ELSE, Kind.WHILE)
+        start = start_of(self.statements, self.procedures)
+        for procedure, stop in zip(self.procedures, [after.label for after in self.procedures[1:]] + [start]):
+            lines += self._declarations(declared, procedure.first)
+            lines.append(procedure.header(self.variables, declares=procedure.first >= declared))
+            declared = max(declared, procedure.own.stop)
+            lines += self._indented(procedure.label + 1, stop, 1)
+        lines += self._declarations(declared, len(self.variables))
+        lines += self._indented(start, len(self.statements), 0)
         return "\n".join(lines) + "\n" if lines else EMPTY
+
+    def _indented(self, start: int, stop: int, depth: int) -> List[str]:
+        """The statements of some labels, as lines that are indented by blocks."""
+        lines = []
+        for statement in self.statements[start:stop]:
+            depth -= statement.kind in (Kind.ELSE, Kind.END)
+            lines.append("    " * depth + text_of(statement, self.names, self.procedures))
+            depth += statement.kind in (Kind.IF, Kind.ELSE, Kind.WHILE)
+        return lines
+
+    def _declarations(self, start: int, stop: int) -> List[str]:
+        """The lines that declare the variables of some numbers."""
+        return [f"var {part.name} {TYPES[part.code]}" for part in self.variables[start:stop]]
 
     def statement_text(self, label: int) -> str:
         """The statement at a label, as a line of text."""
-        return text_of(self.statements[label], self.names)
+        for procedure in self.procedures:
+            if procedure.label == label:
+                return procedure.header(self.variables)
+        return text_of(self.statements[label], self.names, self.procedures)
 
     def place(self, label: int) -> str:
         """Where a statement stands: its line in the text, or its label."""
@@ -117,11 +144,18 @@ class Recipe:
         return f"{'lines' if self.lines else 'labels'} {', '.join(numbers[:-1])} and {numbers[-1]}"
 
     def noticed(self) -> List[Mistake]:
-        """Warnings: no site; a variable that is never set."""
-        found = []
-        if not any(statement.kind == Kind.SITE for statement in self.statements):
-            found.append(Mistake(0, "the recipe has no site, so every sheet passes", "mark what must not overflow, as `site x`"))
-        written = {statement.a for statement in self.statements if statement.kind <= Kind.LOAD}
+        """Warnings: no site that is ever reached; a variable that is never set; a procedure that is never called."""
+        found, run = [], [self.statements[label] for label in sorted(reached(self.statements, self.procedures))]
+        if not any(statement.kind == Kind.SITE for statement in run):
+            sites = any(statement.kind == Kind.SITE for statement in self.statements)
+            wrong = "every site stands in a procedure that is never called" if sites else "the recipe has no site"
+            found.append(Mistake(0, f"{wrong}, so every sheet passes", "mark what must not overflow, as `site x`"))
+        for number, procedure in enumerate(self.procedures):
+            if not any(statement.kind == Kind.CALL and statement.b == number for statement in run):
+                wrong = f"{procedure.name} is never called, so nothing of it is run"
+                found.append(Mistake(self.declared.get(procedure.name, 0), wrong, f"call it, as `x = call {procedure.name}(...)`"))
+        written = {statement.a for statement in self.statements if statement.kind <= Kind.LOAD or statement.kind == Kind.CALL}
+        written.update(number for procedure in self.procedures for number in procedure.own[: procedure.parameters])
         for number, variable in enumerate(self.variables):
             if number not in written:
                 wrong = f"{variable.name} is never set, so it is 0 throughout"

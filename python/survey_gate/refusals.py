@@ -23,6 +23,7 @@ MEANINGS = {
     13: "the sheet is damaged, or belongs to another recipe",
     14: "a conjunct has over 1,048,576 combinations of readings",
     15: "a field that a conjunct reads has no readings",
+    16: "a procedure is wrong, or the calls written out are too long or too deep",
 }
 HIGHEST_REFUSAL = max(MEANINGS)
 PAGES = os.path.join(os.path.dirname(os.path.realpath(__file__)), "REFUSALS.md")

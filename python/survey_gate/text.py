@@ -3,15 +3,18 @@
 Each line is matched against FORMS. A line that none fits goes to `hints`, which says what it looks like and
 what would be right. Reading goes on after a mistake: a name whose declaration is wrong counts as declared,
 with no type, and a block that is opened wrongly counts as opened, so that one mistake is told once.
+
+Whatever the gate refuses with 2 to 8 or 16 is a mistake of some line here, so that no text is made into such a file.
 """
 
 from __future__ import annotations
 
 import re
-from typing import Callable, Dict, List, NamedTuple, Optional, Tuple
+from typing import Callable, Dict, List, Optional, Tuple
 
 from . import hints
 from .files import lines_of
+from .procedures import measured
 from .ranges import TYPES, fits, fits_immediate, highest, is_signed, lowest
 from .recipe import Recipe
 from .sizes import (
@@ -26,27 +29,13 @@ from .sizes import (
     MOST_VARIABLES,
 )
 from .statements import OPERATORS, Kind, Named, Statement
+from .text_names import Known, Scope, Wrong
+from .text_procedures import call, open_procedure
 from .trouble import Mistake, Mistakes, close_to, count, excerpt
 
 NAME = hints.NAME
 NUMBER = r"[+-]?[0-9]+"
 MOST = {"field": MOST_FIELDS, "variable": MOST_VARIABLES, "tray": MOST_TRAYS}
-
-
-class Known(NamedTuple):
-    """A declared name: what it names, its number and its type; no type where its declaration is wrong."""
-
-    what: str
-    number: int
-    code: Optional[int]
-
-
-class Wrong(Exception):
-    """The line that is being read is wrong."""
-
-    def __init__(self, wrong: str, right: str) -> None:
-        super().__init__(wrong)
-        self.wrong, self.right = wrong, right
 
 
 class Reader:
@@ -57,6 +46,9 @@ class Reader:
         self.recipe = Recipe(lines=[], named=True)
         self.known: Dict[str, Known] = {}
         self.open_blocks: List[Tuple[str, int]] = []
+        self.owner: Dict[str, str] = {}
+        self.inside: Optional[Scope] = None
+        self.first_outside = 0
         self.mistakes: List[Mistake] = []
         self.line = 0
 
@@ -73,10 +65,18 @@ class Reader:
         for word, line in self.open_blocks:
             need = "an else and an end" if word == "if" else "an end"
             self.mistakes.append(Mistake(line, f"this {word} has no end", f"write {need} below its lines"))
+        if not self.mistakes:
+            self.measure()
         if self.mistakes:
             raise Mistakes(self.name, sorted(self.mistakes))
         self.recipe.warnings = self.recipe.noticed()
         return self.recipe
+
+    def measure(self) -> None:
+        """Notes a mistake where the recipe with each call written out is too long or too deep."""
+        excess = measured(self.recipe.statements, self.recipe.procedures)
+        if excess:
+            self.mistakes.append(Mistake(self.recipe.lines[excess.label], excess.wrong, excess.right))
 
     def note(self, wrong: str, right: str) -> None:
         """Notes a mistake in the line that is being read."""
@@ -103,22 +103,37 @@ class Reader:
         if declaration and declaration[2] not in TYPES:
             self.known.setdefault(declaration[2], Known(hints.WHAT[declaration[1]], 0, None))
         first = hints.first_word(words)
-        if first in ("if", "while"):
+        if hints.opens_procedure(words):
+            self.recover_procedure(words)
+        elif first in ("if", "while"):
             self.open_blocks.append((first, self.line))
         elif first in hints.ELSES and self.open_blocks:
             self.open_blocks[-1] = ("else", self.open_blocks[-1][1])
         elif first in hints.ENDS and self.open_blocks:
-            self.open_blocks.pop()
+            self.close()
+
+    def recover_procedure(self, words: str) -> None:
+        """Opens a procedure whose opening is wrong, and declares what it seems to declare."""
+        self.open_blocks.append(("proc", self.line))
+        name = re.match(rf"[a-z]+\s+({NAME})", words)
+        for own in re.findall(rf"({NAME})\s+(?:{'|'.join(TYPES)})\b", words):
+            self.known.setdefault(own, Known("variable", 0, None))
+        if name:
+            self.known.setdefault(name[1], Known("procedure", 0, None))
+        self.inside = self.inside or Scope(name[1] if name else "", self.line, False)
+
+    def close(self) -> Tuple[str, int]:
+        """Leaves the innermost block, which is given."""
+        word, line = self.open_blocks.pop()
+        if word == "proc" and not any(word == "proc" for word, _ in self.open_blocks):
+            self.inside = None
+        return word, line
 
     # -- names
 
     def declare(self, what: str, name: str, word: str, cells: int = 0) -> None:
         """Declares a name; a wrong type leaves it declared without one."""
-        if name in hints.KEYWORDS:
-            raise Wrong(f"'{name}' is a word of the language", "choose another name")
-        if name in self.known:
-            line = self.recipe.declared.get(name)
-            raise Wrong(f"'{name}' is declared already" + (f" in line {line}" if line else ""), "a name means one thing")
+        self.claim(name)
         table = self.recipe.names[what]
         if word not in TYPES:
             self.known[word if name in TYPES else name] = Known(what, 0, None)
@@ -128,6 +143,14 @@ class Reader:
         table.append(Named(name, TYPES.index(word), cells))
         if len(table) == MOST[what] + 1:
             raise Wrong(f"this is {what} {len(table)}", f"a recipe has at most {MOST[what]}")
+
+    def claim(self, name: str) -> None:
+        """Wrong where a name cannot be declared."""
+        if name in hints.KEYWORDS:
+            raise Wrong(f"'{name}' is a word of the language", "choose another name")
+        if name in self.known:
+            line = self.recipe.declared.get(name)
+            raise Wrong(f"'{name}' is declared already" + (f" in line {line}" if line else ""), "a name means one thing")
 
     def look_up(self, what: str, name: str) -> Known:
         """What a name stands for, if it is what is wanted."""
@@ -145,8 +168,16 @@ class Reader:
         return found
 
     def variable(self, name: str) -> Known:
-        """A variable by its name."""
-        return self.look_up("variable", name)
+        """A variable by its name, where it may be used: own variables in their procedure, and no others there."""
+        found = self.look_up("variable", name)
+        owner = self.owner.get(name)
+        if self.inside and self.inside.right and found.code is not None and owner != self.inside.name:
+            right = f"name it in line {self.inside.line} to have it, as a parameter or before `->`"
+            raise Wrong(f"'{name}' is no own variable of {self.inside.name}", right)
+        if owner and not self.inside:
+            right = "declare another for the lines outside, and hand values over by calls"
+            raise Wrong(f"'{name}' is an own variable of {owner}", right)
+        return found
 
     def index(self, name: str) -> int:
         """The number of a variable that may be an index."""
@@ -166,6 +197,8 @@ class Reader:
 
     def put(self, kind: int, a: int = 0, b: int = 0, c: int = 0, immediate: int = 0) -> None:
         """Adds a statement."""
+        if not self.inside:
+            self.first_outside = self.first_outside or self.line
         self.recipe.statements.append(Statement(kind, a, b, c, immediate))
         self.recipe.lines.append(self.line)
         if len(self.recipe.statements) == MOST_STATEMENTS + 1:
@@ -176,6 +209,10 @@ class Reader:
 
     def var(self, name: str, word: str) -> None:
         self.declare("variable", name, word)
+        if self.inside:
+            self.known[name] = Known("variable", 0, None)
+            right = f"its own variables are declared in line {self.inside.line}: write `{name} {word}` before `->`"
+            raise Wrong(f"'{name}' is declared inside {self.inside.name or 'a procedure'}", right)
 
     def tray(self, name: str, word: str, length: str) -> None:
         cells = int(length) if len(length) <= MOST_DIGITS else MOST_CELLS + 1
@@ -231,8 +268,9 @@ class Reader:
     def enter(self, word: str, a: str) -> None:
         self.open_blocks.append((word, self.line))
         self.put({"if": Kind.IF, "while": Kind.WHILE}[word], self.variable(a).number)
-        if len(self.open_blocks) > MOST_DEPTH:
-            raise Wrong(f"this block is {len(self.open_blocks)} deep", f"blocks nest at most {MOST_DEPTH} deep")
+        depth = sum(word != "proc" for word, _ in self.open_blocks)
+        if depth > MOST_DEPTH:
+            raise Wrong(f"this block is {depth} deep", f"blocks nest at most {MOST_DEPTH} deep")
 
     def turn(self) -> None:
         if not self.open_blocks or self.open_blocks[-1][0] != "if":
@@ -242,9 +280,9 @@ class Reader:
 
     def leave(self) -> None:
         if not self.open_blocks:
-            raise Wrong("this end closes nothing", "every end closes an if or a while above it")
-        word, line = self.open_blocks.pop()
+            raise Wrong("this end closes nothing", "every end closes an if, a while or a proc above it")
         self.put(Kind.END)
+        word, line = self.close()
         if word == "if":
             raise Wrong(f"the if of line {line} has no else", "write `else` above this end, with nothing below it if so meant")
 
@@ -265,6 +303,8 @@ FORMS: List[Tuple["re.Pattern[str]", Act]] = [
         (rf"({NAME})\s*\[\s*({NAME})\s*\]\s*=\s*({NAME})", Reader.store),
         (rf"site\s+({NAME})", Reader.site),
         (rf"(if|while)\s+({NAME})", Reader.enter),
+        (rf"proc\s+({NAME})\s*\(([^()]*)\)\s*([^()]*?)\s*->\s*([^(),]+)", open_procedure),
+        (rf"({NAME})\s*=\s*call\s+({NAME})\s*\(([^()]*)\)", call),
         (r"else", Reader.turn),
         (r"end", Reader.leave),
     )

@@ -51,7 +51,7 @@ class Mistakes(Trouble):
 
 
 class Refused(Exception):
-    """Refusal 1 to 15 and the place in the file, where it is known."""
+    """Refusal 1 to 16 and the place in the file, where it is known."""
 
     def __init__(self, number: int, place: str = "") -> None:
         super().__init__(f"refused {number}" + (f": {place}" if place else ""))

@@ -1,8 +1,9 @@
 """Why a recipe is refused with 9, 10 or 11: the site, and a smallest set of statements without which it is accepted.
 
 The gate itself is asked about the recipe with statements left out. Only statements that can reach the site
-matter: those that set a variable or a tray which the site's value may come from. Sets are tried by size, smallest
-first; where that takes too long, a set is given from which no statement can be put back.
+matter: those that set a variable or a tray which the site's value may come from. A statement of a procedure counts
+once, however often it is called. Sets are tried by size, smallest first; where that takes too long, a set is given
+from which no statement can be put back.
 """
 
 from __future__ import annotations
@@ -10,11 +11,11 @@ from __future__ import annotations
 import time
 from dataclasses import dataclass
 from itertools import combinations
-from typing import Dict, Iterable, List, Optional, Sequence, Set, Tuple
+from typing import Dict, Iterable, List, Sequence, Set, Tuple
 
 from .library import Library
 from .recipe import Recipe
-from .statements import OPERANDS, Kind, Statement
+from .statements import OPERANDS, Kind, Procedure, Statement, arguments
 
 SEARCH_SECONDS = 3.0
 Place = Tuple[str, int]
@@ -80,9 +81,9 @@ class Question:
 
 def _cause(question: Question, site: int, number: int, together: bool) -> Cause:
     """The cause for a site: the smallest set of the statements that matter."""
-    statements = question.recipe.statements
+    statements, procedures = question.recipe.statements, question.recipe.procedures
     sites = [label for label, s in enumerate(statements) if s.kind == Kind.SITE and label not in question.dropped]
-    candidates = reaching(statements, sites)
+    candidates = reaching(statements, procedures, sites)
     if together:
         candidates = candidates + [label for label in sites if label != site]
     found, smallest = _smallest(question, candidates)
@@ -119,39 +120,44 @@ def _irreducible(question: Question, candidates: Sequence[int]) -> List[int]:
 # ---- which statements matter
 
 
-def reaching(statements: Sequence[Statement], sites: Sequence[int]) -> List[int]:
+def reaching(statements: Sequence[Statement], procedures: Sequence[Procedure], sites: Sequence[int]) -> List[int]:
     """The statements that set what the sites' values may come from; those that feed themselves come first."""
+    sets = [_sets(statement, procedures) for statement in statements]
     comes_from: Dict[Place, Set[Place]] = {}
-    for statement in statements:
-        target = _target(statement)
-        if target:
-            comes_from.setdefault(target, set()).update(_sources(statement))
+    for set_by in sets:
+        for target, sources in set_by.items():
+            comes_from.setdefault(target, set()).update(sources)
     wanted = _closure({("variable", statements[site].a) for site in sites}, comes_from)
-    labels = [label for label, statement in enumerate(statements) if _target(statement) in wanted]
+    labels = [label for label, set_by in enumerate(sets) if wanted.intersection(set_by)]
     turning = {place for place in wanted if place in _closure(comes_from.get(place, set()), comes_from)}
-    return sorted(labels, key=lambda label: (not _feeds(statements[label], turning), label))
+    return sorted(labels, key=lambda label: (not _feeds(sets[label], turning), label))
 
 
-def _feeds(statement: Statement, turning: Set[Place]) -> bool:
-    """Whether the statement is part of a way from a value back to itself."""
-    return _target(statement) in turning and bool(turning.intersection(_sources(statement)))
+def _feeds(set_by: Dict[Place, Set[Place]], turning: Set[Place]) -> bool:
+    """Whether a statement is part of a way from a value back to itself."""
+    return any(target in turning and bool(turning.intersection(sources)) for target, sources in set_by.items())
 
 
-def _target(statement: Statement) -> Optional[Place]:
-    """The variable or tray that the statement sets."""
-    if statement.kind <= Kind.LOAD:
-        return "variable", statement.a
-    return ("tray", statement.a) if statement.kind == Kind.STORE else None
+def _sets(statement: Statement, procedures: Sequence[Procedure]) -> Dict[Place, Set[Place]]:
+    """What a statement sets, and what each value comes from; an index passes nothing on.
 
-
-def _sources(statement: Statement) -> Set[Place]:
-    """What the value that it sets comes from; an index passes nothing on."""
+    A call sets the own variables of its procedure, and its target to the result.
+    """
     if statement.kind == Kind.STORE:
-        return {("variable", statement.c)}
+        return {("tray", statement.a): {("variable", statement.c)}}
     if statement.kind == Kind.LOAD:
-        return {("tray", statement.b)}
+        return {("variable", statement.a): {("tray", statement.b)}}
+    if statement.kind == Kind.CALL:
+        procedure = procedures[statement.b]
+        found: Dict[Place, Set[Place]] = {("variable", number): set() for number in procedure.own}
+        for parameter, argument in zip(procedure.own, arguments(statement, procedures)):
+            found["variable", parameter] = {("variable", argument)}
+        found["variable", statement.a] = {("variable", procedure.own[-1])}
+        return found
+    if statement.kind > Kind.LOAD:
+        return {}
     named = zip(OPERANDS[statement.kind][1:], statement[2:4])
-    return {("variable", number) for what, number in named if what == "variable"}
+    return {("variable", statement.a): {("variable", number) for what, number in named if what == "variable"}}
 
 
 def _closure(start: Set[Place], comes_from: Dict[Place, Set[Place]]) -> Set[Place]:

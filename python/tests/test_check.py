@@ -76,7 +76,7 @@ class Statuses(unittest.TestCase):
     def test_3_usage(self):
         for words in ((), ("check",), ("check", BLOCK), ("frob",), ("check", "--frob", BLOCK, PASSES), ("recipe",),
                       ("choices", "f", "-1"), ("choices", "f", "٣"), ("run", BLOCK, PASSES, "l", "--take", "70000"),
-                      ("--explain", "16"), ("--explain", "x"), ("run", BLOCK, PASSES, "l", "--take", "1", "--choices", "c")):
+                      ("--explain", "17"), ("--explain", "x"), ("run", BLOCK, PASSES, "l", "--take", "1", "--choices", "c")):
             status, out, err = gate(*words)
             self.assertEqual((status, out, err.count("\n")), (3, "", 1), words)
 

@@ -41,7 +41,7 @@ class Recipes(unittest.TestCase):
         names = [name for name in os.listdir(os.path.join(ROOT, "samples")) if name.endswith(".txt")]
         bare = re.sub(r"[ \t]+", " ", "\n".join(load(ROOT, "samples", name).decode() for name in names))
         parts = [block for block in blocks() if " = " in block and not block.startswith("    $ ")]
-        self.assertEqual(len(parts), 3)
+        self.assertEqual(len(parts), 5)
         for block in parts:
             for line in block.splitlines():
                 self.assertIn(re.sub(r"[ \t]+", " ", line.strip()), bare)

@@ -29,11 +29,11 @@ class Files(unittest.TestCase):
             shown += 1
         self.assertGreater(shown, 100)
 
-    def test_refusals_2_to_8_are_the_stored_ones_and_have_a_place(self):
+    def test_refusals_2_to_8_and_16_are_the_stored_ones_and_have_a_place(self):
         seen = set()
         for case in cases():
             number = refusal(case.derive)
-            if 2 <= number <= 8:
+            if 2 <= number <= 8 or number == 16:
                 with self.assertRaises(Refused, msg=case) as raised:
                     Recipe.from_bytes(case.content("recipe"))
                 self.assertEqual(raised.exception.number, number, case)
@@ -41,7 +41,7 @@ class Files(unittest.TestCase):
                 seen.add(number)
             else:
                 Recipe.from_bytes(case.content("recipe"))
-        self.assertEqual(seen, set(range(2, 9)))
+        self.assertEqual(seen, {*range(2, 9), 16})
 
     def test_the_entry_is_named(self):
         recipe = Recipe.from_text("field f u8\nvar a u8\nvar b u16\ntray t u8 2\na = 5\nsite a\n")

@@ -105,7 +105,7 @@ class Causes(unittest.TestCase):
 
     def test_only_statements_that_reach_the_site_are_tried(self):
         recipe = Recipe.from_text("field f u8\nvar a u8\nvar b u8\na = read f\nb = a\nsite a\n")
-        self.assertEqual(reaching(recipe.statements, [2]), [0])
+        self.assertEqual(reaching(recipe.statements, [], [2]), [0])
 
     def test_a_recipes_file_is_told_by_labels(self):
         recipe = Recipe.from_bytes(Recipe.read(os.path.join(SAMPLES, "loop.txt")).to_bytes())

@@ -11,7 +11,7 @@ use borrow.Author.Tests.{le-leb, lt-leb}
 use Rattle.model.specs.Condition.{encode, conditionBytes, analysis}
 use Rattle.model.specs.Conjunct.{Conjuncts}
 use Rattle.model.specs.Lists.{All}
-use Rattle.model.specs.Program.{Program, Tables, layoutOf, readProgram}
+use Rattle.model.specs.Program.{Program, Tables, Outline, layoutOf, readOutline, readProgram}
 use Rattle.model.specs.Refusals.{Out, ok, refused, _>>=_, mapped, wrongBlocks}
 use Rattle.model.proofs.basics.Results.{mapped-refused}
 use Rattle.model.specs.Demands.{AnalysisRefusal, Demand1}
@@ -19,14 +19,14 @@ use Rattle.model.specs.Walk.{derived}
 use Rattle.model.specs.Formed.{Formed}
 use Rattle.model.proofs.Demand1.{lent-answer, demand1}
 use Rattle.model.proofs.walks.Derives.{derived-formed}
+use Rattle.model.proofs.files.Checked.{program-checked}
 use Rattle.model.proofs.files.Lent.{scratch-as-it-was, scratch-worked}
-use Rattle.model.proofs.RefusalNumbers.{read-refusals-analysis}
+use Rattle.model.proofs.RefusalNumbers.{listed-refusals-analysis}
 use Rattle.bytes_le.specs.Overlay.{overlay}
 use Rattle.bytes_le.proofs.Overlays.{overlay-read}
 use Rattle.program.specs.Reading.{programAnswer, tablesOf}
 use Rattle.program.specs.declared.ProgramRead.{ProgramRead}
 use Rattle.program.specs.declared.ProgramRead.the-variants.{Refused as NotRead}
-use Rattle.program.proofs.Known.{tables-read}
 use Rattle.analysis.specs.Deriving.{analysisWords, derivation, DerivationAnswers, Filed, FileGiven, Derives}
 use Rattle.analysis.specs.declared.Derived.{Derived}
 use Rattle.analysis.specs.declared.Derived.the-variants.{Refused}
@@ -40,6 +40,9 @@ read-back before after file h e =
 -- ---- a program that is read
 
 module _ (s : List ℕ) (P : Program) (e : readProgram s ≡ ok P) where
+  same-tables : P .tables ≡ tablesOf s
+  same-tables = program-checked s P e .outlined .tables
+
   then-derived : analysis s ≡ (derived (P .code) >>= λ S. ok (encode (P .tables .fields) S))
   unfolding analysis
   then-derived = ap (λ o. o >>= λ Q. derived (Q .code) >>= λ S. ok (encode (Q .tables .fields) S)) e
@@ -49,11 +52,11 @@ module _ (s : List ℕ) (P : Program) (e : readProgram s ≡ ok P) where
 
   module _ (S : Conjuncts) (d : derived (P .code) ≡ ok S) where
     pub set-formed : All (Formed (tablesOf s .fields)) S
-    set-formed = subst (λ (T : Tables). All (Formed (T .fields)) S) (tables-read s P e) (derived-formed s P S e d)
+    set-formed = subst (λ (T : Tables). All (Formed (T .fields)) S) same-tables (derived-formed s P S e d)
 
     is-file : analysis s ≡ ok (encode (tablesOf s .fields) S)
     is-file =
-        then-derived ∙ ap (_>>= λ R. ok (encode (P .tables .fields) R)) d ∙ ap (λ (T : Tables). ok (encode (T .fields) S)) (tables-read s P e)
+        then-derived ∙ ap (_>>= λ R. ok (encode (P .tables .fields) R)) d ∙ ap (λ (T : Tables). ok (encode (T .fields) S)) same-tables
 
     pub derives-file : (r : Derived) (before after : List ℕ) → conditionBytes ≤ length before → Filed (encode (tablesOf s .fields) S) r before after
         → FileGiven (analysis s) r before after
@@ -66,12 +69,17 @@ module _ (s : List ℕ) (P : Program) (e : readProgram s ≡ ok P) where
 
 -- ---- a program that is not read
 
-unread-refusal : (s : List ℕ) (r : ProgramRead) (k : ℕ) → programAnswer r ≡ mapped (λ P. layoutOf s) (readProgram s) → r ≡ NotRead k
-    → analysis s ≡ refused k
+-- its rows are refused
+pub rows-refusal : (s : List ℕ) (k : ℕ) (out : List ℕ) → readProgram s ≡ refused k → FileGiven (analysis s) (Refused k) out out
 unfolding analysis
+rows-refusal s k out e = (rw e, refl)
+
+unread-refusal : (s : List ℕ) (r : ProgramRead) (k : ℕ) → programAnswer r ≡ mapped (λ O. layoutOf s) (readOutline s) → r ≡ NotRead k
+    → analysis s ≡ refused k
+unfolding analysis readProgram
 unread-refusal s r k h e =
-    let n = mapped-refused (λ P. layoutOf s) (readProgram s) k (sym (ap programAnswer e) ∙ h) in
-    ap (λ o. o >>= λ Q. derived (Q .code) >>= λ S. ok (encode (Q .tables .fields) S)) n
+    let n = mapped-refused (λ (O : Outline). layoutOf s) (readOutline s) k (sym (ap programAnswer e) ∙ h) in
+    rw n
 
 -- ---- what is lent
 
@@ -86,7 +94,7 @@ module _ (output scratch : ℕ) (s : List ℕ) where
       record { answer = e; output = refl; scratch = scratch-as-it-was analysisWords wrongBlocks (derivation output scratch s) words }
 
   pub unread-refused : conditionBytes ≤ output → analysisWords ≤ scratch → (r : ProgramRead) (k : ℕ)
-      → programAnswer r ≡ mapped (λ P. layoutOf s) (readProgram s) → r ≡ NotRead k → derivation output scratch s ≡ refused k
+      → programAnswer r ≡ mapped (λ O. layoutOf s) (readOutline s) → r ≡ NotRead k → derivation output scratch s ≡ refused k
   unread-refused m h r k e d = sym (enough m h) ∙ unread-refusal s r k e d
 
   module _ (out words : List ℕ) where
@@ -99,16 +107,16 @@ module _ (output scratch : ℕ) (s : List ℕ) where
     scratch-short k h = refused-idle 1 out words (rw (le-leb conditionBytes output k, lt-leb analysisWords scratch h))
 
     -- the work was done on the documented words
-    pub derived-read : conditionBytes ≤ output → analysisWords ≤ scratch → scratch ≡ length words → (P : Program) → readProgram s ≡ ok P
+    pub derived-read : conditionBytes ≤ output → analysisWords ≤ scratch → scratch ≡ length words → (O : Outline) → readOutline s ≡ ok O
         → (r : Derived) (after ys : List ℕ) → FileGiven (analysis s) r out after → length ys ≡ length (take analysisWords words)
         → Derives (derivation output scratch s) r out after words (ys ++ drop analysisWords words)
-    derived-read m h l P e r after ys g w =
+    derived-read m h l O e r after ys g w =
         let same = enough m h in
         record {
           answer = sym same ∙ g .0;
           output = g .1;
           scratch = scratch-worked analysisWords wrongBlocks (derivation output scratch s)
-              (λ n d. let q = read-refusals-analysis s P e n (same ∙ d) in omega arith) ys words w (omega arith);
+              (λ n d. listed-refusals-analysis s O e n (same ∙ d)) ys words w (omega arith);
         }
 
 -- ---- demand 1

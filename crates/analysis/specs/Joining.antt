@@ -20,6 +20,10 @@ use Rattle.walk.specs.Piece.{Piece}
 use Rattle.enclosing.specs.Enclosing.{EnclosedIn, Enclosed, walkedOut}
 use Rattle.analysis.specs.Deriving.{unionAt, analysisWords}
 
+-- how many variables have a hint of their last site
+abbrev pub hints : ℕ
+hints = 64
+
 -- the union so far R, with the set S of one site at the program's start
 abbrev pub joinedTo : Conjuncts → Conjuncts → Out Conjuncts
 joinedTo R S = start S >>= λ Z. limits (unionOf R Z)

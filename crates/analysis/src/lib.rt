@@ -8,12 +8,12 @@ ghost use Rattle.model.specs.Code.{Code};
 ghost use Rattle.model.specs.Condition.{encode, analysis};
 ghost use Rattle.model.specs.Nesting.{Nested};
 ghost use Rattle.model.specs.Refusals.{ok};
-ghost use Rattle.model.specs.Sizes.{mostNested, mostStatements};
+ghost use Rattle.model.specs.Sizes.{mostNested, mostRows};
 ghost use Rattle.model.specs.TidySets.{Tidy};
 ghost use Rattle.model.specs.Walk.{start, derived};
 ghost use Rattle.program.specs.Reading.{tablesOf};
-ghost use Rattle.code_table.specs.Statements.{variableNumbers};
 ghost use Rattle.code_table.specs.Table.{tableWords, tableOf, stmtIn};
+ghost use Rattle.inliner.specs.Loading.{RowsOf};
 ghost use Rattle.conjunct.specs.Word.{nodeOf};
 ghost use Rattle.sets.specs.Region.{setOf, Within, regionWords};
 ghost use Rattle.rules.specs.Adding.{Buffers};
@@ -22,9 +22,10 @@ ghost use Rattle.walk.specs.Piece.{Lies};
 ghost use Rattle.enclosing.specs.Enclosing.{Moved};
 ghost use Rattle.writer.specs.Writing.{Writable};
 ghost use Rattle.analysis.specs.Deriving.{unionAt, derivation, Derivable, Filed, FileGiven, Derives};
-ghost use Rattle.analysis.specs.Joining.{joinedTo, Sited, Keeps, KeptFrom, Repeats, PassedLabel, EmptyRoom, SiteIn, LabelIn, ProgramIn};
+ghost use Rattle.analysis.specs.Joining.{hints, joinedTo, Sited, Keeps, KeptFrom, Repeats, PassedLabel, EmptyRoom, SiteIn, LabelIn, ProgramIn};
 use code_table::Decoded;
 use conjunct::MOST_NODES;
+use inliner::Loaded;
 use program::Layout;
 use program::ProgramRead;
 use rules::Answer;
@@ -35,8 +36,8 @@ const UNION: usize = code_table::WORDS;
 // Where a site's set stands: the region after it.
 const SITE: usize = UNION + sets::REGION;
 
-// The variables of a program at the most.
-const VARIABLES: usize = 64;
+// How many variables have a hint of their last site; the others share these.
+const HINTS: usize = 64;
 
 // ---- one site
 
@@ -121,7 +122,7 @@ fn site(s: &mut [u64], i: usize, x: usize, ty: u8) -> Answer
 
 // Whether the statement with the label l is plain and does not write the variable x.
 fn keeps(s: &[u64], l: usize, x: usize) -> bool
-    requires { ⌜ (tableWords ≤ length (now s)) × (l < mostStatements) ⌝ }
+    requires { ⌜ (tableWords ≤ length (now s)) × (l < mostRows) ⌝ }
     ensures { λ r. ⌜ (r ≡ true → Keeps x (stmtIn (tableOf 0 (now (s .entry))) l)) ⌝ }
 {
     let d = code_table::fetch(s, 0, l);
@@ -140,7 +141,7 @@ fn keeps(s: &[u64], l: usize, x: usize) -> bool
 
 // Whether the statements on the labels from p up to q are plain and do not write the variable x.
 fn keep_all(s: &[u64], p: usize, q: usize, x: usize) -> bool
-    requires { ⌜ (tableWords ≤ length (now s)) × (q ≤ mostStatements) ⌝ }
+    requires { ⌜ (tableWords ≤ length (now s)) × (q ≤ mostRows) ⌝ }
     ensures { λ r. ⌜ (r ≡ true → KeptFrom (tableOf 0 (now (s .entry))) p q x) ⌝ }
 {
     let mut l = q;
@@ -156,7 +157,7 @@ fn keep_all(s: &[u64], p: usize, q: usize, x: usize) -> bool
 // Whether the site d with the label i repeats the statement with the label j: that one is a site on
 // the same variable, and nothing between them leaves the block or writes it.
 fn repeats(s: &[u64], j: usize, i: usize, d: Decoded) -> bool
-    requires { ⌜ (tableWords ≤ length (now s)) × (i ≤ mostStatements) ⌝ }
+    requires { ⌜ (tableWords ≤ length (now s)) × (i ≤ mostRows) ⌝ }
     ensures { λ r. ⌜ (r ≡ true → Repeats (tableOf 0 (now (s .entry))) j i (d .a) (d .ty)) ⌝ }
 {
     if i <= j {
@@ -176,10 +177,10 @@ fn repeats(s: &[u64], j: usize, i: usize, d: Decoded) -> bool
     keep_all(s, j + 1, i, d.a)
 }
 
-// The statement with the label i, if it is a site. One that repeats an earlier one adds nothing; for
-// each variable `last` has the label where to look for that one.
+// The statement with the label i, if it is a site. One that repeats an earlier one adds nothing; `last` has
+// the label where to look for that one, by the variable's number.
 fn pass(s: &mut [u64], i: usize, last: &mut [usize]) -> Answer
-    requires { ⌜ LabelIn (now s) i × (variableNumbers ≤ length (now last)) ⌝ }
+    requires { ⌜ LabelIn (now s) i × (hints ≤ length (now last)) ⌝ }
     ensures { λ a. ⌜
         Moved ((n : ℕ) → i < n → PassedLabel (tableOf 0 (now (s .entry))) n i (setOf (now (s .entry)) unionAt) a (setOf (now (s .exit)) unionAt))
         a unionAt (now (s .entry)) (now (s .exit))
@@ -191,8 +192,8 @@ fn pass(s: &mut [u64], i: usize, last: &mut [usize]) -> Answer
         return Answer::Done;
     }
     let x = d.a;
-    let j = last[x];
-    last[x] = i;
+    let j = last[x % HINTS];
+    last[x % HINTS] = i;
     if repeats(s, j, i, d) {
         return Answer::Done;
     }
@@ -202,7 +203,7 @@ fn pass(s: &mut [u64], i: usize, last: &mut [usize]) -> Answer
 // The set that the analysis derives from the n statements of the table, in the first region. `last` is
 // room to work in, whatever it has.
 fn join_sites(s: &mut [u64], n: usize, last: &mut [usize]) -> Answer
-    requires { ⌜ ProgramIn (now s) n × (variableNumbers ≤ length (now last)) ⌝ }
+    requires { ⌜ ProgramIn (now s) n × (hints ≤ length (now last)) ⌝ }
     ensures { λ a. ⌜ ((c : Code) → Lies (now (s .entry)) c 0 n → Nested mostNested c → derived c ≡ answered a (setOf (now (s .exit)) unionAt)) ⌝ }
 {
     sets::clear(s, UNION);
@@ -224,7 +225,7 @@ fn sites(s: &mut [u64], n: usize) -> Answer
     requires { ⌜ ProgramIn (now s) n ⌝ }
     ensures { λ a. ⌜ ((c : Code) → Lies (now (s .entry)) c 0 n → Nested mostNested c → derived c ≡ answered a (setOf (now (s .exit)) unionAt)) ⌝ }
 {
-    let mut last: [usize; VARIABLES] = [0; VARIABLES];
+    let mut last: [usize; HINTS] = [0; HINTS];
     join_sites(s, n, &mut last)
 }
 
@@ -255,16 +256,33 @@ fn write_file(program: &[u8], layout: Layout, s: &[u64], condition: &mut [u8]) -
     Derived::Written(n)
 }
 
-// Of a program that is read.
+// Of a program whose n rows stand in their table.
+fn derive_rows(
+    program: &[u8],
+    layout: Layout,
+    n: usize,
+    condition: &mut [u8],
+    scratch: &mut [u64],
+) -> Derived
+    requires { ⌜ Derivable (now program) layout (now condition) (now scratch) × RowsOf (now program) n (tableOf 0 (now scratch)) ⌝ }
+    ensures { λ r. ⌜ FileGiven (analysis (now (program .entry))) r (now (condition .entry)) (now (condition .exit)) ⌝ }
+{
+    let a = sites(scratch, n);
+    match a {
+        Answer::Refused(k) => Derived::Refused(k),
+        Answer::Done => write_file(program, layout, scratch, condition),
+    }
+}
+
+// Of a program that is listed: its rows are written out, and walked.
 fn derive_read(program: &[u8], layout: Layout, condition: &mut [u8], scratch: &mut [u64]) -> Derived
     requires { ⌜ Derivable (now program) layout (now condition) (now scratch) ⌝ }
     ensures { λ r. ⌜ FileGiven (analysis (now (program .entry))) r (now (condition .entry)) (now (condition .exit)) ⌝ }
 {
-    code_table::load(program, layout, scratch, 0);
-    let a = sites(scratch, layout.statements);
-    match a {
-        Answer::Refused(n) => Derived::Refused(n),
-        Answer::Done => write_file(program, layout, scratch, condition),
+    let loaded = inliner::load(program, layout, scratch, 0);
+    match loaded {
+        Loaded::Refused(k) => Derived::Refused(k),
+        Loaded::Rows(n) => derive_rows(program, layout, n, condition, scratch),
     }
 }
 

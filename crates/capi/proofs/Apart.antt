@@ -29,11 +29,13 @@ use Rattle.capi.proofs.Leaving.{word-result}
 -- no number of a refusal is 0
 some-analysis : (n : ℕ) → OrLent AnalysisRefusal n → 1 ≤ n
 some-analysis n (inl h) = omega arith
-some-analysis n (inr h) = omega arith
+some-analysis n (inr (inl h)) = omega arith
+some-analysis n (inr (inr h)) = omega arith
 
 some-run : (n : ℕ) → OrLent RunRefusal n → 1 ≤ n
 some-run n (inl h) = omega arith
-some-run n (inr (inl h)) = omega arith
+some-run n (inr (inl (inl h))) = omega arith
+some-run n (inr (inl (inr h))) = omega arith
 some-run n (inr (inr h)) = omega arith
 
 -- the word 0 is a pass

@@ -8,7 +8,7 @@ use borrow.Author.Tests.{le-leb, lt-leb}
 use lib.Dec.{leb}
 use lib.ListN.{length, take}
 use Rattle.bytes_le.specs.Overlay.{overlay}
-use Rattle.model.specs.Refusals.{Out, ok, refused, mapped, check, lentTooShort, wrongInput}
+use Rattle.model.specs.Refusals.{Out, ok, refused, mapped, check, lentTooShort, wrongBlocks}
 use Rattle.model.specs.Run.{Ran as ModelRan, run}
 use Rattle.model.specs.Guarded.{Guarded as ModelGuarded, held, passed}
 use Rattle.model.specs.Demands.{ResultOrRefusal, OrLent, GuardedRefusal, Exact}
@@ -111,7 +111,7 @@ module _ (words : ℕ) (program input : List ℕ) (limit : ℕ) (choices log : L
         log = ap (λ x. leftBy (λ R. R .log) x log) short;
         steps = ap (λ x. leftBy (λ R. R .steps) x n) short;
         records = ap (λ x. leftBy (λ R. R .records) x k) short;
-        scratch = scratch-as-it-was scratchWords wrongInput o s;
+        scratch = scratch-as-it-was scratchWords wrongBlocks o s;
       }
 
   pub run-enough : analysisWords ≤ words → lent scratchWords ≡ lent analysisWords
@@ -181,5 +181,6 @@ module _ (program input : List ℕ) (limit : ℕ) (choices : List ℕ) where
     where
       some-refusal : (m : ℕ) → OrLent GuardedRefusal m → 1 ≤ m
       some-refusal m (inl h) = omega arith
-      some-refusal m (inr (inl h)) = omega arith
+      some-refusal m (inr (inl (inl h))) = omega arith
+      some-refusal m (inr (inl (inr h))) = omega arith
       some-refusal m (inr (inr h)) = omega arith

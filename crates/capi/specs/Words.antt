@@ -4,7 +4,7 @@ use mathlib.Core.Path.{_≡_}
 use Prim.Native.Nat.{ℕ, _*_, _<_}
 use lib.ListN.{length, take}
 use Rattle.bytes_le.specs.Overlay.{overlay}
-use Rattle.model.specs.Refusals.{Out, ok, refused, mapped, wrongBlocks, wrongInput}
+use Rattle.model.specs.Refusals.{Out, ok, refused, mapped, wrongBlocks}
 use Rattle.model.specs.Run.{Ran}
 use Rattle.model.specs.Guarded.{Guarded, held, passed}
 use Rattle.model.specs.Demands.{Exact}
@@ -44,7 +44,7 @@ pub record GateRun (o : Out Ran) (r : ℕ) (l l′ s s′ : List ℕ) (n n′ k 
   pub log : l′ ≡ leftBy (λ R. R .log) o l
   pub steps : n′ ≡ leftBy (λ R. R .steps) o n
   pub records : k′ ≡ leftBy (λ R. R .records) o k
-  pub scratch : ScratchLeft scratchWords wrongInput o s s′
+  pub scratch : ScratchLeft scratchWords wrongBlocks o s s′
 
 -- gate_guarded: the same behind the filter, and demand 3: where the word is a run's end, the log's records match the exact run
 pub record GateGuarded (program input : List ℕ) (limit : ℕ) (choices : List ℕ) (o : Out Guarded)

@@ -10,7 +10,7 @@ mod stored;
 use files::answers::say;
 
 // How many cases are stored.
-const CASES: usize = 335;
+const CASES: usize = 505;
 
 enum Part {
     Reading,

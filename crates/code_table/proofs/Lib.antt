@@ -2,4 +2,4 @@ pub mod Meanings
 pub mod Forms
 pub mod Standing
 pub mod Packs
-pub mod Loading
+pub mod RowLists

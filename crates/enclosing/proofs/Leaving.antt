@@ -10,7 +10,7 @@ use Rattle.model.specs.Enclosing.{walkOut}
 use Rattle.model.specs.Nesting.{Nested}
 use Rattle.model.specs.Placement.{Laid}
 use Rattle.model.specs.Refusals.{_>>=_}
-use Rattle.model.specs.Sizes.{mostNested, mostStatements}
+use Rattle.model.specs.Sizes.{mostNested, mostRows}
 use Rattle.model.specs.Walk.{walk}
 use Rattle.model.proofs.walks.Rising.{enclosing-end}
 use Rattle.code_table.specs.Table.{tableOf, rowIn, stmtIn, mateIn}
@@ -31,7 +31,7 @@ pub record PieceIn (k : List ℕ) (p q : ℕ) : Type 0 where
   pub nested : Nested mostNested code
 
 module _ (k : List ℕ) (n i : ℕ) where
-  pub label-below : Enclosed k n i → (i < n) × (n ≤ mostStatements)
+  pub label-below : Enclosed k n i → (i < n) × (n ≤ mostRows)
   label-below h = let e = enclosing-end (stmtIn k) (mateIn k) n (h .blocks) in (omega (arith, h .inside), h .known .few)
 
   module _ (r : ℕ) (h : Innermost (stmtIn k) (mateIn k) i (At r)) where

@@ -4,7 +4,7 @@ ghost use mathlib.Core.Path.{_≡_};
 ghost use Prim.Native.Nat.{ℕ, _+_, _≤_, _<_};
 ghost use lib.ListN.{length};
 ghost use Rattle.model.specs.Code.{Code};
-ghost use Rattle.model.specs.Sizes.{mostStatements};
+ghost use Rattle.model.specs.Sizes.{mostRows};
 ghost use Rattle.code_table.specs.Table.{tableWords, tableOf, stmts, mates};
 ghost use Rattle.sets.specs.Region.{setOf};
 ghost use Rattle.rules.specs.Answers.{answered, Below};
@@ -26,7 +26,7 @@ const NESTED: usize = 4;
 
 // The label of the end of a block that begins at a label; 0 where none begins there.
 fn block_end(s: &[u64], at: usize) -> usize
-    requires { ⌜ (tableWords ≤ length (now s)) × (at < mostStatements) ⌝ }
+    requires { ⌜ (tableWords ≤ length (now s)) × (at < mostRows) ⌝ }
     ensures { λ r. ⌜ r ≡ blockEnd (stmts (now (s .entry)) at) (mates (now (s .entry))) at ⌝ }
 {
     let kind = code_table::kind_at(s, 0, at);
@@ -43,7 +43,7 @@ fn block_end(s: &[u64], at: usize) -> usize
 // The innermost block that holds the statement with a label: the last one that begins before it
 // and ends after it.
 fn innermost(s: &[u64], i: usize) -> Block
-    requires { ⌜ (tableWords ≤ length (now s)) × (i ≤ mostStatements) ⌝ }
+    requires { ⌜ (tableWords ≤ length (now s)) × (i ≤ mostRows) ⌝ }
     ensures { λ r. ⌜ Innermost (stmts (now (s .entry))) (mates (now (s .entry))) i r ⌝ }
 {
     let mut at = i;

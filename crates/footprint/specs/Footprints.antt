@@ -8,7 +8,7 @@ use lib.ListN.{length, getD}
 use Rattle.model.specs.Code.{Right, number, copy, calc, change, read, load, Instr, assign, store, site, Stmt, plain, if, else, end, while}
 use Rattle.model.specs.Conjunct.{Conj, Conjuncts}
 use Rattle.model.specs.Lists.{All}
-use Rattle.model.specs.Sizes.{mostArrays, mostStatements}
+use Rattle.model.specs.Sizes.{mostArrays, mostRows}
 use Rattle.model.specs.Touch.{isVar, isLoad, some}
 use Rattle.code_table.specs.Table.{tableWords}
 use Rattle.sets.specs.Region.{regionWords, setOf}
@@ -44,7 +44,7 @@ pub record Extends (m n : Footprint) : Type 0 where
 pub record Labels (s : List ℕ) (p q : ℕ) : Type 0 where
   pub table : tableWords ≤ length s
   pub rising : p ≤ q
-  pub most : q ≤ mostStatements
+  pub most : q ≤ mostRows
 
 -- the words have the region at b, and the flags cover its set
 pub record CoversRegion (m : Footprint) (s : List ℕ) (b : ℕ) : Type 0 where

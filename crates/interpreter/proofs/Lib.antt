@@ -3,7 +3,6 @@ pub mod Statements
 pub mod Settling
 pub mod Logs
 pub mod Choices
-pub mod Operands
 pub mod Steps
 pub mod Starts
 pub mod Readings

@@ -64,7 +64,7 @@ module _ (program condition : List ℕ) (a : Accepted program condition) where
   pub derived-reads-back : readCondition condition ≡ ok (record { types = a .P .tables .fields; conjuncts = a .S })
   derived-reads-back =
       let T = a .P .tables in
-      let c = program-checked program (a .P) (a .reads) in
+      let c = program-checked program (a .P) (a .reads) .outlined in
       ap readCondition (sym (a .writes))
       ∙ encode-reads (T .fields) (a .S) (few-fields T (c .counts)) (all-imp (λ t. ltb-true t 8) (T .fields) (fields-known T (c .types)))
       (derived-tidy (a .P .code) (a .S) (a .derives)) (derived-formed program (a .P) (a .S) (a .reads) (a .derives))

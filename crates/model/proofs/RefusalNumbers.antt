@@ -1,14 +1,19 @@
 -- The numbers with which the analysis, the filter and the run refuse.
-use mathlib.Core.Path.{_≡_}
-use mathlib.Core.Logic.{_⊎_, inl, inr}
+use mathlib.Core.Path.{_≡_, refl}
+use mathlib.Core.Logic.{_⊎_, inl, inr, ⊎-elim}
 use mathlib.Core.List.{List, [], _∷_}
-use Prim.Native.Nat.{ℕ, suc}
+use Prim.Native.Nat.{ℕ, _<_}
 use native.Mathlib.Omega.{arith}
-use lib.Dec.{ltb}
-use Rattle.model.specs.Lists.{All}
-use Rattle.model.specs.Refusals.{ok, refused, _>>=_}
-use Rattle.model.specs.Code.{Instr, Code, done, Stmt, plain, if, else, end, while, Open, top, block, other, openBlocks, taking, opened, closed, treeOf}
-use Rattle.model.specs.Program.{Program, Tables, readProgram}
+use lib.Dec.{leb, ltb}
+use lib.ListN.{length}
+use Rattle.model.specs.Sizes.{mostNested, mostRows}
+use Rattle.model.specs.Lists.{All, every}
+use Rattle.model.specs.Refusals.{ok, refused, _>>=_, instead, wrongSections, wrongBlocks, wrongInput, wrongProcedures}
+use Rattle.model.specs.Code.{Instr, Code, plain, if, else, end, while, treeOf}
+use Rattle.model.specs.Procedures.{Item, own, procedure, call, Block, ifBlock, elseBlock, whileBlock, procedureBlock, nesting, turning, closing, passing, openAfter, allClosed}
+use Rattle.model.specs.Procedures.{Procedure, Stage, beginsNone, partsFrom}
+use Rattle.model.specs.Inlined.{Row, stmtsIn}
+use Rattle.model.specs.Program.{Program, Tables, Outline, inlinedRows, programOf, readOutline, readProgram}
 use Rattle.model.specs.Conjunct.{Conjuncts, unionOf, limits}
 use Rattle.model.specs.Walk.{before, gather, back, sites, start, derived}
 use Rattle.model.specs.Condition.{Condition, encode, readCondition, analysis}
@@ -18,45 +23,81 @@ use Rattle.model.specs.Run.{run}
 use Rattle.model.specs.Demands.{FromTo, AnalysisRefusal, FilterRefusal, RunRefusal}
 use Rattle.model.proofs.walks.Invariant.{sites-keep, join-keeps}
 use Rattle.model.proofs.conjuncts.Limits.{limits-cases}
-use Rattle.model.proofs.basics.Results.{Refuses, refuses-check, refuses-bind, refuses-imp, refuses-by}
+use Rattle.model.proofs.basics.Lists.{all-imp}
+use Rattle.model.proofs.basics.Results.{Refuses, refuses-check, refuses-bind, refuses-instead, refuses-imp, refuses-by}
+use Rattle.model.proofs.procedures.Parted.{parts-by}
 use Rattle.model.proofs.walks.Trees.{each-any}
 
--- ---- the program: 2 to 8
+-- ---- the program: 2 to 8 and 16
 
-module _ (P : ℕ → Type 0) (eight : P 8) where
-  taking-refuses : (l : ℕ) (s : Stmt) (o : Open) → Refuses P (taking l s o)
-  unfolding taking
-  taking-refuses l (plain i) o = tt
-  taking-refuses l (if v) (top c) = eight
-  taking-refuses l (if v) (block c s) = eight
-  taking-refuses l (if v) (other e c s) = tt
-  taking-refuses l else (top c) = eight
-  taking-refuses l else (block c s) = tt
-  taking-refuses l else (other e c s) = eight
-  taking-refuses l end o = refuses-check P (ltb (openBlocks o) 4) 8 (ok (block done o)) eight tt
-  taking-refuses l (while v) (top c) = eight
-  taking-refuses l (while v) (block c s) = tt
-  taking-refuses l (while v) (other e c s) = eight
+-- the numbers of checks 2 to 8 and 16
+abbrev ReadRefusal : ℕ → Type 0
+ReadRefusal n = FromTo wrongSections wrongBlocks n ⊎ (n ≡ wrongProcedures)
 
-  opened-refuses : (l : ℕ) (ss : List Stmt) → Refuses P (opened l ss)
-  unfolding opened
-  opened-refuses l [] = tt
-  opened-refuses l (s ∷ ss) = refuses-bind P (opened (suc l) ss) (taking l s) (opened-refuses (suc l) ss) (taking-refuses l s)
+module _ (P : ℕ → Type 0) (blocks : P wrongBlocks) where
+  turning-refuses : (bs : List Block) → Refuses P (turning bs)
+  turning-refuses [] = blocks
+  turning-refuses (ifBlock ∷ bs) = tt
+  turning-refuses (elseBlock ∷ bs) = blocks
+  turning-refuses (whileBlock ∷ bs) = blocks
+  turning-refuses (procedureBlock ∷ bs) = blocks
 
-  closed-refuses : (o : Open) → Refuses P (closed o)
-  closed-refuses (top c) = tt
-  closed-refuses (block c s) = eight
-  closed-refuses (other e c s) = eight
+  closing-refuses : (bs : List Block) → Refuses P (closing bs)
+  closing-refuses [] = blocks
+  closing-refuses (ifBlock ∷ bs) = blocks
+  closing-refuses (elseBlock ∷ bs) = tt
+  closing-refuses (whileBlock ∷ bs) = tt
+  closing-refuses (procedureBlock ∷ bs) = tt
 
-  treeOf-refuses : (ss : List Stmt) → Refuses P (treeOf ss)
-  unfolding treeOf
-  treeOf-refuses ss = refuses-bind P (opened 0 ss) closed (opened-refuses 0 ss) closed-refuses
+  passing-refuses : (i : Item) (bs : List Block) → Refuses P (passing i bs)
+  unfolding passing
+  passing-refuses (own (plain i)) bs = tt
+  passing-refuses (own (if v)) bs = refuses-check P (ltb (nesting bs) mostNested) wrongBlocks (ok (ifBlock ∷ bs)) blocks tt
+  passing-refuses (own else) bs = turning-refuses bs
+  passing-refuses (own end) bs = closing-refuses bs
+  passing-refuses (own (while v)) bs = refuses-check P (ltb (nesting bs) mostNested) wrongBlocks (ok (whileBlock ∷ bs)) blocks tt
+  passing-refuses (procedure n x k) bs = tt
+  passing-refuses (call t p as′) bs = tt
 
-readProgram-refuses : (s : List ℕ) → Refuses (FromTo 2 8) (readProgram s)
+  openAfter-refuses : (bs : List Block) (is : List Item) → Refuses P (openAfter bs is)
+  unfolding openAfter
+  openAfter-refuses bs [] = tt
+  openAfter-refuses bs (i ∷ is) = refuses-bind P (passing i bs) (λ cs. openAfter cs is) (passing-refuses i bs) (λ cs. openAfter-refuses cs is)
+
+  allClosed-refuses : (bs : List Block) → Refuses P (allClosed bs)
+  allClosed-refuses [] = tt
+  allClosed-refuses (b ∷ bs) = blocks
+
+module _ (P : ℕ → Type 0) (procedures : P wrongProcedures) where
+  parts-refuses : (l : ℕ) (ps : List Procedure) (r : Stage) (is : List Item) → Refuses P (partsFrom l ps r is)
+  parts-refuses = parts-by (λ l ps r is o. Refuses P o) (record {
+    after = λ l ps is. refuses-check P (every beginsNone is) wrongProcedures (ok (record { procedures = ps; label = l; main = is })) procedures tt;
+    begun = λ l ps n x k is o h. h;
+    more = λ l ps q d e i is o n h. h;
+    ended = λ l ps q is o h. h;
+    within = λ l ps q d n x k is. procedures;
+    unended = λ l ps q d. procedures;
+  })
+
+  program-refuses : (T : Tables) (rows : List Row) → Refuses P (programOf T rows)
+  unfolding programOf
+  program-refuses T rows =
+      refuses-check P (leb (length rows) mostRows) wrongProcedures _ procedures
+      (refuses-bind P (instead wrongProcedures (treeOf (stmtsIn rows))) _ (refuses-instead P wrongProcedures (treeOf (stmtsIn rows)) procedures) (λ c. tt))
+
+readOutline-refuses : (s : List ℕ) → Refuses ReadRefusal (readOutline s)
+unfolding readOutline
+readOutline-refuses s =
+    let ns : List ℕ = 2 ∷ 3 ∷ 4 ∷ 5 ∷ 6 ∷ 7 ∷ 8 ∷ [] in
+    let low : All (FromTo 2 8) (2 ∷ 3 ∷ 4 ∷ 5 ∷ 6 ∷ 7 ∷ 8 ∷ []) = omega arith in
+    let causes : All ReadRefusal (2 ∷ 3 ∷ 4 ∷ 5 ∷ 6 ∷ 7 ∷ 8 ∷ []) = all-imp {P = FromTo 2 8} {Q = ReadRefusal} (λ n. inl) ns low in
+    let sixteen : ReadRefusal 16 = inr refl in
+    search (refuses-check, refuses-bind, openAfter-refuses, allClosed-refuses, parts-refuses) depth 12
+
+readProgram-refuses : (s : List ℕ) → Refuses ReadRefusal (readProgram s)
 unfolding readProgram
 readProgram-refuses s =
-    let causes : All (FromTo 2 8) (2 ∷ 3 ∷ 4 ∷ 5 ∷ 6 ∷ 7 ∷ 8 ∷ []) = omega arith in
-    search (refuses-check, refuses-bind, treeOf-refuses) depth 9
+    refuses-bind ReadRefusal (readOutline s) _ (readOutline-refuses s) (λ O. program-refuses ReadRefusal (inr refl) (O .tables) (inlinedRows (O .tables) (O .parts)))
 
 -- ---- the derivation: 9 to 11
 
@@ -88,9 +129,10 @@ module _ (P : ℕ → Type 0) (nine : P 9) (ten : P 10) (eleven : P 11) where
 pub refusals-analysis : (p : List ℕ) (n : ℕ) → analysis p ≡ refused n → AnalysisRefusal n
 unfolding analysis
 refusals-analysis p n e =
-    let program = refuses-imp (FromTo 2 8) AnalysisRefusal (λ n h. omega arith) (readProgram p) (readProgram-refuses p) in
-    let derivation = derived-refuses AnalysisRefusal (omega arith) (omega arith) (omega arith) in
-    refuses-by AnalysisRefusal (analysis p) n e (search (refuses-bind, program, derivation))
+    let program = refuses-imp ReadRefusal AnalysisRefusal (λ n. ⊎-elim (λ h. inl (omega arith)) inr) (readProgram p) (readProgram-refuses p) in
+    let derivation = derived-refuses AnalysisRefusal (inl (omega arith)) (inl (omega arith)) (inl (omega arith)) in
+    refuses-by AnalysisRefusal (analysis p) n e
+    (refuses-bind AnalysisRefusal (readProgram p) _ program (λ P. refuses-bind AnalysisRefusal (derived (P .code)) _ (derivation (P .code)) (λ S. tt)))
 
 pub refusals-filter : (c i : List ℕ) (n : ℕ) → filterInput c i ≡ refused n → FilterRefusal n
 unfolding filterInput readCondition readInput
@@ -101,8 +143,31 @@ refusals-filter c i n e =
 pub refusals-run : (p i : List ℕ) (limit : ℕ) (ch log : List ℕ) (n : ℕ) → run p i limit ch log ≡ refused n → RunRefusal n
 unfolding run readInput
 refusals-run p i limit ch log n e =
-    let program = refuses-imp (FromTo 2 8) RunRefusal (λ n. inl) (readProgram p) (readProgram-refuses p) in
-    refuses-by RunRefusal (run p i limit ch log) n e (search (refuses-check, refuses-bind, inr))
+    let program = refuses-imp ReadRefusal RunRefusal (λ n. ⊎-elim (λ h. inl (inl h)) inr) (readProgram p) (readProgram-refuses p) in
+    let thirteen : RunRefusal wrongInput = inl (inr refl) in
+    refuses-by RunRefusal (run p i limit ch log) n e (search (refuses-check, refuses-bind))
+
+-- ---- of a program that is listed
+
+-- past checks 2 to 8: 9 to 11, 13 and 16
+abbrev pub Later : ℕ → Type 0
+Later n = wrongBlocks < n
+
+pub listed-refusals-analysis : (p : List ℕ) (O : Outline) → readOutline p ≡ ok O → (n : ℕ) → analysis p ≡ refused n → Later n
+unfolding analysis readProgram
+listed-refusals-analysis p O r n e =
+    let given = derived-refuses Later (omega arith) (omega arith) (omega arith) in
+    let program = program-refuses Later (omega arith) (O .tables) (inlinedRows (O .tables) (O .parts)) in
+    refuses-by Later (programOf (O .tables) (inlinedRows (O .tables) (O .parts)) >>= λ P. derived (P .code) >>= λ S. ok (encode (P .tables .fields) S)) n (rw r at e)
+    (refuses-bind Later (programOf (O .tables) (inlinedRows (O .tables) (O .parts))) _ program
+    (λ P. refuses-bind Later (derived (P .code)) (λ S. ok (encode (P .tables .fields) S)) (given (P .code)) (λ S. tt)))
+
+pub listed-refusals-run : (p i : List ℕ) (limit : ℕ) (ch log : List ℕ) (O : Outline) → readOutline p ≡ ok O → (n : ℕ) → run p i limit ch log ≡ refused n → Later n
+unfolding run readInput readProgram
+listed-refusals-run p i limit ch log O r n e =
+    let program = program-refuses Later (omega arith) (O .tables) (inlinedRows (O .tables) (O .parts)) in
+    let thirteen : Later wrongInput = omega arith in
+    refuses-by Later (run p i limit ch log) n e (rw r (search (refuses-check, refuses-bind)))
 
 -- ---- of a program that is read
 

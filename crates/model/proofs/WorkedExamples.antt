@@ -10,7 +10,7 @@ use Rattle.arith.specs.declared.Cause.the-variants.{Above, Below, NoDivisor}
 use Rattle.arith.specs.Step.{Outcome, value, overflow}
 use Rattle.arith.specs.Types
 use Rattle.arith.specs.Words
-use Rattle.model.specs.Refusals.{Out, ok, refused, _>>=_, mapped, wrongBlocks, tooManyConjuncts, neverSettles, tooManyCombinations, blankField}
+use Rattle.model.specs.Refusals.{Out, ok, refused, _>>=_, mapped, wrongBlocks, tooManyConjuncts, neverSettles, tooManyCombinations, blankField, wrongProcedures}
 use Rattle.model.specs.Bytes.{bytes4}
 use Rattle.model.specs.Values.{Operation, add, sub, mul, div}
 use Rattle.model.specs.Code.{plain, site, assign, copy, Code, done, step, branch, loop, if, else, end, while, treeOf}
@@ -28,11 +28,14 @@ use Rattle.model.specs.Conjunct
 use Rattle.model.specs.Decimal
 use Rattle.model.specs.Failure
 use Rattle.model.specs.Filter
+use Rattle.model.specs.Inlined
 use Rattle.model.specs.Input
 use Rattle.model.specs.Kinds
 use Rattle.model.specs.Listing
 use Rattle.model.specs.Lists
+use Rattle.model.specs.Procedures
 use Rattle.model.specs.Program
+use Rattle.model.specs.Run
 use Rattle.model.specs.Values
 use Rattle.model.specs.Walk
 
@@ -50,7 +53,11 @@ unfolding Bytes.bytes2 Bytes.bytes4 Bytes.bytes8 Bytes.entries Bytes.chained Cod
     Input.readingsOf Input.lengthsRight Input.readInput Listing.typeText Listing.operationText Listing.atomText Listing.nodeName
     Listing.nodeType Listing.nodeText Listing.lineText Listing.linesFrom Listing.listingText Listing.refusalText Listing.listing Kinds.kindOf
     Lists.every Program.layoutOf Program.tablesAt Program.sectionsRight Program.countsRight Program.typesRight Program.formRight
-    Program.typesAgree Program.immediateRight Program.stmtOf Program.readProgram Values.operated Values.converted Walk.nodes Walk.replace
+    Program.procedureForm Program.callForm Program.allAlike Program.callAlike Program.typesAgree Program.immediateRight Program.stmtOf
+    Program.itemOf Program.programOf Program.readOutline Program.readProgram Procedures.passing Procedures.openAfter Procedures.partsFrom
+    Procedures.procedureRight Procedures.proceduresRight Procedures.allApart Procedures.partsRight Inlined.inlined Inlined.entering
+    Inlined.expansion Inlined.expansions Inlined.rowsOf Run.reading Run.exec Run.logged Run.due Run.settled Run.execute Run.recordBytes
+    Run.written Run.ranOf Run.run Values.operated Values.converted Walk.nodes Walk.replace
     Walk.onArray Walk.loads Walk.swap Walk.swapAll Walk.subsets Walk.before Walk.gather Walk.back Walk.rounds Walk.walk Walk.here Walk.sites
     Walk.zeroed Walk.start Walk.join Walk.derived Types.bits Types.signed Types.depth Types.height Words.wideOf Words.wordOf Words.valueAt
     Words.immediate mathlib.Core.List.flatMap
@@ -75,6 +82,11 @@ text condition = Listing.listing condition
 check : List ℕ → List ℕ → Out (Found Cause)
 unfolding definitions
 check condition input = verdict condition input
+
+-- the run
+ran : List ℕ → List ℕ → ℕ → List ℕ → List ℕ → Out Run.Ran
+unfolding definitions
+ran program input limit choices log = Run.run program input limit choices log
 
 -- the evaluation of each conjunct at each combination
 values : List ℕ → List ℕ → Out (List (List Outcome))
@@ -358,3 +370,72 @@ five-deep = refl
 no-else : treeOf (if 0 ∷ end ∷ []) ≡ refused wrongBlocks
 unfolding definitions
 no-else = refl
+
+-- ---- procedures
+
+-- the end of a procedure, or of a block
+ending : List ℕ
+ending = statement 13 0 0 0 0
+
+-- procedure 0 of v1, v2 with one parameter: v2 = v1 + v1; v3 = 5; v0 = call 0 of v3; site v0
+called-once : derive (program [] (zeros 4) []
+    (statement 15 1 1 2 0 ∷ statement 2 2 1 1 0 ∷ ending ∷ statement 0 3 0 0 5 ∷ statement 16 0 0 0 3 ∷ statement 10 0 0 0 0 ∷ []))
+    ≡ ok (file [] ((const 0 5 ∷ const 0 5 ∷ op add 0 ∷ []) ∷ []))
+unfolding derive program file zeros ending
+called-once = refl
+
+-- procedure 0 of v1, v2: v2 = v2 + v1; v3 = 5; v0 = call 0 of v3; v0 = call 0 of v0; site v0. At each call v2 is 0 again
+called-twice : derive (program [] (zeros 4) [] (
+    statement 15 1 1 2 0 ∷ statement 2 2 2 1 0 ∷ ending
+    ∷ statement 0 3 0 0 5 ∷ statement 16 0 0 0 3 ∷ statement 16 0 0 0 0 ∷ statement 10 0 0 0 0 ∷ []
+    ))
+    ≡ ok (file [] ((const 0 0 ∷ const 0 0 ∷ const 0 5 ∷ op add 0 ∷ op add 0 ∷ []) ∷ []))
+unfolding derive program file zeros ending
+called-twice = refl
+
+-- a procedure that calls itself, and one that stands late
+calls-itself : derive (program [] (zeros 2) [] (statement 15 0 0 1 0 ∷ statement 16 0 0 0 0 ∷ ending ∷ [])) ≡ refused wrongProcedures
+unfolding derive program zeros ending
+calls-itself = refl
+
+stands-late : derive (program [] (zeros 2) [] (statement 10 1 0 0 0 ∷ statement 15 0 0 1 0 ∷ ending ∷ [])) ≡ refused wrongProcedures
+unfolding derive program zeros ending
+stands-late = refl
+
+-- procedure 0 of v0: four whiles, each in the one before it
+four-whiles : List (List ℕ)
+four-whiles =
+    statement 15 0 0 1 0 ∷ statement 14 0 0 0 0 ∷ statement 14 0 0 0 0 ∷ statement 14 0 0 0 0 ∷ statement 14 0 0 0 0
+    ∷ ending ∷ ending ∷ ending ∷ ending ∷ ending ∷ []
+
+-- called inside a while they are five deep; not called they are in order
+too-deep : derive (program [] (zeros 2) [] (four-whiles ++ (statement 14 1 0 0 0 ∷ statement 16 1 0 0 0 ∷ ending ∷ []))) ≡ refused wrongProcedures
+unfolding derive program zeros four-whiles ending
+too-deep = refl
+
+not-called : derive (program [] (zeros 2) [] four-whiles) ≡ ok (file [] [])
+unfolding derive program file zeros four-whiles ending
+not-called = refl
+
+-- procedure 0 of v1, v2: site v1; v2 = v1 + v1; v3 = 5; v0 = call 0 of v3; v0 = call 0 of v0; site v0
+two-calls : List ℕ
+two-calls =
+    program [] (zeros 4) [] (
+    statement 15 1 1 2 0 ∷ statement 10 1 0 0 0 ∷ statement 2 2 1 1 0 ∷ ending
+    ∷ statement 0 3 0 0 5 ∷ statement 16 0 0 0 3 ∷ statement 16 0 0 0 0 ∷ statement 10 0 0 0 0 ∷ []
+    )
+
+-- its log: the site in the procedure under its own label at each call
+two-calls-log : List ℕ
+two-calls-log =
+    (1 ∷ 0 ∷ 0 ∷ 0 ∷ 5 ∷ zeros 7) ++ (1 ∷ 0 ∷ 0 ∷ 0 ∷ 10 ∷ zeros 7) ++ (7 ∷ 0 ∷ 0 ∷ 0 ∷ 20 ∷ zeros 7)
+
+-- each call is a step, and none of its assignments is
+run-two-calls : ran two-calls [] 100 [] (zeros 36) ≡ ok (record { end = 0; steps = 8; records = 3; log = two-calls-log })
+unfolding ran two-calls two-calls-log zeros program ending
+run-two-calls = refl
+
+-- so a limit of these steps is enough
+run-to-the-end : ran two-calls [] 8 [] (zeros 36) ≡ ok (record { end = 0; steps = 8; records = 3; log = two-calls-log })
+unfolding ran two-calls two-calls-log zeros program ending
+run-to-the-end = refl

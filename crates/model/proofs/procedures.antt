@@ -3,3 +3,4 @@ pub mod Balanced
 pub mod InlinedTypes
 pub mod Naming
 pub mod Expanding
+pub mod Programs

@@ -15,7 +15,7 @@ use Rattle.arith.specs.Words.{valueAt}
 use Rattle.model.specs.Sizes.{recordSize}
 use Rattle.model.specs.Lists.{All, every}
 use Rattle.model.specs.Refusals.{Out, ok, refused, _>>=_, mapped, check, lentTooShort, wrongSections, wrongBlocks}
-use Rattle.model.specs.Refusals.{neverSettles, wrongCondition, wrongInput, tooManyCombinations, blankField}
+use Rattle.model.specs.Refusals.{neverSettles, wrongCondition, wrongInput, tooManyCombinations, blankField, wrongProcedures}
 use Rattle.model.specs.Bytes.{byteAt, u16At, u64At}
 use Rattle.model.specs.Conjunct.{Source, field, cell, Atom, Conj, Conjuncts, atoms}
 use Rattle.model.specs.Condition.{Condition, readCondition, analysis}
@@ -42,13 +42,13 @@ OrLent P n = (n ≡ lentTooShort) ⊎ P n
 
 -- the numbers of the four operations on byte strings
 abbrev pub AnalysisRefusal : ℕ → Type 0
-AnalysisRefusal n = FromTo wrongSections neverSettles n
+AnalysisRefusal n = FromTo wrongSections neverSettles n ⊎ (n ≡ wrongProcedures)
 
 abbrev pub FilterRefusal : ℕ → Type 0
 FilterRefusal n = FromTo wrongCondition blankField n
 
 abbrev pub RunRefusal : ℕ → Type 0
-RunRefusal n = FromTo wrongSections wrongBlocks n ⊎ (n ≡ wrongInput)
+RunRefusal n = (FromTo wrongSections wrongBlocks n ⊎ (n ≡ wrongInput)) ⊎ (n ≡ wrongProcedures)
 
 -- a condition that the analysis wrote is in its form
 abbrev pub GuardedRefusal : ℕ → Type 0

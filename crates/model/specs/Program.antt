@@ -14,7 +14,7 @@ use Rattle.model.specs.Bytes.{byteAt, u16At, u32At, bytes4, part, entrie
 use Rattle.model.specs.Kinds.{Kind, aNumber, aCopy, anOperation, aConversion, aRead, aLoad, aStore, aSite, anIf, anElse, anEnd, aWhile, aProcedure, aCall, noKind, kindOf, begins}
 use Rattle.model.specs.Code.{Instr, assign, store, site, number, copy, calc, change, read, load, Stmt, plain, if, else, end, while, Code, treeOf}
 use Rattle.model.specs.Procedures.{Item, own, procedure, call, openAfter, allClosed, between, Parts, partsFrom, partsRight}
-use Rattle.model.specs.Inlined.{Origin, counted, Row, rowsOf}
+use Rattle.model.specs.Inlined.{Origin, Row, stmtsIn, originsIn, rowsOf}
 
 -- ---- the tables
 
@@ -167,8 +167,8 @@ formOf anIf T q = isVariable T (q .a) && unused (q .b) && unused (q .c) && unuse
 formOf anElse T q = unused (q .a) && unused (q .b) && unused (q .c) && unused (q .imm)
 formOf anEnd T q = unused (q .a) && unused (q .b) && unused (q .c) && unused (q .imm)
 formOf aWhile T q = isVariable T (q .a) && unused (q .b) && unused (q .c) && unused (q .imm)
-formOf aProcedure T q = false
-formOf aCall T q = false
+formOf aProcedure T q = procedureForm T q
+formOf aCall T q = callForm T q
 formOf noKind T q = false
 
 unfoldable pub formRight : Tables → Statement → Bool
@@ -223,7 +223,7 @@ agreeOf anElse T q = true
 agreeOf anEnd T q = true
 agreeOf aWhile T q = true
 agreeOf aProcedure T q = true
-agreeOf aCall T q = true
+agreeOf aCall T q = callAlike T q
 agreeOf noKind T q = true
 
 unfoldable pub typesAgree : Tables → Statement → Bool
@@ -302,28 +302,11 @@ itemsOf T = map (itemOf T) (T .statements)
 
 -- ---- the whole
 
--- a program: its tables, its block tree and the origin of each statement
+-- a program: its tables, and the block tree and the origins of the inlined program
 pub record Program : Type 0 where
   pub tables : Tables
   pub code : Code
   pub origins : List Origin
-
--- the statements from the label l on, each a step under its own label
-abbrev pub ownSteps : ℕ → List Statement → List Origin
-ownSteps l [] = []
-ownSteps l (q ∷ qs) = counted l ∷ ownSteps (suc l) qs
-
--- the program of a byte string, or the first of checks 2 to 8 that it fails
-unfoldable pub readProgram : List ℕ → Out Program
-readProgram s =
-    let T = tablesAt s (layoutOf s) in
-    check (sectionsRight s) wrongSections
-    (check (countsRight T) tooManyEntries
-    (check (typesRight T) wrongTypes
-    (check (every (formRight T) (T .statements)) wrongStatement
-    (check (every (typesAgree T) (T .statements)) typesDisagree
-    (check (every (immediateRight T) (T .statements)) wrongImmediate
-    (treeOf (map (stmtOf T) (T .statements)) >>= λ c. ok (record { tables = T; code = c; origins = ownSteps 0 (T .statements) })))))))
 
 -- the statements of the inlined program
 abbrev pub inlinedRows : Tables → Parts → List Row
@@ -333,8 +316,7 @@ inlinedRows T P = rowsOf (variableType T) (length (T .variables)) P
 unfoldable pub programOf : Tables → List Row → Out Program
 programOf T rows =
     check (leb (length rows) mostRows) wrongProcedures
-    (instead wrongProcedures (treeOf (map (λ r. r .stmt) rows))
-    >>= λ c. ok (record { tables = T; code = c; origins = map (λ r. r .origin) rows }))
+    (instead wrongProcedures (treeOf (stmtsIn rows)) >>= λ c. ok (record { tables = T; code = c; origins = originsIn rows }))
 
 -- a program as it is listed: its tables, and its procedures with the statements after them
 pub record Outline : Type 0 where
@@ -354,3 +336,7 @@ readOutline s =
     (openAfter [] (itemsOf T) >>= allClosed >>= λ none.
     partsFrom 0 [] between (itemsOf T) >>= λ P.
     check (partsRight P) wrongProcedures (ok (record { tables = T; parts = P }))))))))
+
+-- the program of a byte string, or the first of checks 2 to 8 and 16 that it fails
+unfoldable pub readProgram : List ℕ → Out Program
+readProgram s = readOutline s >>= λ O. programOf (O .tables) (inlinedRows (O .tables) (O .parts))

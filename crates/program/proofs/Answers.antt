@@ -1,18 +1,18 @@
--- The reader's answer as a chain of checks, 2 to 8; and what the answer to the middle ones says where they pass and where one refuses.
+-- The reader's answer as a chain of checks, 2 to 8 and 16; and what the answer to the middle ones says where they pass and where one refuses.
 use mathlib.Core.Path.{_≡_, refl, sym, ap, _∙_}
 use mathlib.Core.Bool.{Bool, true, false}
-use mathlib.Core.List.{List}
+use mathlib.Core.List.{List, []}
 use Prim.Native.Nat.{ℕ}
 use native.Mathlib.Omega.{arith}
-use Rattle.model.specs.Code.{treeOf}
 use Rattle.model.specs.Lists.{every}
-use Rattle.model.specs.Program.{Layout as Sections, Program, layoutOf, ownSteps, readProgram}
+use Rattle.model.specs.Procedures.{openAfter, allClosed, Parts, between, partsFrom, partsRight}
+use Rattle.model.specs.Program.{Layout as Sections, Outline, layoutOf, itemsOf, readOutline}
 use Rattle.model.specs.Program.{sectionsRight, countsRight, typesRight, formRight, typesAgree, immediateRight}
 use Rattle.model.specs.Refusals.{Out, ok, refused, _>>=_, mapped, check}
-use Rattle.model.specs.Refusals.{wrongSections, tooManyEntries, wrongTypes, wrongStatement, typesDisagree, wrongImmediate}
-use Rattle.model.proofs.basics.Results.{check-mapped, refused-ok}
+use Rattle.model.specs.Refusals.{wrongSections, tooManyEntries, wrongTypes, wrongStatement, typesDisagree, wrongImmediate, wrongProcedures}
+use Rattle.model.proofs.basics.Results.{check-mapped, mapped-check, refused-ok}
 use Rattle.program.specs.declared.Layout.{Layout}
-use Rattle.program.specs.Reading.{layoutFrom, Placed, tablesOf, stmtsOf, statementChecks, tableChecks}
+use Rattle.program.specs.Reading.{layoutFrom, Placed, tablesOf, statementChecks, procedureChecks, tableChecks}
 
 -- ---- a test, and the result that goes with it
 
@@ -36,31 +36,42 @@ handed-on false n m y o x e h = h
 
 -- ---- the whole
 
-mapped-bind : {A B C : Type 0} (g : B → C) (h : A → C) (f : A → B) (o : Out A) → ((a : A) → g (f a) ≡ h a) → mapped g (o >>= λ a. ok (f a)) ≡ mapped h o
-mapped-bind g h f (ok a) e = ap ok (e a)
-mapped-bind g h f (refused n) e = refl
+-- what follows a result, mapped
+mapped-bind : {A B C : Type 0} (g : B → C) (o : Out A) (f : A → Out B) → mapped g (o >>= f) ≡ (o >>= λ a. mapped g (f a))
+mapped-bind g (ok a) f = refl
+mapped-bind g (refused n) f = refl
 
-pub by-checks : (s : List ℕ) → mapped (λ P. layoutOf s) (readProgram s) ≡ check (sectionsRight s) wrongSections (tableChecks s)
-unfolding readProgram
+bind-same : {A B : Type 0} (o : Out A) (f g : A → Out B) → ((a : A) → f a ≡ g a) → (o >>= f) ≡ (o >>= g)
+bind-same (ok a) f g h = h a
+bind-same (refused n) f g h = refl
+
+pub by-checks : (s : List ℕ) → mapped (λ O. layoutOf s) (readOutline s) ≡ check (sectionsRight s) wrongSections (tableChecks s)
+unfolding readOutline
 by-checks s =
     let T = tablesOf s in
-    let g : Program → Sections = λ P. layoutOf s in
+    let g : Outline → Sections = λ O. layoutOf s in
     let form = every (formRight T) (T .statements) in
     let agree = every (typesAgree T) (T .statements) in
     let inside = every (immediateRight T) (T .statements) in
-    let tree : Out Program = treeOf (stmtsOf T) >>= λ c. ok (record { tables = T; code = c; origins = ownSteps 0 (T .statements) }) in
-    let in₇ = check inside wrongImmediate tree in
+    let right : Parts → Out Outline = λ P. check (partsRight P) wrongProcedures (ok (record { tables = T; parts = P })) in
+    let parts : Out Outline = partsFrom 0 [] between (itemsOf T) >>= right in
+    let blocks : Out Outline = openAfter [] (itemsOf T) >>= allClosed >>= λ none. parts in
+    let in₇ = check inside wrongImmediate blocks in
     let in₆ = check agree typesDisagree in₇ in
     let in₅ = check form wrongStatement in₆ in
     let in₄ = check (typesRight T) wrongTypes in₅ in
+    let in₁₆ = mapped-bind g (partsFrom 0 [] between (itemsOf T)) right
+    ∙ bind-same (partsFrom 0 [] between (itemsOf T)) (λ P. mapped g (right P)) (λ P. check (partsRight P) wrongProcedures (ok (layoutOf s)))
+    (λ P. mapped-check g (partsRight P) wrongProcedures (record { tables = T; parts = P })) in
+    let in₈ = mapped-bind g (openAfter [] (itemsOf T) >>= allClosed) (λ none. parts)
+    ∙ bind-same (openAfter [] (itemsOf T) >>= allClosed) (λ none. mapped g parts) (λ none. procedureChecks s) (λ none. in₁₆) in
     check-mapped g (sectionsRight s) wrongSections (check (countsRight T) tooManyEntries in₄)
     ∙ ap (check (sectionsRight s) wrongSections) (check-mapped g (countsRight T) tooManyEntries in₄
     ∙ ap (check (countsRight T) tooManyEntries) (check-mapped g (typesRight T) wrongTypes in₅
     ∙ ap (check (typesRight T) wrongTypes) (check-mapped g form wrongStatement in₆
     ∙ ap (check form wrongStatement) (check-mapped g agree typesDisagree in₇
-    ∙ ap (check agree typesDisagree) (check-mapped g inside wrongImmediate tree
-    ∙ ap (check inside wrongImmediate)
-    (mapped-bind g (λ c. layoutOf s) (λ c. record { tables = T; code = c; origins = ownSteps 0 (T .statements) }) (treeOf (stmtsOf T)) (λ c. refl)))))))
+    ∙ ap (check agree typesDisagree) (check-mapped g inside wrongImmediate blocks
+    ∙ ap (check inside wrongImmediate) in₈)))))
 
 -- ---- checks 5 to 7
 

@@ -1,4 +1,4 @@
--- What a caller knows of a program that is read: its layout, its counts and what checks 4 to 8 left.
+-- What a caller knows of a program that is read: its layout, its counts and what checks 4 to 8 and 16 left.
 use mathlib.Core.Path.{_≡_, sym, ap, subst, _∙_}
 use mathlib.Core.Bool.{true, _&&_}
 use mathlib.Core.List.{List}
@@ -9,13 +9,12 @@ use lib.ListN.{length}
 use Rattle.model.specs.Sizes.{mostFields, mostVariables, mostArrays, mostStatements}
 use Rattle.model.specs.Lists.{every}
 use Rattle.model.specs.Refusals.{ok, mapped}
-use Rattle.model.specs.Code.{treeOf}
-use Rattle.model.specs.Program.{Tables, layoutOf, countsRight, typesRight, formRight, Program, readProgram}
+use Rattle.model.specs.Program.{Tables, layoutOf, countsRight, typesRight, formRight, Program, readOutline, readProgram}
 use Rattle.model.proofs.basics.Results.{mapped-ok}
 use Rattle.model.proofs.basics.Tests.{and-left, and-right}
 use Rattle.model.proofs.basics.Every.{every-at}
-use Rattle.model.proofs.files.Checked.{Checked, program-checked}
-use Rattle.program.specs.Reading.{programAnswer, layoutFrom, tablesOf, noStatement, statementOf, stmtsOf, ProgramIsRead}
+use Rattle.model.proofs.files.Checked.{Outlined, outline-checked, program-checked}
+use Rattle.program.specs.Reading.{programAnswer, layoutFrom, tablesOf, noStatement, statementOf, Placed, ProgramIsRead}
 use Rattle.program.specs.declared.Layout.{Layout}
 use Rattle.program.specs.declared.ProgramRead.{ProgramRead}
 use Rattle.program.specs.declared.ProgramRead.the-variants.{Read}
@@ -23,11 +22,11 @@ use Rattle.program.proofs.sections.Chain.{placed}
 use Rattle.program.proofs.Tables.{sized}
 
 -- the reader's answer, where it is a layout
-pub is-read : (s : List ℕ) (r : ProgramRead) (L : Layout) → programAnswer r ≡ mapped (λ P. layoutOf s) (readProgram s) → r ≡ Read L
+pub is-read : (s : List ℕ) (r : ProgramRead) (L : Layout) → programAnswer r ≡ mapped (λ O. layoutOf s) (readOutline s) → r ≡ Read L
     → ProgramIsRead s L
 is-read s r L h e =
-    let k = mapped-ok (λ P. layoutOf s) (readProgram s) (layoutFrom L) (sym h ∙ ap programAnswer e) in
-    record { program = k .0; read = k .1; placed = placed s (program-checked s (k .0) (k .1) .sections) L (sym (k .2)) }
+    let k = mapped-ok (λ O. layoutOf s) (readOutline s) (layoutFrom L) (sym h ∙ ap programAnswer e) in
+    record { outline = k .0; read = k .1; placed = placed s (outline-checked s (k .0) (k .1) .sections) L (sym (k .2)) }
 
 -- no section has too many entries
 pub record FewEntries (L : Layout) : Type 0 where
@@ -36,41 +35,40 @@ pub record FewEntries (L : Layout) : Type 0 where
   pub arrays : L .arrays ≤ mostArrays
   pub statements : L .statements ≤ mostStatements
 
-module _ (s : List ℕ) where
-  module _ (P : Program) (e : readProgram s ≡ ok P) where
-    pub tables-read : P .tables ≡ tablesOf s
-    tables-read = program-checked s P e .tables
+pub few-entries : (s : List ℕ) (L : Layout) → Placed s L → countsRight (tablesOf s) ≡ true → FewEntries L
+unfolding countsRight
+few-entries s L p right =
+    let T = tablesOf s in
+    let z = sized s L p in
+    let f = leb (length (T .fields)) mostFields in
+    let v = leb (length (T .variables)) mostVariables in
+    let a = leb (length (T .arrays)) mostArrays in
+    let q = leb (length (T .statements)) mostStatements in
+    let w₃ = and-left (f && v && a) q right in
+    let w₂ = and-left (f && v) a w₃ in
+    record {
+      fields = rw (z .fields) at (leb-true (length (T .fields)) mostFields (and-left f v w₂));
+      variables = rw (z .variables) at (leb-true (length (T .variables)) mostVariables (and-right f v w₂));
+      arrays = rw (z .arrays) at (leb-true (length (T .arrays)) mostArrays (and-right (f && v) a w₃));
+      statements = rw (z .statements) at (leb-true (length (T .statements)) mostStatements (and-right (f && v && a) q right));
+    }
 
-    pub tree-read : treeOf (stmtsOf (tablesOf s)) ≡ ok (P .code)
-    tree-read = subst (λ (T : Tables). treeOf (stmtsOf T) ≡ ok (P .code)) tables-read (program-checked s P e .tree)
+module _ (s : List ℕ) where
+  pub tables-read : (P : Program) → readProgram s ≡ ok P → P .tables ≡ tablesOf s
+  tables-read P e = program-checked s P e .outlined .tables
 
   module _ (L : Layout) (h : ProgramIsRead s L) where
     abbrev T : Tables
     T = tablesOf s
 
-    checked : Checked s (h .program)
-    checked = program-checked s (h .program) (h .read)
+    checked : Outlined s (h .outline)
+    checked = outline-checked s (h .outline) (h .read)
 
-    same : h .program .tables ≡ T
-    same = tables-read (h .program) (h .read)
+    same : h .outline .tables ≡ T
+    same = checked .tables
 
     pub counts-known : FewEntries L
-    unfolding countsRight
-    counts-known =
-        let z = sized s L (h .placed) in
-        let right : countsRight T ≡ true = subst (λ (U : Tables). countsRight U ≡ true) same (checked .counts) in
-        let f = leb (length (T .fields)) mostFields in
-        let v = leb (length (T .variables)) mostVariables in
-        let a = leb (length (T .arrays)) mostArrays in
-        let q = leb (length (T .statements)) mostStatements in
-        let w₃ = and-left (f && v && a) q right in
-        let w₂ = and-left (f && v) a w₃ in
-        record {
-          fields = rw (z .fields) at (leb-true (length (T .fields)) mostFields (and-left f v w₂));
-          variables = rw (z .variables) at (leb-true (length (T .variables)) mostVariables (and-right f v w₂));
-          arrays = rw (z .arrays) at (leb-true (length (T .arrays)) mostArrays (and-right (f && v) a w₃));
-          statements = rw (z .statements) at (leb-true (length (T .statements)) mostStatements (and-right (f && v && a) q right));
-        }
+    counts-known = few-entries s L (h .placed) (subst (λ (U : Tables). countsRight U ≡ true) same (checked .counts))
 
     pub types-known : typesRight T ≡ true
     types-known = subst (λ (U : Tables). typesRight U ≡ true) same (checked .types)

@@ -17,15 +17,25 @@ module _ {A : Type 0} (f : A → Bool) (d : A) (xs : List A) (i : ℕ) where
   unfolding every
   pass-step h = rw (add-one, drop-cons xs i d h)
 
+  -- the test of a whole that is the test of the elements from i on
+  pub rest-fails : i < length xs → (w : Bool) → w ≡ every f (drop i xs) → f (getD xs i d) ≡ false → w ≡ false
+  rest-fails h w e k = e ∙ pass-step h ∙ rw k
+
+  pub rest-goes : i < length xs → (w : Bool) → w ≡ every f (drop i xs) → f (getD xs i d) ≡ true → w ≡ every f (drop (i + 1) xs)
+  rest-goes h w e k = e ∙ pass-step h ∙ rw k
+
+  pub rest-ends : length xs ≤ i → (w : Bool) → w ≡ every f (drop i xs) → w ≡ true
+  unfolding every
+  rest-ends h w e = e ∙ rw (drop-of-length-le xs h)
+
   pub pass-fails : i < length xs → every f xs ≡ every f (drop i xs) → f (getD xs i d) ≡ false → every f xs ≡ false
-  pass-fails h w e = w ∙ pass-step h ∙ rw e
+  pass-fails h w e = rest-fails h (every f xs) w e
 
   pub pass-goes : i < length xs → every f xs ≡ every f (drop i xs) → f (getD xs i d) ≡ true → every f xs ≡ every f (drop (i + 1) xs)
-  pass-goes h w e = w ∙ pass-step h ∙ rw e
+  pass-goes h w e = rest-goes h (every f xs) w e
 
   pub pass-ends : length xs ≤ i → every f xs ≡ every f (drop i xs) → every f xs ≡ true
-  unfolding every
-  pass-ends h w = w ∙ rw (drop-of-length-le xs h)
+  pass-ends h w = rest-ends h (every f xs) w
 
   -- a pass that gathers the answers of a test in a flag
   pub pass-gathers : (a : Bool) → i < length xs → every f xs ≡ (a && every f (drop i xs)) → every f xs ≡ (a && f (getD xs i d) && every f (drop (i + 1) xs))

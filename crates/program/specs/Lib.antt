@@ -1,3 +1,5 @@
+pub mod Names
 pub mod Numbers
+pub mod OpenBlocks
+pub mod Parts
 pub mod Reading
-pub mod Stacks

@@ -45,5 +45,11 @@ endKind = 13
 abbrev pub whileKind : ℕ
 whileKind = 14
 
+abbrev pub procedureKind : ℕ
+procedureKind = 15
+
+abbrev pub callKind : ℕ
+callKind = 16
+
 abbrev pub kindCodes : ℕ
-kindCodes = 15
+kindCodes = 17

@@ -1,18 +1,18 @@
 -- What the reader's answers and entries stand for, and what its functions may assume of a layout.
 use mathlib.Core.Path.{_≡_}
 use mathlib.Core.Bool.{Bool, _&&_}
-use mathlib.Core.List.{List, map}
+use mathlib.Core.List.{List, [], map}
 use Prim.Native.Nat.{ℕ, _+_, _*_, _%_, _≤_, _<_, _^_}
 use lib.Dec.{eqb}
 use lib.ListN.{length, getD}
 use Rattle.model.specs.Lists.{every}
-use Rattle.model.specs.Refusals.{Out, ok, refused, mapped, check, tooManyEntries, wrongTypes, wrongStatement, typesDisagree, wrongImmediate}
+use Rattle.model.specs.Refusals.{Out, ok, refused, _>>=_, check, tooManyEntries, wrongTypes, wrongStatement, typesDisagree, wrongImmediate, wrongProcedures}
 use Rattle.model.specs.Sizes.{mostProgram, arraySize, statementSize}
 use Rattle.model.specs.Bytes.{u32At, Pair as ModelPair}
-use Rattle.model.specs.Code.{Stmt, end, treeOf}
-use Rattle.model.specs.Program.{Statement, Tables, Layout as Sections, tablesAt, layoutOf, stmtOf, Program, readProgram}
+use Rattle.model.specs.Code.{Stmt, end}
+use Rattle.model.specs.Program.{Statement, Tables, Layout as Sections, tablesAt, layoutOf, stmtOf, itemsOf, Outline, readOutline}
 use Rattle.model.specs.Program.{countsRight, typesRight, formRight, typesAgree, immediateRight}
-use Rattle.model.specs.Placement.{Laid}
+use Rattle.model.specs.Procedures.{openAfter, allClosed, between, partsFrom, partsRight}
 use Rattle.program.specs.Numbers.{arraysPair, statementsPair, endKind}
 use Rattle.program.specs.declared.Layout.{Layout}
 use Rattle.program.specs.declared.Entry.{Entry}
@@ -96,10 +96,6 @@ stmtAt T i = getD (stmtsOf T) i end
 abbrev pub formChecked : Tables → ℕ → Out Statement
 formChecked T i = check (formRight T (statementOf T i)) wrongStatement (ok (statementOf T i))
 
--- a table of mates lays the program's blocks out over its labels
-abbrev pub LaidBy : (program table : List ℕ) → ℕ → Type 0
-LaidBy s table n = (P : Program) → readProgram s ≡ ok P → Laid (stmtAt (tablesOf s)) (λ i. getD table i 0) (P .code) 0 n
-
 -- checks 5, 6 and 7, each over all statements, and then o
 abbrev pub statementChecks : List ℕ → Out Sections → Out Sections
 statementChecks s o =
@@ -108,15 +104,19 @@ statementChecks s o =
     (check (every (typesAgree T) (T .statements)) typesDisagree
     (check (every (immediateRight T) (T .statements)) wrongImmediate o))
 
--- check 8
-abbrev pub blockCheck : List ℕ → Out Sections
-blockCheck s = mapped (λ c. layoutOf s) (treeOf (stmtsOf (tablesOf s)))
+-- check 16
+abbrev pub procedureChecks : List ℕ → Out Sections
+procedureChecks s = partsFrom 0 [] between (itemsOf (tablesOf s)) >>= λ P. check (partsRight P) wrongProcedures (ok (layoutOf s))
 
--- checks 3 to 8
+-- checks 8 and 16
+abbrev pub blockChecks : List ℕ → Out Sections
+blockChecks s = openAfter [] (itemsOf (tablesOf s)) >>= allClosed >>= λ none. procedureChecks s
+
+-- checks 3 to 8 and 16
 abbrev pub tableChecks : List ℕ → Out Sections
 tableChecks s =
     let T = tablesOf s in
-    check (countsRight T) tooManyEntries (check (typesRight T) wrongTypes (statementChecks s (blockCheck s)))
+    check (countsRight T) tooManyEntries (check (typesRight T) wrongTypes (statementChecks s (blockChecks s)))
 
 -- the tables have as many entries as the layout says
 pub record Sized (T : Tables) (L : Layout) : Type 0 where
@@ -134,8 +134,8 @@ pub record Placed (s : List ℕ) (L : Layout) : Type 0 where
   pub statements : L .«statements_at» + statementSize * L .statements ≤ length s
   pub small : length s ≤ mostProgram
 
--- the program is read, and the layout is its own
+-- the reader has passed the program, and the layout is its own
 pub record ProgramIsRead (s : List ℕ) (L : Layout) : Type 0 where
-  pub program : Program
-  pub read : readProgram s ≡ ok program
+  pub outline : Outline
+  pub read : readOutline s ≡ ok outline
   pub placed : Placed s L

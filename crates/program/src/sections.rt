@@ -11,6 +11,7 @@ ghost use Rattle.model.specs.Program.{Tables, arrayAt, layoutOf, sectionsRight,
 ghost use Rattle.program.specs.Reading.{programAnswer, PairIs, sectionOf, InFourBytes, wholeEntries, tablesOf, Placed, Sized};
 use super::ARRAY_SIZE;
 use super::Layout;
+use super::MOST_STATEMENTS;
 use super::ProgramRead;
 use super::STATEMENT_SIZE;
 
@@ -38,8 +39,6 @@ const MOST_FIELDS: usize = 32;
 const MOST_VARIABLES: usize = 64;
 
 const MOST_ARRAYS: usize = 16;
-
-const MOST_STATEMENTS: usize = 1024;
 
 // the cells of the longest array
 const MOST_CELLS: u64 = 256;

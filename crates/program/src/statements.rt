@@ -5,38 +5,41 @@ ghost use mathlib.Core.Bool.{true, _&&_};
 ghost use Prim.Native.Nat.{ℕ, _<_};
 ghost use lib.Dec.{eqb, ltb};
 ghost use Rattle.model.specs.Refusals.{ok, refused};
-ghost use Rattle.model.specs.Program.{Tables, layoutOf, typesRight, formRight, alike, cellAlike, typesAgree, immediateRight};
-ghost use Rattle.program.specs.Reading.{programAnswer, formChecked, statementChecks, entryOf, statementFrom, tablesOf, Placed, Sized};
+ghost use Rattle.model.specs.Program.{layoutOf, typesRight, formRight, alike, cellAlike, typesAgree, immediateRight};
+ghost use Rattle.program.specs.Reading.{programAnswer, formChecked, statementChecks, entryOf, statementFrom, tablesOf, Placed};
 use super::Entry;
 use super::Layout;
 use super::ProgramRead;
 use super::array_type;
+use super::calls::call_agrees;
+use super::calls::call_form;
+use super::calls::procedure_form;
 use super::field_type;
 use super::statement;
 use super::variable_type;
 
 // the kinds of statements; those before the if are plain
-const NUMBER: u8 = 0;
+pub const NUMBER: u8 = 0;
 
-const COPY: u8 = 1;
+pub const COPY: u8 = 1;
 
-const ADD: u8 = 2;
+pub const ADD: u8 = 2;
 
-const SUB: u8 = 3;
+pub const SUB: u8 = 3;
 
-const MUL: u8 = 4;
+pub const MUL: u8 = 4;
 
-const DIV: u8 = 5;
+pub const DIV: u8 = 5;
 
-const CONVERSION: u8 = 6;
+pub const CONVERSION: u8 = 6;
 
-const READ: u8 = 7;
+pub const READ: u8 = 7;
 
-const LOAD: u8 = 8;
+pub const LOAD: u8 = 8;
 
-const STORE: u8 = 9;
+pub const STORE: u8 = 9;
 
-const SITE: u8 = 10;
+pub const SITE: u8 = 10;
 
 pub const IF: u8 = 11;
 
@@ -45,6 +48,10 @@ pub const ELSE: u8 = 12;
 const END: u8 = 13;
 
 pub const WHILE: u8 = 14;
+
+pub const PROCEDURE: u8 = 15;
+
+pub const CALL: u8 = 16;
 
 // the type codes below this one are unsigned
 const UNSIGNED_CODES: u8 = 4;
@@ -90,8 +97,9 @@ fn no_immediate(q: Entry, a: usize, b: usize, c: usize) -> bool
 }
 
 // By kind: what the operands and the immediate have to be.
-fn form_right(layout: Layout, q: Entry) -> bool
-    ensures { λ r. ⌜ ((T : Tables) → Sized T layout → r ≡ formRight T (entryOf q)) ⌝ }
+fn form_right(program: &[u8], layout: Layout, q: Entry) -> bool
+    requires { ⌜ Placed (now program) layout ⌝ }
+    ensures { λ r. ⌜ r ≡ formRight (tablesOf (now (program .entry))) (entryOf q) ⌝ }
 {
     let kind = q.kind;
     let v = layout.variables;
@@ -111,6 +119,8 @@ fn form_right(layout: Layout, q: Entry) -> bool
         ELSE => no_immediate(q, 1, 1, 1),
         END => no_immediate(q, 1, 1, 1),
         WHILE => no_immediate(q, v, 1, 1),
+        PROCEDURE => procedure_form(layout, q),
+        CALL => call_form(program, layout, q),
         _ => false,
     }
 }
@@ -121,7 +131,7 @@ fn read_statement(program: &[u8], layout: Layout, i: usize) -> StatementRead
     ensures { λ r. ⌜ statementFrom r ≡ formChecked (tablesOf (now (program .entry))) i ⌝ }
 {
     let q = statement(program, layout, i);
-    if !form_right(layout, q) {
+    if !form_right(program, layout, q) {
         return StatementRead::Refused(WRONG_STATEMENT);
     }
     StatementRead::Entry(q)
@@ -176,6 +186,7 @@ fn types_agree(program: &[u8], layout: Layout, q: Entry) -> bool
         READ => field_type(program, layout, b) == variable_type(program, layout, a),
         LOAD => cell_agrees(program, layout, b, a, c),
         STORE => cell_agrees(program, layout, a, c, b),
+        CALL => call_agrees(program, layout, q),
         _ => true,
     }
 }
@@ -208,7 +219,7 @@ fn statement_refusal(read: StatementRead) -> u8
 }
 
 // Whether both tests pass.
-fn both(a: bool, b: bool) -> bool
+pub fn both(a: bool, b: bool) -> bool
     ensures { λ r. ⌜ r ≡ (a && b) ⌝ }
 {
     if a {

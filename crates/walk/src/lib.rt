@@ -9,7 +9,7 @@ ghost use mathlib.Core.Bool.{true, false};
 ghost use Prim.Native.Nat.{_+_, _*_, _≤_, _<_};
 ghost use lib.ListN.{length};
 ghost use Rattle.model.specs.Conjunct.{unionOf, limits};
-ghost use Rattle.model.specs.Sizes.{mostStatements, mostNested, mostInside};
+ghost use Rattle.model.specs.Sizes.{mostRows, mostNested, mostInside};
 ghost use Rattle.code_table.specs.Table.{tableWords, stmts, mates};
 ghost use Rattle.sets.specs.Region.{setOf, Within, regionWords};
 ghost use Rattle.rules.specs.Answers.{answered, Below};
@@ -163,7 +163,7 @@ fn take_settled(s: &mut [u64], b: usize, given: Answer) -> Answer
 
 // Where the statement or the block begins that ends at the label i.
 fn beginning(s: &[u64], i: usize) -> usize
-    requires { ⌜ (tableWords ≤ length (now s)) × (i < mostStatements) ⌝ }
+    requires { ⌜ (tableWords ≤ length (now s)) × (i < mostRows) ⌝ }
     ensures { λ r. ⌜ r ≡ firstOf (stmts (now (s .entry)) i) (mates (now (s .entry))) i ⌝ }
 {
     if code_table::kind_at(s, 0, i) < 11 {

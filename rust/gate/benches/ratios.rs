@@ -14,9 +14,10 @@
 
 use gate::{check, derive, run, scratch, Choices, Refusal, Verdict, CONDITION};
 use gate_oracle as plain;
-use gate_oracle::build::{constant, recipe, s};
+use gate_oracle::build::{call, constant, procedure, recipe, s};
 use gate_oracle::generate::{self, Rng};
 use gate_oracle::nests::ROWS;
+use gate_oracle::procedures::MOST_WRITTEN;
 use std::hint::black_box;
 use std::time::{Duration, Instant};
 
@@ -124,6 +125,42 @@ fn reading() -> Vec<u8> {
     recipe(&[U32], &[U32; 3], &[], &code)
 }
 
+/// The end of a block or of a procedure.
+const END: [u8; 8] = [13, 0, 0, 0, 0, 0, 0, 0];
+
+/// As many calls of a procedure with this body as make 16,384 statements written out, and a site behind them. The
+/// argument is a reading; the procedure's own variables are 2 to 5, and 5 is its result.
+fn written_out(body: &[[u8; 8]]) -> Vec<u8> {
+    let rows = 4 + body.len() + 1;
+    let calls = (MOST_WRITTEN - 2) / rows;
+    let mut code = [&[procedure(1, 2, 4)][..], body, &[END, s(7, 1, 0, 0)]].concat();
+    code.extend(vec![call(0, 0, &[1]); calls]);
+    code.extend(vec![constant(1, 1); MOST_WRITTEN - 2 - calls * rows]);
+    code.push(s(10, 0, 0, 0));
+    recipe(&[U32], &[U32; 6], &[[U32, 0, 2, 0]], &code)
+}
+
+/// Bodies for it, with what they are: a sum of eight readings; a while that passes readings along; a store to and a
+/// load from a tray of two cells. Each has a site.
+fn bodies() -> [(&'static str, Vec<[u8; 8]>); 3] {
+    let sum = [s(7, 3, 0, 0), s(2, 5, 5, 3)].repeat(8);
+    let passes = [s(14, 2, 0, 0), s(1, 5, 4, 0), s(1, 4, 3, 0), s(7, 3, 0, 0), s(7, 2, 0, 0), END];
+    let tray = [s(9, 0, 3, 2), s(8, 5, 0, 3), s(2, 5, 5, 2)];
+    let with_site = |code: &[[u8; 8]]| {
+        let spare = vec![s(1, 4, 2, 0); 16_usize.saturating_sub(code.len())];
+        [&spare[..], code, &[s(10, 5, 0, 0)]].concat()
+    };
+    [("sums", with_site(&sum)), ("whiles", with_site(&passes)), ("loads and stores", with_site(&tray))]
+}
+
+/// while n: x = call p(x); n = n - 1, where p(x) is (x * a + b) / a.
+fn calling() -> Vec<u8> {
+    let body = [constant(5, 3), constant(6, 7), s(4, 7, 4, 5), s(2, 7, 7, 6), s(5, 7, 7, 5)];
+    let outside =
+        [constant(1, i64::from(u32::MAX)), constant(2, 1), s(14, 1, 0, 0), call(0, 0, &[0]), s(3, 1, 1, 2), END];
+    recipe(&[U32], &[U32; 8], &[], &[&[procedure(1, 4, 4)][..], &body, &[END], &outside].concat())
+}
+
 // ---- measuring
 
 /// The analysis in plain Rust.
@@ -197,6 +234,10 @@ fn main() {
     for (name, nest) in ROWS {
         derives_beside(plain::derive_quickly, name, "statement", nest.statements() as f64, &nest.recipe());
     }
+    for (name, body) in bodies() {
+        let name = format!("16,384 statements written out, {name} and a site in a procedure");
+        derives_beside(plain::derive_quickly, &name, "statement", MOST_WRITTEN as f64, &written_out(&body));
+    }
     let made: Vec<Vec<u8>> = (0..500).map(|seed| generate::recipe(&mut Rng::new(seed))).collect();
     compare(
         "500 generated recipes",
@@ -241,4 +282,9 @@ fn main() {
     runs("a mixed loop, 100,000 steps", &mixed(), 100_000, &none);
     runs("a mixed loop, 100 steps", &mixed(), 100, &none);
     runs("reads and sites, 1,000,000 steps", &reading(), 1_000_000, &choices);
+    runs("calls in a loop, 1,000,000 steps", &calling(), 1_000_000, &none);
+    for (name, body) in bodies() {
+        let name = format!("16,384 statements written out, {name} and a site in a procedure");
+        runs(&name, &written_out(&body), 100_000, &choices);
+    }
 }

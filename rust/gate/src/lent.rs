@@ -43,7 +43,7 @@ const HELD: u64 = 5;
 fn answer(word: u64) -> Result<u64, Refusal> {
     match word >> 32 {
         0 => Ok(word),
-        number => Err(Refusal::numbered(number).expect("the library refuses with 1 to 15")),
+        number => Err(Refusal::numbered(number).expect("the library refuses with 1 to 16")),
     }
 }
 
@@ -89,7 +89,7 @@ pub fn scratch() -> Vec<u64> {
 ///
 /// # Errors
 /// [`Refusal::Room`] where `condition` has under [`CONDITION`] bytes or `scratch` under [`scratch_words`];
-/// then the refusals 2 to 11.
+/// then the refusals 2 to 8, 16, and 9 to 11.
 pub fn derive(recipe: &[u8], condition: &mut [u8], scratch: &mut [u64]) -> Result<usize, Refusal> {
     // SAFETY: each pointer goes with its slice's length, and the slices are lent for the call.
     let word = unsafe {
@@ -118,7 +118,8 @@ pub fn check(condition: &[u8], sheet: &[u8]) -> Result<Verdict, Refusal> {
 /// Runs the recipe on the sheet for at most `limit` steps and writes its records to the start of `log`.
 ///
 /// # Errors
-/// [`Refusal::Room`] where `scratch` is shorter than [`scratch_words`]; then the refusals 2 to 8 and 13.
+/// [`Refusal::Room`] where `scratch` is shorter than [`scratch_words`]; then the refusals 2 to 8, 16 and
+/// 13.
 pub fn run(
     recipe: &[u8],
     sheet: &[u8],
@@ -154,7 +155,7 @@ pub fn run(
 /// A run writes `log` as [`run`] does and `condition` as [`derive()`] does.
 ///
 /// # Errors
-/// [`Refusal::Room`] as [`derive()`]; then the refusals 2 to 11 and 13 to 15.
+/// [`Refusal::Room`] as [`derive()`]; then the refusals 2 to 8, 16, 9 to 11 and 13 to 15.
 pub fn guarded(
     recipe: &[u8],
     sheet: &[u8],

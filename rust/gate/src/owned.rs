@@ -34,7 +34,7 @@ impl Gate {
     /// The recipe's condition file.
     ///
     /// # Errors
-    /// The refusals 2 to 11.
+    /// The refusals 2 to 11 and 16.
     pub fn derive(&mut self, recipe: &[u8]) -> Result<Vec<u8>, Refusal> {
         let length = derive(recipe, &mut self.condition, &mut self.scratch)?;
         Ok(self.condition[..length].to_vec())
@@ -43,7 +43,7 @@ impl Gate {
     /// Runs the recipe on the sheet for at most `limit` steps and `most` records, whether or not it passes.
     ///
     /// # Errors
-    /// The refusals 2 to 8 and 13.
+    /// The refusals 2 to 8, 13 and 16.
     pub fn run(
         &mut self,
         recipe: &[u8],
@@ -61,7 +61,7 @@ impl Gate {
     /// cause that [`check`](crate::check) tells.
     ///
     /// # Errors
-    /// The refusals 2 to 11 and 13 to 15.
+    /// The refusals 2 to 11 and 13 to 16.
     pub fn guarded(
         &mut self,
         recipe: &[u8],

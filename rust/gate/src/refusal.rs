@@ -37,11 +37,13 @@ pub enum Refusal {
     Combinations,
     /// 15: a field that a conjunct reads has no readings.
     Blank,
+    /// 16: a procedure is wrong, or the calls written out are too long or too deep.
+    Procedures,
 }
 
 impl Refusal {
     /// Every refusal, by number.
-    pub const ALL: [Refusal; 15] = [
+    pub const ALL: [Refusal; 16] = [
         Refusal::Room,
         Refusal::RecipeTable,
         Refusal::Entries,
@@ -57,9 +59,10 @@ impl Refusal {
         Refusal::Sheet,
         Refusal::Combinations,
         Refusal::Blank,
+        Refusal::Procedures,
     ];
 
-    /// Its number, 1 to 15.
+    /// Its number, 1 to 16.
     #[must_use]
     pub fn number(self) -> u8 {
         self as u8
@@ -90,6 +93,7 @@ impl Refusal {
             Refusal::Sheet => "the sheet is damaged, or belongs to another recipe",
             Refusal::Combinations => "a conjunct has over 1,048,576 combinations of readings",
             Refusal::Blank => "a field that a conjunct reads has no readings",
+            Refusal::Procedures => "a procedure is wrong, or the calls written out are too long or too deep",
         }
     }
 }

@@ -2,10 +2,12 @@
 //! byte, and the untouched rest.
 //!
 //! CASES gives the number of cases, SEED the first one's seed; both are printed, and how often the gate gave each
-//! answer, a run the refusal 13 and the analysis of nested loops each of its answers. A third of the recipes are
-//! nested loops of many rounds; for these the independent implementation takes its shortcuts, which its own tests
-//! compare with the walk word by word. The refusals 13 are told apart by the first wrong pair, which the independent
-//! implementation gives and the library does not. A case is its seed.
+//! answer, a run the refusal 13, the analysis of nested loops and of procedures each of its answers, and a run of
+//! procedures each of its ends. A third of the recipes are nested loops of many rounds and a third have procedures;
+//! for these the independent implementation takes its shortcuts, which its own tests compare with the walk word by
+//! word. The refusals 13 are told apart by the first wrong pair, and the refusals 16 by their cause, which the
+//! independent implementation gives and the library does not; so are the refusals 8 that come before a 16. A case is
+//! its seed.
 
 #![allow(
     clippy::cast_possible_truncation,
@@ -20,9 +22,10 @@ use gate::{check, derive, guarded, library, records, run, scratch, scratch_words
 use gate::{Choices, Guarded, Ran, Refusal, CONDITION, RECORD};
 use gate_oracle::generate::{self, Rng};
 use gate_oracle::loops::{loops, Size};
-use gate_oracle::nests;
+use gate_oracle::procedures::Misuse;
+use gate_oracle::recipe::Recipe;
 use gate_oracle::sheet::first_wrong;
-use gate_oracle::Verdict;
+use gate_oracle::{calls, misuses, nests, Verdict};
 use std::collections::BTreeMap;
 use std::sync::atomic::{AtomicU64, Ordering};
 use told::told;
@@ -42,7 +45,7 @@ fn setting(name: &str, usual: u64) -> u64 {
 
 /// The types of a recipe's fields, or else some types.
 fn field_types(recipe: &[u8]) -> Vec<u8> {
-    gate_oracle::recipe::Recipe::read(recipe).map_or_else(|_| vec![2], |recipe| recipe.fields)
+    Recipe::read(recipe).map_or_else(|_| vec![2], |recipe| recipe.fields)
 }
 
 /// The types that a condition lists, or else some types.
@@ -89,10 +92,19 @@ fn numbers(ran: Ran) -> (u8, u64, u64) {
     (ran.end as u8, ran.steps, ran.records)
 }
 
+/// What a recipe is made of.
+#[derive(Clone, Copy, PartialEq)]
+enum Made {
+    Any,
+    Loops,
+    Procedures,
+}
+
 /// What a run takes.
 struct Inputs {
-    /// Whether the recipe is one of nested loops of many rounds.
-    looped: bool,
+    made: Made,
+    /// The cause of 16 that another refusal comes before.
+    hidden: Option<Misuse>,
     recipe: Vec<u8>,
     sheet: Vec<u8>,
     limit: u32,
@@ -101,14 +113,42 @@ struct Inputs {
 
 impl Inputs {
     fn of(rng: &mut Rng) -> Inputs {
-        let looped = rng.chance(33);
-        let mut recipe = if looped { some_loops(rng) } else { generate::recipe(rng) };
-        if rng.chance(if looped { 2 } else { 15 }) {
-            generate::damage(rng, &mut recipe);
+        let made = rng.pick(&[Made::Any, Made::Loops, Made::Procedures]);
+        let (mut recipe, damaged) = match made {
+            Made::Any => (generate::recipe(rng), 15),
+            Made::Loops => (some_loops(rng), 2),
+            Made::Procedures => (calls::recipe(rng), 25),
+        };
+        let mut hidden = None;
+        if rng.chance(damaged) {
+            if made == Made::Procedures {
+                hidden = misuses::damage(rng, &mut recipe);
+            } else {
+                generate::damage(rng, &mut recipe);
+            }
         }
         let sheet = some_sheet(rng, &field_types(&recipe));
         let (limit, choices) = (generate::limit(rng), Choices::of_bytes(generate::choices(rng)));
-        Inputs { looped, recipe, sheet, limit, choices }
+        Inputs { made, hidden, recipe, sheet, limit, choices }
+    }
+
+    /// The condition as the other implementation has it.
+    fn derived(&self) -> Result<Vec<u8>, u8> {
+        if self.made == Made::Any {
+            gate_oracle::derive(&self.recipe)
+        } else {
+            gate_oracle::derive_quickly(&self.recipe)
+        }
+    }
+
+    /// The answer of the analysis in words, of 16 with its cause, and of 8 with the cause of 16 that it comes before.
+    fn told(&self, answer: &Result<Vec<u8>, u8>) -> String {
+        match (answer, Recipe::misuse(&self.recipe), self.hidden) {
+            (Ok(_), ..) => "a condition".to_string(),
+            (Err(16), Some(cause), _) => format!("refused 16, {cause:?}"),
+            (Err(8), _, Some(cause)) => format!("refused 8 before 16, {cause:?}"),
+            (Err(number), ..) => format!("refused {number}"),
+        }
     }
 
     /// The run as the other implementation has it.
@@ -134,14 +174,14 @@ impl Bench {
 
     /// The condition of a recipe: the same file or the same refusal, and nothing else touched.
     fn derive(&mut self, rng: &mut Rng, inputs: &Inputs) -> Result<Vec<u8>, u8> {
-        let recipe = &inputs.recipe;
-        let expected = if inputs.looped { gate_oracle::derive_quickly(recipe) } else { gate_oracle::derive(recipe) };
-        if inputs.looped {
-            let words = expected.as_ref().map_or_else(|number| format!("refused {number}"), |_| "a condition".into());
-            self.count("loops", &words);
+        let expected = inputs.derived();
+        match inputs.made {
+            Made::Any => {}
+            Made::Loops => self.count("loops", &inputs.told(&expected)),
+            Made::Procedures => self.count("procedures", &inputs.told(&expected)),
         }
         let length = CONDITION + rng.below(17);
-        let answer = derive(recipe, &mut self.condition[..length], &mut self.scratch);
+        let answer = derive(&inputs.recipe, &mut self.condition[..length], &mut self.scratch);
         match (&expected, answer) {
             (Ok(file), Ok(written)) => {
                 assert_eq!(&self.condition[..written], &file[..]);
@@ -284,8 +324,12 @@ impl Bench {
         let length = generate::log_length(rng);
         let derived = self.derive(rng, &inputs);
         let verdict = derived.as_ref().ok().map(|condition| self.check("derived", condition, &inputs.sheet));
-        if self.run(&inputs, length) == Err(Refusal::Sheet) {
-            self.count("runs", refused_sheet(&inputs.sheet, &field_types(&inputs.recipe)));
+        match self.run(&inputs, length) {
+            Err(Refusal::Sheet) => self.count("runs", refused_sheet(&inputs.sheet, &field_types(&inputs.recipe))),
+            Ok(ran) if inputs.made == Made::Procedures => {
+                self.count("runs of procedures", &format!("end {}", ran.end as u8));
+            }
+            _ => {}
         }
         self.guarded(&inputs, length, &derived, verdict);
         if seed.is_multiple_of(64) {
@@ -337,8 +381,14 @@ fn generated_cases() {
     let answers = ["derived", "other"].iter().flat_map(|kind| ANSWERS.map(|answer| format!("{kind}: {answer}")));
     let sheets = ["derived", "other", "runs"];
     let sheets = sheets.iter().flat_map(|kind| REFUSALS_OF_SHEETS.map(|answer| format!("{kind}: {answer}")));
-    let loops = ["a condition", "refused 9", "refused 10", "refused 11"].map(|answer| format!("loops: {answer}"));
-    for answer in answers.chain(sheets).chain(loops).chain(["other: refused 12".to_string()]) {
+    let walks = ["a condition", "refused 9", "refused 10", "refused 11"];
+    let walks = ["loops", "procedures"].iter().flat_map(|made| walks.map(|answer| format!("{made}: {answer}")));
+    let misused = ["refused 16", "refused 8 before 16"];
+    let misused = misused.iter().flat_map(|answer| Misuse::ALL.map(|cause| format!("procedures: {answer}, {cause:?}")));
+    let wrong = ["refused 5", "refused 6", "refused 8"].map(|answer| format!("procedures: {answer}"));
+    let ends = (0..5).map(|end| format!("runs of procedures: end {end}"));
+    let of_recipes = walks.chain(misused).chain(wrong).chain(ends);
+    for answer in answers.chain(sheets).chain(of_recipes).chain(["other: refused 12".to_string()]) {
         assert!(tally.contains_key(&answer) || cases < 10_000, "{answer} never occurs");
     }
 }

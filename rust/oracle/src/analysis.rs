@@ -1,12 +1,15 @@
-//! The analysis: walks backward from each site and gives the condition.
+//! The analysis: walks backward from each site and gives the condition. It
+//! goes over the recipe with each call written out in place.
 //!
 //! A conjunct is its nodes in postfix, held as in `condition`, with two further
 //! kinds of atoms during the walk: variables, with their number in the place of
 //! the field number, and loaded values, with the load's label there and with n.
 
+use crate::blocks::{Block, Code};
 use crate::condition::{field, file_order, kind, node, ty, MOST_CONJUNCTS, MOST_NODES, READING};
-use crate::recipe::{Block, Recipe, Statement, MOST_VARIABLES};
-use crate::types::{CONSTANT, CONVERT, COPY, END, LOAD, READ, SITE, STORE, WHILE};
+use crate::recipe::{Recipe, Tray, MOST_VARIABLES};
+use crate::statements::Statement;
+use crate::types::{ADD, CONSTANT, CONVERT, COPY, DIVIDE, END, LOAD, READ, SITE, STORE, WHILE};
 use std::cell::Cell;
 use std::cmp::Ordering;
 
@@ -29,7 +32,8 @@ type Conjunct = Vec<u64>;
 
 /// A set of conjuncts: sorted, each once. `variables` and `trays` have a bit for
 /// each variable and for each tray with a loaded value that occurs in them, so
-/// that a statement that concerns none is passed over at once.
+/// that a statement that concerns none is passed over at once. Variables whose
+/// numbers are equal modulo 64 share a bit.
 #[derive(Clone, Default)]
 struct Set {
     conjuncts: Vec<Conjunct>,
@@ -55,14 +59,14 @@ pub fn quickly(recipe: &Recipe) -> Result<Vec<Conjunct>, u8> {
 
 /// The conjuncts within other limits, word by word or by way of the shortcuts.
 pub fn within(recipe: &Recipe, limits: Limits, quick: bool) -> Result<Vec<Conjunct>, u8> {
-    Walk { recipe, limits, quick, walked: &[] }.sites()
+    Walk::new(recipe, limits, quick, &[]).sites()
 }
 
-/// How often the body of each while is walked, by the label of the while.
+/// How often the body of each while is walked, by the place of the while in the written-out recipe.
 pub fn walks(recipe: &Recipe, limits: Limits, quick: bool) -> Vec<u64> {
-    let walked = vec![Cell::new(0); recipe.statements.len()];
+    let walked = vec![Cell::new(0); recipe.written.code.statements.len()];
     // A refusal ends the walks that are counted.
-    let _ = Walk { recipe, limits, quick, walked: &walked }.sites();
+    let _ = Walk::new(recipe, limits, quick, &walked).sites();
     walked.into_iter().map(Cell::into_inner).collect()
 }
 
@@ -135,8 +139,8 @@ fn expand(conjunct: &mut Conjunct, old: u64, new: &[u64], most: usize) -> Result
 
 impl Set {
     /// Applies a change to every conjunct and restores order; the change says
-    /// whether it did anything.
-    fn change(&mut self, mut f: impl FnMut(&mut Conjunct) -> Result<bool, u8>) -> Result<(), u8> {
+    /// whether it did anything, and so does this.
+    fn change(&mut self, mut f: impl FnMut(&mut Conjunct) -> Result<bool, u8>) -> Result<bool, u8> {
         let mut changed = false;
         for conjunct in &mut self.conjuncts {
             changed |= f(conjunct)?;
@@ -145,8 +149,19 @@ impl Set {
             self.conjuncts.sort_unstable_by(order);
             self.conjuncts.dedup();
         }
-        Ok(())
+        Ok(changed)
     }
+
+    /// The bits of the variables that occur.
+    fn occurring(&self) -> u64 {
+        let nodes = self.conjuncts.iter().flatten();
+        nodes.filter(|&&n| kind(n) == VARIABLE).fold(0, |bits, &n| bits | bit(field(n) as u16))
+    }
+}
+
+/// The bit of a variable.
+fn bit(variable: u16) -> u64 {
+    1 << (variable & 63)
 }
 
 /// How a piece is walked: as document 01 has it, or lightly, its whiles by what is new alone. A light walk
@@ -158,19 +173,27 @@ enum Way {
 }
 
 struct Walk<'a> {
-    recipe: &'a Recipe,
+    code: &'a Code,
+    /// The types of the variables.
+    types: &'a [u8],
+    trays: &'a [Tray],
     limits: Limits,
     quick: bool,
     /// For each label how often the body of its while was walked, or nothing where it is not counted.
     walked: &'a [Cell<u64>],
 }
 
-impl Walk<'_> {
+impl<'a> Walk<'a> {
+    fn new(recipe: &'a Recipe, limits: Limits, quick: bool, walked: &'a [Cell<u64>]) -> Walk<'a> {
+        let written = &recipe.written;
+        Walk { code: &written.code, types: &written.variables, trays: &recipe.trays, limits, quick, walked }
+    }
+
     /// The set of all sites, in file order.
     fn sites(&self) -> Result<Vec<Conjunct>, u8> {
         let mut all = Set::default();
-        let mut last = [None; MOST_VARIABLES];
-        for (label, s) in self.recipe.statements.iter().enumerate() {
+        let mut last = vec![None; self.types.len()];
+        for (label, s) in self.code.statements.iter().enumerate() {
             if s.kind == SITE {
                 let earlier = last[s.a as usize].replace(label);
                 if self.quick && earlier.is_some_and(|earlier| self.repeats(earlier, label)) {
@@ -186,22 +209,22 @@ impl Walk<'_> {
 
     /// The set of one site at the recipe's start.
     fn site(&self, label: usize) -> Result<Set, u8> {
-        let variable = self.recipe.statements[label].a;
-        let mut set = Set { conjuncts: vec![vec![self.variable(variable)]], variables: 1 << variable, trays: 0 };
+        let variable = self.code.statements[label].a;
+        let mut set = Set { conjuncts: vec![vec![self.variable(variable)]], variables: bit(variable), trays: 0 };
         let mut at = label;
-        let mut inside = self.recipe.inside[label];
+        let mut inside = self.code.inside[label];
         while let Some(block) = inside {
-            let block = &self.recipe.blocks[block];
+            let block = &self.code.blocks[block];
             let start = match block.middle {
                 Some(middle) if middle < at => middle + 1,
                 _ => block.open + 1,
             };
             set = self.back(start, at, set, Way::Word)?;
-            if self.recipe.statements[block.open].kind == WHILE {
+            if self.code.statements[block.open].kind == WHILE {
                 set = self.settle(block, &set, Way::Word)?;
             }
             at = block.open;
-            inside = self.recipe.inside[at];
+            inside = self.code.inside[at];
         }
         set = self.back(0, at, set, Way::Word)?;
         Self::start(set)
@@ -211,8 +234,8 @@ impl Walk<'_> {
     fn back(&self, start: usize, mut at: usize, mut set: Set, way: Way) -> Result<Set, u8> {
         while at > start {
             at -= 1;
-            if self.recipe.statements[at].kind == END {
-                let block = &self.recipe.blocks[self.recipe.block[at].unwrap()];
+            if self.code.statements[at].kind == END {
+                let block = &self.code.blocks[self.code.block[at].unwrap()];
                 set = match block.middle {
                     Some(middle) => {
                         let yes = self.back(block.open + 1, middle, set.clone(), way)?;
@@ -285,8 +308,8 @@ impl Walk<'_> {
     /// Whether a site repeats an earlier one on the same variable: what stands between is plain and does not
     /// write it.
     fn repeats(&self, earlier: usize, label: usize) -> bool {
-        let variable = self.recipe.statements[label].a;
-        self.recipe.statements[earlier + 1..label]
+        let variable = self.code.statements[label].a;
+        self.code.statements[earlier + 1..label]
             .iter()
             .all(|s| s.kind == STORE || s.kind == SITE || s.kind < STORE && s.a != variable)
     }
@@ -324,36 +347,53 @@ impl Walk<'_> {
     /// The rule of one statement. Kinds 0 to 6 put in no atoms with n and leave
     /// those present in their order, so they need no renumbering.
     fn statement(&self, label: usize, set: &mut Set) -> Result<(), u8> {
-        let s = self.recipe.statements[label];
+        let s = self.code.statements[label];
         if s.kind == STORE {
             return self.store(s, set);
         }
-        let bit = 1u64 << (s.a & 63);
-        if s.kind > LOAD || set.variables & bit == 0 {
+        if s.kind > LOAD || set.variables & bit(s.a) == 0 {
             return Ok(());
         }
-        set.variables &= !bit;
+        let found = self.replace(label, s, set)?;
+        if self.types.len() > MOST_VARIABLES {
+            // The bit may be another variable's as well.
+            if found {
+                set.variables = set.occurring();
+            }
+            return Ok(());
+        }
+        set.variables &= !bit(s.a);
+        if found {
+            set.variables |= match s.kind {
+                COPY | CONVERT => bit(s.b),
+                ADD..=DIVIDE => bit(s.b) | bit(s.c),
+                _ => 0,
+            };
+        }
+        Ok(())
+    }
+
+    /// Replaces the variable that a statement of kind 0 to 8 sets by its right side; whether it occurs.
+    fn replace(&self, label: usize, s: Statement, set: &mut Set) -> Result<bool, u8> {
         let old = self.variable(s.a);
-        let ty = self.recipe.variables[s.a as usize];
+        let ty = self.types[s.a as usize];
         match s.kind {
             CONSTANT => {
                 let new = node(CONSTANT, ty, 0, s.immediate);
                 set.change(|c| Ok(swap(c, old, new)))
             }
             COPY => {
-                set.variables |= 1 << s.b;
                 let new = self.variable(s.b);
                 set.change(|c| Ok(swap(c, old, new)))
             }
             CONVERT => {
-                set.variables |= 1 << s.b;
                 let new = [self.variable(s.b), node(CONVERT, ty, 0, 0)];
                 set.change(|c| expand(c, old, &new, self.limits.nodes))
             }
             READ | LOAD => {
                 // A fresh atom has n = 0 until it is renumbered.
                 let new = if s.kind == READ {
-                    node(READING, ty, u16::from(s.b), 0)
+                    node(READING, ty, s.b, 0)
                 } else {
                     set.trays |= 1 << s.b;
                     node(LOADED, ty, label as u16, 0)
@@ -367,7 +407,6 @@ impl Walk<'_> {
                 })
             }
             _ => {
-                set.variables |= 1 << s.b | 1 << s.c;
                 let new = [self.variable(s.b), self.variable(s.c), node(s.kind, ty, 0, 0)];
                 set.change(|c| expand(c, old, &new, self.limits.nodes))
             }
@@ -376,15 +415,15 @@ impl Walk<'_> {
 
     /// The rule of a store. It makes no conjunct longer, so 9 cannot arise.
     fn store(&self, s: Statement, set: &mut Set) -> Result<(), u8> {
-        let bit = 1u16 << s.a;
-        if set.trays & bit == 0 {
+        let tray = 1u16 << s.a;
+        if set.trays & tray == 0 {
             return Ok(());
         }
-        set.variables |= 1 << s.c;
+        set.variables |= bit(s.c);
         let stored = self.variable(s.c);
-        if self.recipe.trays[s.a as usize].length == 1 {
-            set.trays &= !bit;
-            return set.change(|conjunct| {
+        if self.trays[s.a as usize].length == 1 {
+            set.trays &= !tray;
+            set.change(|conjunct| {
                 let mut found = false;
                 for n in conjunct.iter_mut() {
                     if self.loaded_from(*n, s.a) {
@@ -393,7 +432,8 @@ impl Walk<'_> {
                     }
                 }
                 Ok(found)
-            });
+            })?;
+            return Ok(());
         }
         let mut conjuncts = Vec::with_capacity(self.limits.conjuncts);
         for conjunct in std::mem::take(&mut set.conjuncts) {
@@ -444,12 +484,12 @@ impl Walk<'_> {
     }
 
     /// The node of a variable.
-    fn variable(&self, variable: u8) -> u64 {
-        node(VARIABLE, self.recipe.variables[variable as usize], u16::from(variable), 0)
+    fn variable(&self, variable: u16) -> u64 {
+        node(VARIABLE, self.types[variable as usize], variable, 0)
     }
 
     /// Whether a node is a value loaded from a tray.
-    fn loaded_from(&self, n: u64, tray: u8) -> bool {
-        kind(n) == LOADED && self.recipe.statements[field(n)].b == tray
+    fn loaded_from(&self, n: u64, tray: u16) -> bool {
+        kind(n) == LOADED && self.code.statements[field(n)].b == tray
     }
 }

@@ -1,12 +1,22 @@
 //! Recipes, conjuncts and sheets by their parts, for tests and benchmarks.
 
 use crate::condition::{node, READING};
-use crate::types::{ADD, CONSTANT, CONVERT, DIVIDE, MULTIPLY, SUBTRACT, TYPES};
+use crate::recipe::word;
+use crate::types::{ADD, CALL, CONSTANT, CONVERT, DIVIDE, MULTIPLY, PROCEDURE, SUBTRACT, TYPES};
 
 /// The recipe file of its four sections.
 #[must_use]
 pub fn recipe(fields: &[u8], variables: &[u8], trays: &[[u8; 4]], statements: &[[u8; 8]]) -> Vec<u8> {
     of_parts(&[fields, variables, &trays.concat(), &statements.concat()])
+}
+
+/// The four sections of a recipe file whose table is right.
+#[must_use]
+pub fn sections(recipe: &[u8]) -> [Vec<u8>; 4] {
+    [0, 1, 2, 3].map(|i| {
+        let (offset, length) = (word(recipe, 8 * i) as usize, word(recipe, 8 * i + 4) as usize);
+        recipe[offset..offset + length].to_vec()
+    })
 }
 
 /// The sheet file of the bytes of each field's readings.
@@ -43,6 +53,20 @@ pub fn s(kind: u8, a: u8, b: u8, c: u8) -> [u8; 8] {
 pub fn constant(a: u8, value: i64) -> [u8; 8] {
     let v = (value as u32).to_le_bytes();
     [0, a, 0, 0, v[0], v[1], v[2], v[3]]
+}
+
+/// The opening of a procedure: its parameters, its first own variable and how many it has.
+#[must_use]
+pub fn procedure(parameters: u8, first: u8, count: u8) -> [u8; 8] {
+    s(PROCEDURE, parameters, first, count)
+}
+
+/// A call: its target, the number of the procedure and the arguments, at most four.
+#[must_use]
+pub fn call(target: u8, procedure: u8, arguments: &[u8]) -> [u8; 8] {
+    let mut statement = s(CALL, target, procedure, 0);
+    statement[4..4 + arguments.len()].copy_from_slice(arguments);
+    statement
 }
 
 /// A conjunct from the words of its listing. A word without a type has the one given.

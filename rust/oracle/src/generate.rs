@@ -5,8 +5,8 @@ use crate::condition::{self, file_order, node, MOST_NODES, READING};
 use crate::recipe::{word, MOST_STATEMENTS};
 use crate::sheet::MOST_READINGS;
 use crate::types::{
-    immediate, is_signed, width, wrap, ADD, CONSTANT, CONVERT, COPY, DIVIDE, ELSE, END, IF, LOAD, MULTIPLY, READ, SITE,
-    STORE, SUBTRACT, TYPES, WHILE,
+    immediate, is_signed, width, wrap, ADD, CALL, CONSTANT, CONVERT, COPY, DIVIDE, ELSE, END, IF, LOAD, MULTIPLY, READ,
+    SITE, STORE, SUBTRACT, TYPES, WHILE,
 };
 
 /// A small random generator (splitmix).
@@ -66,31 +66,49 @@ impl Rng {
 /// What the maker of recipes guesses of a value: the nodes of its expression and
 /// its number of conjuncts.
 #[derive(Clone, Copy)]
-struct Guess {
+pub(crate) struct Guess {
     nodes: usize,
     ways: usize,
 }
 
-const ZERO: Guess = Guess { nodes: 1, ways: 1 };
+pub(crate) const ZERO: Guess = Guess { nodes: 1, ways: 1 };
 
 /// A guess, kept small enough to go on reckoning with.
 fn guess(nodes: usize, ways: usize) -> Guess {
     Guess { nodes: nodes.min(1_000), ways: ways.min(1_000) }
 }
 
-/// A recipe under way.
-struct Maker<'a> {
+/// What a call needs to know of a procedure: the types of its parameters and of its result, what the result is
+/// guessed to be of parameters that are one node, and how deep its body nests.
+pub(crate) struct Callable {
+    pub(crate) parameters: Vec<u8>,
+    pub(crate) result: u8,
+    pub(crate) guess: Guess,
+    pub(crate) depth: usize,
+}
+
+/// What recipes are made over: fields and trays by their types.
+#[derive(Clone)]
+pub(crate) struct Tables {
+    pub(crate) fields: Vec<u8>,
+    pub(crate) trays: Vec<(u8, u16)>,
+}
+
+/// A recipe or a procedure's body under way.
+pub(crate) struct Maker<'a> {
     rng: &'a mut Rng,
     fields: Vec<u8>,
-    variables: Vec<u8>,
+    pub(crate) variables: Vec<u8>,
     trays: Vec<(u8, u16)>,
-    statements: Vec<[u8; 8]>,
+    /// The procedures that may be called.
+    callable: &'a [Callable],
+    pub(crate) statements: Vec<[u8; 8]>,
     /// The first variables are ordinary; those after are kept for counters and indices.
     ordinary: usize,
     /// Without care for what the analysis will say.
     wild: bool,
     /// What each variable and tray is guessed to hold.
-    values: Vec<Guess>,
+    pub(crate) values: Vec<Guess>,
     held: Vec<Guess>,
     /// Inside loops a tray takes from variables below its rank and gives to those above.
     ranks: Vec<usize>,
@@ -120,21 +138,10 @@ pub fn recipe(rng: &mut Rng) -> Vec<u8> {
         let length = rng.pick(&[1, 1, 1, 2, 2, 3, 4, 7, 256]);
         trays.push((if rng.chance(80) { rng.pick(&variables[..ordinary]) } else { any(rng) }, length));
     }
-    let wild = rng.chance(20);
-    let ranks = trays.iter().map(|_| rng.below(ordinary + 1)).collect();
-    let (values, held) = (vec![ZERO; variables.len()], vec![ZERO; trays.len()]);
-    let mut maker =
-        Maker { rng, fields, variables, trays, statements: Vec::new(), ordinary, wild, values, held, ranks };
+    let mut maker = Maker::new(rng, Tables { fields, trays }, variables, ordinary, &[]);
     let size = maker.rng.pick(&[4, 8, 12, 16, 20, 25, 30, 40, 60, 120]);
     let size = if maker.rng.chance(1) { 900 } else { size };
-    // Mostly some readings to begin with.
-    for _ in 0..maker.rng.pick(&[0, 2, 4, 6]) {
-        maker.read();
-    }
-    maker.body(size, 0, false);
-    for _ in 0..maker.rng.between(1, 2) {
-        maker.site();
-    }
+    maker.whole(size);
     maker.statements.truncate(MOST_STATEMENTS);
     write(&maker.fields, &maker.variables, &maker.trays, &maker.statements)
 }
@@ -215,24 +222,52 @@ fn sums_of_readings(rng: &mut Rng) -> Vec<u8> {
 }
 
 /// The file of a recipe.
-fn write(fields: &[u8], variables: &[u8], trays: &[(u8, u16)], statements: &[[u8; 8]]) -> Vec<u8> {
+pub(crate) fn write(fields: &[u8], variables: &[u8], trays: &[(u8, u16)], statements: &[[u8; 8]]) -> Vec<u8> {
     let trays: Vec<[u8; 4]> = trays.iter().map(|&(ty, length)| [ty, 0, length as u8, (length >> 8) as u8]).collect();
     build::recipe(fields, variables, &trays, statements)
 }
 
-impl Maker<'_> {
-    fn push(&mut self, kind: u8, a: usize, b: usize, c: usize, immediate: u32) {
+impl<'a> Maker<'a> {
+    /// A maker over variables of some types, of which the first are ordinary.
+    pub(crate) fn new(
+        rng: &'a mut Rng,
+        tables: Tables,
+        variables: Vec<u8>,
+        ordinary: usize,
+        callable: &'a [Callable],
+    ) -> Maker<'a> {
+        let Tables { fields, trays } = tables;
+        let wild = rng.chance(20);
+        let ranks = trays.iter().map(|_| rng.below(ordinary + 1)).collect();
+        let (values, held) = (vec![ZERO; variables.len()], vec![ZERO; trays.len()]);
+        let statements = Vec::new();
+        Maker { rng, fields, variables, trays, callable, statements, ordinary, wild, values, held, ranks }
+    }
+
+    pub(crate) fn push(&mut self, kind: u8, a: usize, b: usize, c: usize, immediate: u32) {
         let i = immediate.to_le_bytes();
         self.statements.push([kind, a as u8, b as u8, c as u8, i[0], i[1], i[2], i[3]]);
     }
 
+    /// A whole recipe of about `size` statements: mostly some readings to begin with, and sites at the end.
+    pub(crate) fn whole(&mut self, size: usize) {
+        for _ in 0..self.rng.pick(&[0, 2, 4, 6]) {
+            self.read();
+        }
+        self.body(size, 0, false);
+        for _ in 0..self.rng.between(1, 2) {
+            self.site();
+        }
+    }
+
     /// Statements of one block: about `size`, nested up to 4 deep.
-    fn body(&mut self, size: usize, depth: usize, looped: bool) {
+    pub(crate) fn body(&mut self, size: usize, depth: usize, looped: bool) {
         let until = self.statements.len() + size;
         while self.statements.len() < until && self.statements.len() < MOST_STATEMENTS - 40 {
             let left = until - self.statements.len();
             let blocks = if depth < 4 && left > 3 { 6 } else { 0 };
-            match self.rng.weighted(&[4, 7, 40, 10, 20, 14, 14, 5, blocks, blocks]) {
+            let calls = if self.callable.is_empty() { 0 } else { 25 };
+            match self.rng.weighted(&[4, 7, 40, 10, 20, 14, 14, 5, blocks, blocks, calls]) {
                 0 => self.constant(),
                 1 => self.copy(looped),
                 2 => self.arithmetic(looped),
@@ -242,7 +277,8 @@ impl Maker<'_> {
                 6 => self.store(looped),
                 7 => self.site(),
                 8 => self.choice(left, depth, looped),
-                _ => self.repeat(left, depth),
+                9 => self.repeat(left, depth),
+                _ => self.call(depth, looped),
             }
         }
     }
@@ -294,6 +330,32 @@ impl Maker<'_> {
         }
         let kind = self.rng.pick(&[ADD, ADD, ADD, SUBTRACT, SUBTRACT, MULTIPLY, MULTIPLY, DIVIDE]);
         self.push(kind, a, b, c, 0);
+        self.values[a] = guess;
+    }
+
+    /// A call of any procedure, seldom of one that would nest too deep.
+    fn call(&mut self, depth: usize, looped: bool) {
+        let callable = self.callable;
+        let number = self.rng.below(callable.len());
+        let Callable { parameters, result, guess: inner, depth: deeper } = &callable[number];
+        let targets: Vec<usize> = (0..self.ordinary).filter(|&v| self.variables[v] == *result).collect();
+        if targets.is_empty() || depth + deeper > 4 && self.rng.chance(97) {
+            return self.read();
+        }
+        let a = self.rng.pick(&targets);
+        let mut arguments = [0; 4];
+        let (mut nodes, mut ways) = (inner.nodes, inner.ways);
+        for (place, &ty) in parameters.iter().enumerate() {
+            let Some(argument) = self.source(ty, a, looped) else { return self.read() };
+            arguments[place] = argument as u8;
+            nodes += 2 * self.values[argument].nodes;
+            ways *= self.values[argument].ways;
+        }
+        let guess = guess(nodes, ways);
+        if !self.wild && (guess.nodes > 115 || guess.ways > 40) && self.rng.chance(97) {
+            return self.read();
+        }
+        self.push(CALL, a, number, 0, u32::from_le_bytes(arguments));
         self.values[a] = guess;
     }
 

@@ -1,10 +1,11 @@
-//! The survey gate of document 01 and of document 02's Cards 1 to 3: recipe,
+//! The survey gate of document 01 and of document 02's Cards 1 to 4: recipe,
 //! condition, sheet, gate and run.
 //!
 //! An independent implementation, written from the documents for differential
 //! tests and benchmarks. A refusal is the number of its cause in document 01's
-//! table, which takes Card 1's 15. Cause 1 speaks of lent lengths and cannot
-//! arise here, since the library owns its outputs and scratch.
+//! table, which takes Card 1's 15 and Card 4's 16. Cause 1 speaks of lent
+//! lengths and cannot arise here, since the library owns its outputs and
+//! scratch.
 
 #![allow(
     clippy::cast_possible_truncation,
@@ -17,7 +18,9 @@
 pub mod analysis;
 pub mod batched;
 pub mod bigint;
+pub mod blocks;
 pub mod build;
+pub mod calls;
 pub mod columns;
 pub mod combinations;
 pub mod condition;
@@ -25,10 +28,13 @@ pub mod failures;
 pub mod gate;
 pub mod generate;
 pub mod loops;
+pub mod misuses;
 pub mod nests;
+pub mod procedures;
 pub mod recipe;
 pub mod run;
 pub mod sheet;
+pub mod statements;
 pub mod types;
 pub mod vectors;
 pub mod whole;
@@ -39,7 +45,7 @@ pub use run::{run, Ran};
 pub use types::Cause;
 pub use whole::{whole_bits, whole_run, Noted};
 
-/// The condition file of a recipe, or the refusal 2 to 11.
+/// The condition file of a recipe, or the refusal 2 to 11 or 16.
 pub fn derive(recipe: &[u8]) -> Result<Vec<u8>, u8> {
     let recipe = recipe::Recipe::read(recipe)?;
     let conjuncts = analysis::conjuncts(&recipe)?;

@@ -10,9 +10,10 @@
 //! chain is too long for 16 rounds, unless it is started in its middle as well (`long`), they give up: the value
 //! starts it at both places, an outer link at the first alone.
 
+use crate::blocks::DEEPEST;
 use crate::build::{constant, recipe, s};
 use crate::generate::Rng;
-use crate::recipe::{DEEPEST, MOST_STATEMENTS, MOST_VARIABLES};
+use crate::recipe::{MOST_STATEMENTS, MOST_VARIABLES};
 use crate::types::{ADD, COPY, ELSE, END, IF, LOAD, READ, SITE, STORE, WHILE};
 
 const U32: u8 = 2;

@@ -47,6 +47,8 @@ pub const IF: u8 = 11;
 pub const ELSE: u8 = 12;
 pub const END: u8 = 13;
 pub const WHILE: u8 = 14;
+pub const PROCEDURE: u8 = 15;
+pub const CALL: u8 = 16;
 
 /// Whether a type code is one of the signed types.
 #[inline]

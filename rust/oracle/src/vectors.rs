@@ -4,7 +4,7 @@ use std::fs;
 use std::path::{Path, PathBuf};
 
 /// The sets, by their folders' names.
-const SETS: [&str; 3] = ["base", "card-01", "card-02"];
+const SETS: [&str; 4] = ["base", "card-01", "card-02", "card-04"];
 
 /// A case: what it takes beside its files, and the answers. A gate's answer that is
 /// empty is none, and is not compared.

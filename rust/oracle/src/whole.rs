@@ -1,6 +1,7 @@
 //! The whole-number run of demand 3.
 //!
-//! It takes the steps of the run, decided by the wrapped values. Beside each
+//! It takes the steps of the run, decided by the wrapped values, over the recipe
+//! with each call written out in place. Beside each
 //! variable and cell it keeps what its value was made from: a number given by an
 //! immediate or a reading, or an arithmetic step or conversion on such makings.
 //! A making stands for the whole number and for the set of places: the number
@@ -9,6 +10,7 @@
 //! reaches a site is ever worked out.
 
 use crate::bigint::BigInt;
+use crate::procedures::Origin;
 use crate::recipe::Recipe;
 use crate::sheet::Sheet;
 use crate::types::{
@@ -35,16 +37,16 @@ enum Making {
 /// A run's makings, and the label and making of each site taken.
 struct Trace {
     makings: Vec<Making>,
-    sites: Vec<(usize, usize)>,
+    sites: Vec<(u16, usize)>,
 }
 
-/// The notes of the whole-number run, or the refusal 2 to 8 or 13.
+/// The notes of the whole-number run, or the refusal 2 to 8, 16 or 13.
 pub fn whole_run(recipe: &[u8], sheet: &[u8], limit: u32, choices: &[u8], log_len: usize) -> Result<Vec<Noted>, u8> {
     let trace = trace(recipe, sheet, limit, choices, log_len)?;
     let numbers = trace.numbers();
     let mut notes = Vec::with_capacity(trace.sites.len());
     for (&(label, making), overflows) in trace.sites.iter().zip(trace.overflows()) {
-        notes.push(Noted { label: label as u16, number: numbers[making].clone(), overflows });
+        notes.push(Noted { label, number: numbers[making].clone(), overflows });
     }
     Ok(notes)
 }
@@ -81,26 +83,29 @@ fn trace(recipe: &[u8], sheet: &[u8], limit: u32, choices: &[u8], log_len: usize
     let sheet = Sheet::read(sheet, &recipe.fields)?;
     // Making 0 is the number 0 that everything starts with.
     let mut trace = Trace { makings: vec![Making::Given(0)], sites: Vec::new() };
-    let mut variables = vec![Kept::default(); recipe.variables.len()];
+    let written = &recipe.written;
+    let code = &written.code;
+    let mut variables = vec![Kept::default(); written.variables.len()];
     let mut trays: Vec<Vec<Kept>> = recipe.trays.iter().map(|tray| vec![Kept::default(); tray.length]).collect();
     let mut steps = 0u32;
     let mut reads = 0;
-    let mut label = 0;
-    while label < recipe.statements.len() {
-        let s = &recipe.statements[label];
-        let block = recipe.block[label].map(|b| &recipe.blocks[b]);
+    let mut place = 0;
+    while place < code.statements.len() {
+        let s = &code.statements[place];
+        let block = code.block[place].map(|b| &code.blocks[b]);
         let (a, b, c) = (s.a as usize, s.b as usize, s.c as usize);
         // Else and end are no steps.
         if s.kind == ELSE {
-            label = block.unwrap().end + 1;
+            place = block.unwrap().end + 1;
             continue;
         }
         if s.kind == END {
             let block = block.unwrap();
-            label = if block.middle.is_some() { label + 1 } else { block.open };
+            place = if block.middle.is_some() { place + 1 } else { block.open };
             continue;
         }
-        if steps == limit {
+        let origin = written.origins[place];
+        if origin != Origin::Silent && steps == limit {
             break;
         }
         let index = |variables: &[Kept], variable: usize, tray: usize| {
@@ -108,14 +113,14 @@ fn trace(recipe: &[u8], sheet: &[u8], limit: u32, choices: &[u8], log_len: usize
         };
         match s.kind {
             CONSTANT => {
-                let ty = recipe.variables[a];
+                let ty = written.variables[a];
                 let held = immediate(ty, s.immediate).unwrap();
                 variables[a] = Kept { held, making: trace.push(Making::Given(number(ty, held))) };
             }
             COPY => variables[a] = variables[b],
             ADD..=DIVIDE => {
                 let (left, right) = (variables[b], variables[c]);
-                let ty = recipe.variables[a];
+                let ty = written.variables[a];
                 let (held, overflowed) = wrapping(s.kind, ty, left.held, right.held);
                 let (left, right) = (left.making, right.making);
                 let worked = Making::Worked { kind: s.kind, left, right, overflowed };
@@ -123,7 +128,7 @@ fn trace(recipe: &[u8], sheet: &[u8], limit: u32, choices: &[u8], log_len: usize
             }
             CONVERT => {
                 let Kept { held, making } = variables[b];
-                let (from, to) = (recipe.variables[b], recipe.variables[a]);
+                let (from, to) = (written.variables[b], written.variables[a]);
                 let overflowed = !fits(from, to, held);
                 let worked = Making::Worked { kind: CONVERT, left: making, right: making, overflowed };
                 variables[a] = Kept { held: wrap(to, held), making: trace.push(worked) };
@@ -146,17 +151,18 @@ fn trace(recipe: &[u8], sheet: &[u8], limit: u32, choices: &[u8], log_len: usize
                 if trace.sites.len() == log_len / 12 {
                     break;
                 }
+                let Origin::Step(label) = origin else { unreachable!("a site is a step") };
                 trace.sites.push((label, variables[a].making));
             }
             _ => {
                 if variables[a].held == 0 {
                     let block = block.unwrap();
-                    label = block.middle.unwrap_or(block.end);
+                    place = block.middle.unwrap_or(block.end);
                 }
             }
         }
-        steps += 1;
-        label += 1;
+        steps += u32::from(origin != Origin::Silent);
+        place += 1;
     }
     Ok(trace)
 }

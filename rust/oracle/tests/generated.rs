@@ -24,7 +24,7 @@ fn field_types(recipe: &[u8]) -> Vec<u8> {
 /// A log's 8 bytes as the number they give.
 fn logged(recipe: &[u8], label: u16, bytes: &[u8]) -> BigInt {
     let recipe = recipe::Recipe::read(recipe).unwrap();
-    let ty = recipe.variables[recipe.statements[label as usize].a as usize];
+    let ty = recipe.variables[recipe.listed.statements[label as usize].a as usize];
     let value = u64::from_le_bytes(bytes.try_into().unwrap());
     let number = types::number(ty, value);
     let range = &TYPES[ty as usize];
@@ -74,9 +74,12 @@ fn coherent() {
     let mut count = |what: String| *tally.entry(what).or_default() += 1;
     for case in 0..CASES {
         let rng = &mut Rng::new(case);
-        let mut recipe = generate::recipe(rng);
+        let with_procedures = rng.chance(33);
+        let mut recipe = if with_procedures { calls::recipe(rng) } else { generate::recipe(rng) };
         let damaged = rng.chance(15);
-        if damaged {
+        if damaged && with_procedures {
+            misuses::damage(rng, &mut recipe);
+        } else if damaged {
             generate::damage(rng, &mut recipe);
         }
         let types = field_types(&recipe);
@@ -161,7 +164,7 @@ fn coherent() {
     for answer in ANSWERS {
         assert!(times(&format!("gate on derived: {answer}")) > 0, "{answer} never occurs");
     }
-    for number in 2..=11 {
+    for number in (2..=11).chain([16]) {
         let sum = times(&format!("derive, whole: refused {number:2}"))
             + times(&format!("derive, damaged: refused {number:2}"));
         assert!(sum > 0, "refusal {number} never occurs");

@@ -95,8 +95,8 @@ fn arithmetic() {
 #[derive(Clone, PartialEq, Eq, PartialOrd, Ord)]
 enum Tree {
     Constant(u8, u32),
-    Variable(u8),
-    Reading(u8, u32),
+    Variable(u16),
+    Reading(u16, u32),
     Loaded(usize, u32),
     Step(u8, u8, Box<Tree>, Box<Tree>),
     Convert(u8, Box<Tree>),
@@ -124,7 +124,7 @@ impl Tree {
     }
 
     fn renumbered(&self) -> Tree {
-        let mut fields: BTreeMap<u8, Vec<u32>> = BTreeMap::new();
+        let mut fields: BTreeMap<u16, Vec<u32>> = BTreeMap::new();
         let mut labels: BTreeMap<usize, Vec<u32>> = BTreeMap::new();
         let place = |met: &mut Vec<u32>, n: u32| {
             if !met.contains(&n) {
@@ -166,7 +166,7 @@ enum Part {
 
 fn parts(recipe: &recipe::Recipe, at: &mut usize) -> Vec<Part> {
     let mut list = Vec::new();
-    while let Some(s) = recipe.statements.get(*at) {
+    while let Some(s) = recipe.written.code.statements.get(*at) {
         let label = *at;
         *at += 1;
         match s.kind {
@@ -232,9 +232,9 @@ fn rounds(recipe: &recipe::Recipe, body: &[Part], first: &Trees) -> Result<Trees
 }
 
 fn plain(recipe: &recipe::Recipe, label: usize, set: &Trees) -> Result<Trees, u8> {
-    let s = recipe.statements[label];
-    let variable = |v: u8| Box::new(Tree::Variable(v));
-    let own = |v: u8| recipe.variables[v as usize];
+    let s = recipe.written.code.statements[label];
+    let variable = |v: u16| Box::new(Tree::Variable(v));
+    let own = |v: u16| recipe.written.variables[v as usize];
     let new = match s.kind {
         CONSTANT => Tree::Constant(own(s.a), s.immediate),
         COPY => Tree::Variable(s.b),
@@ -243,7 +243,8 @@ fn plain(recipe: &recipe::Recipe, label: usize, set: &Trees) -> Result<Trees, u8
         READ => Tree::Reading(s.b, 9_999),
         LOAD => Tree::Loaded(label, 9_999),
         STORE => {
-            let of_tray = |tree: &Tree| matches!(tree, Tree::Loaded(l, _) if recipe.statements[*l].b == s.a);
+            let of_tray =
+                |tree: &Tree| matches!(tree, Tree::Loaded(l, _) if recipe.written.code.statements[*l].b == s.a);
             let mut all = Vec::new();
             for tree in set {
                 let mut atoms: Vec<Tree> = Vec::new();
@@ -282,7 +283,7 @@ fn plain(recipe: &recipe::Recipe, label: usize, set: &Trees) -> Result<Trees, u8
 fn from(recipe: &recipe::Recipe, list: &[Part], site: usize) -> Result<Trees, u8> {
     let place = list.iter().position(|part| has(std::slice::from_ref(part), site)).unwrap();
     let set = match &list[place] {
-        Part::Plain(label) => rule([Tree::Variable(recipe.statements[*label].a)])?,
+        Part::Plain(label) => rule([Tree::Variable(recipe.written.code.statements[*label].a)])?,
         Part::If(yes, no) => from(recipe, if has(yes, site) { yes } else { no }, site)?,
         Part::While(body) => {
             let first = from(recipe, body, site)?;
@@ -297,12 +298,12 @@ fn plain_listing(bytes: &[u8]) -> Result<Vec<String>, u8> {
     let recipe = recipe::Recipe::read(bytes)?;
     let list = parts(&recipe, &mut 0);
     let mut all = Trees::new();
-    for (label, _) in recipe.statements.iter().enumerate().filter(|(_, s)| s.kind == SITE) {
+    for (label, _) in recipe.written.code.statements.iter().enumerate().filter(|(_, s)| s.kind == SITE) {
         let set = from(&recipe, &list, label)?;
         let set = rule(set.iter().map(|tree| {
             tree.replace(&mut |atom| match *atom {
-                Tree::Variable(v) => Tree::Constant(recipe.variables[v as usize], 0),
-                Tree::Loaded(l, _) => Tree::Constant(recipe.trays[recipe.statements[l].b as usize].ty, 0),
+                Tree::Variable(v) => Tree::Constant(recipe.written.variables[v as usize], 0),
+                Tree::Loaded(l, _) => Tree::Constant(recipe.trays[recipe.written.code.statements[l].b as usize].ty, 0),
                 ref other => other.clone(),
             })
         }))?;
@@ -315,9 +316,13 @@ fn plain_listing(bytes: &[u8]) -> Result<Vec<String>, u8> {
 fn analysis() {
     for case in 0..6_000 {
         let rng = &mut Rng::new(5_000_000 + case);
-        let mut recipe = generate::recipe(rng);
+        let mut recipe = if rng.chance(33) { calls::recipe(rng) } else { generate::recipe(rng) };
         if rng.chance(10) {
             generate::damage(rng, &mut recipe);
+        }
+        // Longer ones would take too long on trees.
+        if recipe::Recipe::read(&recipe).is_ok_and(|recipe| recipe.written.code.statements.len() > 1_500) {
+            continue;
         }
         let quick = listing(&recipe);
         match plain_listing(&recipe) {

@@ -5,6 +5,7 @@
 
 use gate_oracle::analysis::{walks, within, Limits, LIMITS};
 use gate_oracle::build::{recipe, s};
+use gate_oracle::calls;
 use gate_oracle::generate::{self, Rng};
 use gate_oracle::loops::{loops, Size};
 use gate_oracle::nests::{self, Nest, Sites, ROWS};
@@ -15,14 +16,15 @@ fn setting(name: &str, usual: u64) -> u64 {
     std::env::var(name).map_or(usual, |text| text.parse().unwrap())
 }
 
-/// A recipe: of nested loops, or any.
+/// A recipe: of nested loops, with procedures, or any.
 fn some_recipe(rng: &mut Rng) -> Vec<u8> {
     match rng.below(100) {
         0..=1 => nests::some(rng).recipe(),
-        2..=71 => {
+        2..=44 => {
             let size = Size { depth: rng.between(1, 3), body: rng.between(2, 7), chain: rng.between(2, 12) };
             loops(rng, size)
         }
+        45..=79 => calls::recipe(rng),
         _ => generate::recipe(rng),
     }
 }

@@ -100,7 +100,7 @@ returns-4 c =
     let a = start (lent p) .args in
     let known = program-is-read k in
     derived-read (length (a .condition .now)) (length (a .scratch .now)) (a .program .now) (a .condition .now) (a .scratch .now) (p .before .before .if1 .left)
-    (p .before .if2 .left) refl (known .program) (known .read) (r .result) (r .last .1 .1 .0) (r .last .1 .1 .1 .0) (r .ensures) (r .kept .1 .1 .1 .0)
+    (p .before .if2 .left) refl (known .outline) (known .read) (r .result) (r .last .1 .1 .0) (r .last .1 .1 .1 .0) (r .ensures) (r .kept .1 .1 .1 .0)
 
 pub derive-spec : {M : Type 1} → statement M
 derive-spec =

@@ -1,86 +1,51 @@
 -- `analysis::derive_read` meets its contract.
-use mathlib.Core.Path.{_≡_, ap, _∙_}
+use mathlib.Core.Path.{subst}
 use native.Mathlib.Omega.{arith}
-use Rattle.model.specs.Walk.{derived}
-use Rattle.model.proofs.walks.Depth.{program-nested}
-use Rattle.code_table.specs.Table.{tableOf, Coded}
-use Rattle.rules.specs.Answers.{answered}
-use Rattle.sets.specs.Region.{setOf}
-use Rattle.analysis.specs.Deriving.{unionAt}
-use Rattle.analysis.proofs.Files.{derives-refusal, set-formed, derives-file}
 use borrow.Author.Needs.{needs}
+use Rattle.inliner.specs.declared.Loaded.{Loaded}
+use Rattle.inliner.specs.Loading.{LoadedAs}
+use Rattle.analysis.proofs.Files.{rows-refusal}
 use Rattle.analysis.proofs.derive_read.Statement.{statement}
 use Rattle.analysis.proofs.derive_read.Tie as tie
 
--- the places: where the function begins, behind the table, and behind the sites
+-- the places: where the function begins, and behind the rows, refused or written out
 abbrev entered : tie.After-load → tie.Start
 entered c = c .before .before .before .before .before
 
-abbrev loaded : tie.After-sites → tie.After-load
-loaded c = c .before .before .before .before
-
-abbrev found : tie.After-enum-told → tie.After-sites
-found c = c .before .before .before .before
-
--- the table holds the program's code
-coded : (c : tie.After-load) → let g = entered c in Coded (g .args .layout .statements) (tableOf 0 (c .load .last .1 .1 .0)) (g .pre .read .program .code)
-coded c = let r = entered c .pre .read in c .load .ensures .coded (r .program) (r .read)
-
--- behind the sites, one of which was refused
-abbrev refused-at : tie.After-known-told → tie.After-sites
+abbrev refused-at : tie.After-known-told → tie.After-load
 refused-at c = c .before .before .before .before .before
 
--- the sites come to what is derived from it
-derives : (c : tie.After-sites) → derived (entered (loaded c) .pre .read .program .code) ≡ answered (c .sites .result) (setOf (c .sites .last .0) unionAt)
-derives c =
-    let g = entered (loaded c) in
-    let r = g .pre .read in
-    c .sites .ensures (r .program .code) (coded (loaded c) .laid) (program-nested (g .args .program .now) (r .program) (r .read))
+abbrev written : tie.After-known-told2 → tie.After-load
+written c = c .before .before .before .before .before
 
 load-requires : tie.Need-load-requires
 load-requires c κs = search needs
 
-sites-requires : tie.Need-sites-requires
-sites-requires c κs =
-    let l = c .before .before .before in
+enum-known-loaded : tie.Need-enum-known-loaded
+enum-known-loaded c = search needs
+
+enum-known-loaded-2 : tie.Need-enum-known-loaded-2
+enum-known-loaded-2 c = search needs
+
+derive-rows-requires : tie.Need-derive-rows-requires
+derive-rows-requires c κs =
+    let k = c .before .before in
+    let l = written k in
     let g = entered l in
-    let r = g .pre .read in
-    let k = coded l in
-    record {
-      room = omega (arith, g .pre .words, l .load .kept .1 .1 .0);
-      known = k .below;
-      piece = record { code = r .program .code; lies = k .laid; nested = program-nested (g .args .program .now) (r .program) (r .read) };
-    }
-
-enum-known-a : tie.Need-enum-known-a
-enum-known-a c = search needs
-
-enum-told : tie.Need-enum-told
-enum-told c = search needs
-
-write-file-requires : tie.Need-write-file-requires
-write-file-requires c κs =
-    let t = found (c .before .before) in
-    let g = entered (loaded t) in
-    let r = g .pre .read in
-    let S = setOf (t .sites .last .0) unionAt in
-    record {
-      read = r;
-      region = omega (arith, g .pre .words, loaded t .load .kept .1 .1 .0, t .sites .kept .0);
-      room = g .pre .room;
-      formed = set-formed (g .args .program .now) (r .program) (r .read) S (derives t ∙ ap (λ x. answered x S) (c .before .before .enum-told .given .1));
-    }
+    let m′ = l .load .last .1 .1 .0 in
+    let rows = subst (λ (x : Loaded). LoadedAs (g .args .program .now) x 0 (g .args .scratch .now) m′) (k .before .loaded2 .given .1) (l .load .ensures) in
+    (record { read = g .pre .read; room = g .pre .room; words = omega (arith, g .pre .words, l .load .kept .1 .1 .0) }, rows .rows)
 
 same-length : tie.Need-same-length
 same-length c = search needs
 
 returns : tie.Need-returns
 returns c =
-    let t = refused-at c in
-    let g = entered (loaded t) in
-    let r = g .pre .read in
-    derives-refusal (g .args .program .now) (r .program) (r .read) _ (g .args .condition .now)
-    (derives t ∙ ap (λ x. answered x (setOf (t .sites .last .0) unionAt)) (c .before .a .given .1))
+    let l = refused-at c in
+    let g = entered l in
+    let m′ = l .load .last .1 .1 .0 in
+    let refused = subst (λ (x : Loaded). LoadedAs (g .args .program .now) x 0 (g .args .scratch .now) m′) (c .before .loaded .given .1) (l .load .ensures) in
+    rows-refusal (g .args .program .now) _ (g .args .condition .now) refused
 
 same-length-2 : tie.Need-same-length-2
 same-length-2 c = search needs
@@ -89,25 +54,16 @@ same-length-3 : tie.Need-same-length-3
 same-length-3 c = search needs
 
 returns-2 : tie.Need-returns-2
-returns-2 c =
-    let w = c .before .before in
-    let d = w .before .before .before in
-    let t = found d in
-    let g = entered (loaded t) in
-    let r = g .pre .read in
-    let S = setOf (t .sites .last .0) unionAt in
-    derives-file (g .args .program .now) (r .program) (r .read) S (derives t ∙ ap (λ x. answered x S) (d .enum-told .given .1)) (w .write-file .result)
-    (g .args .condition .now) (w .write-file .last .1 .1 .1 .0) (g .pre .room) (w .write-file .ensures)
+returns-2 c = c .before .before .before .before .derive-rows .ensures
 
 pub derive-read-spec : {M : Type 1} → statement M
 derive-read-spec =
     tie.close
     (tie.spec
     load-requires
-    sites-requires
-    enum-known-a
-    enum-told
-    write-file-requires
+    enum-known-loaded
+    enum-known-loaded-2
+    derive-rows-requires
     same-length
     returns
     same-length-2

@@ -7,7 +7,7 @@ use Rattle.model.specs.Code.{Code}
 use Rattle.model.specs.Walk.{walk}
 use Rattle.rules.specs.Answers.{answered}
 use Rattle.rules.specs.declared.Answer.{Answer}
-use Rattle.model.specs.Sizes.{mostNested, mostStatements}
+use Rattle.model.specs.Sizes.{mostNested, mostRows}
 use Rattle.code_table.specs.Table.{tableOf, rowIn, mates}
 use Rattle.sets.specs.Region.{setOf}
 use Rattle.walk.specs.Piece.{Lies, Piece, Ready}
@@ -28,7 +28,7 @@ abbrev mated : tie.After-slice-known2 → tie.After-mate
 mated c = c .before .before .before .before .before
 
 -- the label is one of the program's
-below : (g : tie.Start) → (g .args .i < g .pre .statements) × (g .pre .statements ≤ mostStatements)
+below : (g : tie.Start) → (g .args .i < g .pre .statements) × (g .pre .statements ≤ mostRows)
 below g = label-below (tableOf 0 (g .args .s .now)) (g .pre .statements) (g .args .i) (g .pre .enclosed)
 
 as-piece : (s : List ℕ) (p q : ℕ) → PieceIn (tableOf 0 s) p q → Piece s mostNested p q

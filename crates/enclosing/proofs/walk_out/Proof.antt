@@ -2,7 +2,7 @@
 use mathlib.Core.Path.{subst, _∙_}
 use Prim.Native.Nat.{_≤_, _<_}
 use native.Mathlib.Omega.{arith}
-use Rattle.model.specs.Sizes.{mostStatements}
+use Rattle.model.specs.Sizes.{mostRows}
 use Rattle.code_table.specs.Table.{tableOf, stmts, mates}
 use Rattle.sets.specs.Region.{setOf}
 use Rattle.walk.proofs.Regions.{knows-less}
@@ -31,7 +31,7 @@ abbrev refused-at : tie.After-known-told2 Inv-loop μ-loop → tie.After-leave-b
 refused-at c = c .before .before .before .before .before
 
 -- the label is one of the program's
-below : (c : tie.At-loop Inv-loop μ-loop) → (c .loop .at < c .loop .inv .statements) × (c .loop .inv .statements ≤ mostStatements)
+below : (c : tie.At-loop Inv-loop μ-loop) → (c .loop .at < c .loop .inv .statements) × (c .loop .inv .statements ≤ mostRows)
 below c = label-below (tableOf 0 (c .before .before .args .s .now)) (c .loop .inv .statements) (c .loop .at) (c .loop .inv .enclosed)
 
 -- it stands in no block

@@ -6,7 +6,7 @@ use borrow.Author.Needs.{needs}
 use native.Mathlib.Omega.{arith}
 use Rattle.bytes_le.specs.Overlay.{overlay}
 use Rattle.model.specs.Guarded.{guarded}
-use Rattle.model.specs.Refusals.{ok, refused, wrongBlocks, wrongInput}
+use Rattle.model.specs.Refusals.{ok, refused, wrongBlocks}
 use Rattle.model.specs.Lent.{ScratchLeft}
 use Rattle.model.specs.Run.{Ran}
 use Rattle.model.proofs.Demand3.{demand3}
@@ -40,7 +40,7 @@ scratch-left c =
     let p = runLent scratchWords (length (a .scratch .now)) (a .program .now) (a .input .now) (a .limit) (a .choices .now) (a .log .now) in
     scratch-wider analysisWords wrongBlocks o
     (late (a .program .now) (a .input .now) (a .limit) (a .choices .now) (a .log .now) (a .file .now) (start c .pre .0 .derived))
-    scratchWords wrongInput p (a .scratch .now) (c .run .last .1 .1 .1 .1 .1 .0) (omega arith) (c .run .ensures .scratch)
+    scratchWords wrongBlocks p (a .scratch .now) (c .run .last .1 .1 .1 .1 .1 .0) (omega arith) (c .run .ensures .scratch)
 
 -- ---- the answers
 

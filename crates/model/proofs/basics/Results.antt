@@ -2,7 +2,7 @@
 use mathlib.Core.Path.{_≡_, refl, subst}
 use mathlib.Core.Bool.{Bool, true, false, true≢false}
 use Prim.Native.Nat.{ℕ}
-use Rattle.model.specs.Refusals.{Out, ok, refused, _>>=_, check, mapped}
+use Rattle.model.specs.Refusals.{Out, ok, refused, _>>=_, check, mapped, instead}
 
 -- ---- a result
 
@@ -20,6 +20,10 @@ check-ok false n o a e = absurd (refused-ok n a e)
 pub bind-ok : {A B : Type 0} (o : Out A) (f : A → Out B) (b : B) → (o >>= f) ≡ ok b → (a : A) × (o ≡ ok a) × (f a ≡ ok b)
 bind-ok (ok a) f b e = (a, refl, e)
 bind-ok (refused n) f b e = absurd (refused-ok n b e)
+
+pub instead-ok : {A : Type 0} (n : ℕ) (o : Out A) (a : A) → instead n o ≡ ok a → o ≡ ok a
+instead-ok n (ok b) a e = e
+instead-ok n (refused m) a e = absurd (refused-ok n a e)
 
 -- ---- a result mapped
 
@@ -82,6 +86,10 @@ module _ {A : Type 0} (P : ℕ → Type 0) where
 
   pub refuses-bind : {B : Type 0} (o : Out B) (f : B → Out A) → Refuses P o → ((b : B) → Refuses P (f b)) → Refuses P (o >>= f)
   refuses-bind o f h k = ends-bind (λ b. Unit {0}) (λ a. Unit {0}) P o f h (λ b u. k b)
+
+  pub refuses-instead : (n : ℕ) (o : Out A) → P n → Refuses P (instead n o)
+  refuses-instead n (ok a) p = tt
+  refuses-instead n (refused m) p = p
 
   pub refuses-imp : (Q : ℕ → Type 0) → ((n : ℕ) → P n → Q n) → (o : Out A) → Refuses P o → Refuses Q o
   refuses-imp Q f (ok a) h = tt

@@ -1,75 +1,117 @@
--- What checks 2 to 8 leave of a program: each test passes, and so numbers name something and types agree in every statement.
-use mathlib.Core.Path.{_≡_, refl, sym, ap, subst, _∙_}
+-- What checks 2 to 8 and 16 leave of a program: each test passes, and so numbers name something and types agree in every statement.
+use mathlib.Core.Path.{_≡_, refl, sym, subst}
 use mathlib.Core.Bool.{Bool, true, false, _&&_, not}
-use mathlib.Core.List.{List, [], _∷_, map}
-use Prim.Native.Nat.{ℕ, zero, suc, _+_, _<_}
-use native.Mathlib.Omega.{arith}
+use mathlib.Core.List.{List, [], _∷_}
+use Prim.Native.Nat.{ℕ, _<_}
 use lib.Dec.{leb, ltb, eqb}
-use lib.ListN.{length, getD}
+use lib.ListN.{length}
 use borrow.Author.Tests.{ltb-true, eqb-true}
 use Rattle.arith.specs.Types.{signed}
 use Rattle.model.specs.Lists.{All, every}
-use Rattle.model.specs.Refusals.{Out, ok, _>>=_, check, wrongSections, tooManyEntries, wrongTypes, wrongStatement, typesDisagree, wrongImmediate}
+use Rattle.model.specs.Refusals.{Out, ok, _>>=_, check, instead}
+use Rattle.model.specs.Refusals.{wrongSections, tooManyEntries, wrongTypes, wrongStatement, typesDisagree, wrongImmediate, wrongBlocks, wrongProcedures}
 use Rattle.model.specs.Code.{Code, treeOf}
+use Rattle.model.specs.Procedures.{own, named, Block, openAfter, allClosed, Parts, between, partsFrom, partsRight}
+use Rattle.model.specs.Inlined.{stmtsIn, originsIn}
 use Rattle.model.specs.Program.{Statement, Tables, tablesAt, layoutOf, sectionsRight, countsRight, typeRight, arrayRight, typesRight}
 use Rattle.model.specs.Program.{isVariable, isField, isArray, unused, formOf, formRight, variableType, fieldType, arrayOf, alike, cellAlike}
-use Rattle.model.specs.Program.{agreeOf, typesAgree, immediateOf, immediateRight, meaningOf, stmtOf, Program, ownSteps, readProgram}
-use Rattle.model.specs.Inlined.{counted, silent}
-use Rattle.model.specs.Run.{originsOf}
+use Rattle.model.specs.Program.{agreeOf, typesAgree, immediateOf, immediateRight, meaningOf, stmtOf, itemsOf}
+use Rattle.model.specs.Program.{inlinedRows, programOf, Outline, readOutline, Program, readProgram}
 use Rattle.model.specs.Kinds.{Kind, aNumber, aCopy, anOperation, aConversion, aRead, aLoad, aStore, aSite, anIf, anElse, anEnd, aWhile, aProcedure, aCall, noKind, kindOf}
-use Rattle.model.specs.Sizes.{mostCells}
-use Rattle.model.specs.Typing.{AtPlain, Indexed, TypedInstr, Typed}
+use Rattle.model.specs.Sizes.{mostCells, mostRows}
+use Rattle.model.specs.Typing.{AtPlain, Indexed, TypedInstr}
 use Rattle.model.proofs.basics.Every.{every-all}
-use Rattle.model.proofs.basics.Lists.{all-imp₃, all-map, all-getD}
-use Rattle.model.proofs.basics.Results.{check-ok, bind-ok, ok-eq}
+use Rattle.model.proofs.basics.Lists.{all-getD}
+use Rattle.model.proofs.basics.Results.{ok-eq, refused-ok, check-ok, bind-ok, instead-ok}
 use Rattle.model.proofs.basics.Tests.{and-left, and-right}
-use Rattle.model.proofs.walks.Trees.{tree-each}
+
+-- ---- a program that is listed
+
+-- what checks 2 to 8, and 16 of the procedures, leave of it
+pub record Outlined (s : List ℕ) (O : Outline) : Type 0 where
+  pub tables : O .tables ≡ tablesAt s (layoutOf s)
+  pub sections : sectionsRight s ≡ true
+  pub counts : countsRight (O .tables) ≡ true
+  pub types : typesRight (O .tables) ≡ true
+  pub forms : every (formRight (O .tables)) (O .tables .statements) ≡ true
+  pub agree : every (typesAgree (O .tables)) (O .tables .statements) ≡ true
+  pub immediates : every (immediateRight (O .tables)) (O .tables .statements) ≡ true
+  pub blocks : openAfter [] (itemsOf (O .tables)) ≡ ok []
+  pub parted : partsFrom 0 [] between (itemsOf (O .tables)) ≡ ok (O .parts)
+  pub right : partsRight (O .parts) ≡ true
+
+closed-none : (bs cs : List Block) → allClosed bs ≡ ok cs → bs ≡ []
+closed-none [] cs e = refl
+closed-none (b ∷ bs) cs e = absurd (refused-ok wrongBlocks cs e)
+
+pub outline-checked : (s : List ℕ) (O : Outline) → readOutline s ≡ ok O → Outlined s O
+unfolding readOutline
+outline-checked s O e =
+    let T = tablesAt s (layoutOf s) in
+    let whole : Parts → Out Outline = λ Q. ok (record { tables = T; parts = Q }) in
+    let o₁₆ : Parts → Out Outline = λ Q. check (partsRight Q) wrongProcedures (whole Q) in
+    let o₉ : List Block → Out Outline = λ none. partsFrom 0 [] between (itemsOf T) >>= o₁₆ in
+    let o₈ : Out Outline = openAfter [] (itemsOf T) >>= allClosed >>= o₉ in
+    let o₇ : Out Outline = check (every (immediateRight T) (T .statements)) wrongImmediate o₈ in
+    let o₆ : Out Outline = check (every (typesAgree T) (T .statements)) typesDisagree o₇ in
+    let o₅ : Out Outline = check (every (formRight T) (T .statements)) wrongStatement o₆ in
+    let o₄ : Out Outline = check (typesRight T) wrongTypes o₅ in
+    let o₃ : Out Outline = check (countsRight T) tooManyEntries o₄ in
+    let c₂ = check-ok (sectionsRight s) wrongSections o₃ O e in
+    let c₃ = check-ok (countsRight T) tooManyEntries o₄ O (c₂ .1) in
+    let c₄ = check-ok (typesRight T) wrongTypes o₅ O (c₃ .1) in
+    let c₅ = check-ok (every (formRight T) (T .statements)) wrongStatement o₆ O (c₄ .1) in
+    let c₆ = check-ok (every (typesAgree T) (T .statements)) typesDisagree o₇ O (c₅ .1) in
+    let c₇ = check-ok (every (immediateRight T) (T .statements)) wrongImmediate o₈ O (c₆ .1) in
+    let c₈ = bind-ok (openAfter [] (itemsOf T) >>= allClosed) o₉ O (c₇ .1) in
+    let left = bind-ok (openAfter [] (itemsOf T)) allClosed (c₈ .0) (c₈ .1) in
+    let c₉ = bind-ok (partsFrom 0 [] between (itemsOf T)) o₁₆ O (c₈ .2) in
+    let c₁₆ = check-ok (partsRight (c₉ .0)) wrongProcedures (whole (c₉ .0)) O (c₉ .2) in
+    let r : Outline = record { tables = T; parts = c₉ .0 } in
+    let z : Outlined s r = record {
+      tables = refl {a = T};
+      sections = c₂ .0;
+      counts = c₃ .0;
+      types = c₄ .0;
+      forms = c₅ .0;
+      agree = c₆ .0;
+      immediates = c₇ .0;
+      blocks = subst (λ bs. openAfter [] (itemsOf T) ≡ ok bs) (closed-none (left .0) (c₈ .0) (left .2)) (left .1);
+      parted = c₉ .1;
+      right = c₁₆ .0;
+    } in
+    subst (Outlined s) {x = r} (ok-eq r O (c₁₆ .1)) z
 
 -- ---- a program that is read
 
+-- its outline, and what check 16 leaves of the inlined program
 pub record Checked (s : List ℕ) (P : Program) : Type 0 where
-  pub tables : P .tables ≡ tablesAt s (layoutOf s)
-  pub sections : sectionsRight s ≡ true
-  pub counts : countsRight (P .tables) ≡ true
-  pub types : typesRight (P .tables) ≡ true
-  pub forms : every (formRight (P .tables)) (P .tables .statements) ≡ true
-  pub agree : every (typesAgree (P .tables)) (P .tables .statements) ≡ true
-  pub immediates : every (immediateRight (P .tables)) (P .tables .statements) ≡ true
-  pub tree : treeOf (map (stmtOf (P .tables)) (P .tables .statements)) ≡ ok (P .code)
-  pub origins : P .origins ≡ ownSteps 0 (P .tables .statements)
+  pub parts : Parts
+  pub listed : readOutline s ≡ ok (record { tables = P .tables; parts = parts })
+  pub outlined : Outlined s (record { tables = P .tables; parts = parts })
+  pub short : leb (length (inlinedRows (P .tables) parts)) mostRows ≡ true
+  pub tree : treeOf (stmtsIn (inlinedRows (P .tables) parts)) ≡ ok (P .code)
+  pub origins : P .origins ≡ originsIn (inlinedRows (P .tables) parts)
 
 pub program-checked : (s : List ℕ) (P : Program) → readProgram s ≡ ok P → Checked s P
-unfolding readProgram
+unfolding readProgram programOf
 program-checked s P e =
-    let T = tablesAt s (layoutOf s) in
-    let whole : Code → Out Program = λ c. ok (record { tables = T; code = c; origins = ownSteps 0 (T .statements) }) in
-    let o₈ : Out Program = treeOf (map (stmtOf T) (T .statements)) >>= whole in
-    let o₇ : Out Program = check (every (immediateRight T) (T .statements)) wrongImmediate o₈ in
-    let o₆ : Out Program = check (every (typesAgree T) (T .statements)) typesDisagree o₇ in
-    let o₅ : Out Program = check (every (formRight T) (T .statements)) wrongStatement o₆ in
-    let o₄ : Out Program = check (typesRight T) wrongTypes o₅ in
-    let o₃ : Out Program = check (countsRight T) tooManyEntries o₄ in
-    let c₂ = check-ok (sectionsRight s) wrongSections o₃ P e in
-    let c₃ = check-ok (countsRight T) tooManyEntries o₄ P (c₂ .1) in
-    let c₄ = check-ok (typesRight T) wrongTypes o₅ P (c₃ .1) in
-    let c₅ = check-ok (every (formRight T) (T .statements)) wrongStatement o₆ P (c₄ .1) in
-    let c₆ = check-ok (every (typesAgree T) (T .statements)) typesDisagree o₇ P (c₅ .1) in
-    let c₇ = check-ok (every (immediateRight T) (T .statements)) wrongImmediate o₈ P (c₆ .1) in
-    let c₈ = bind-ok (treeOf (map (stmtOf T) (T .statements))) whole P (c₇ .1) in
-    let r : Program = record { tables = T; code = c₈ .0; origins = ownSteps 0 (T .statements) } in
-    let z : Checked s r = record { tables = refl; sections = c₂ .0; counts = c₃ .0; types = c₄ .0; forms = c₅ .0; agree = c₆ .0; immediates = c₇ .0; tree = c₈ .1; origins = refl } in
-    subst (Checked s) {x = r} (ok-eq r P (c₈ .2)) z
-
-own-step : (l k : ℕ) (qs : List Statement) → k < length qs → getD (ownSteps l qs) k silent ≡ counted (l + k)
-own-step l k [] h = absurd (omega arith)
-own-step l zero (q ∷ qs) h = let e : l + 0 ≡ l = omega arith in rw e
-own-step l (suc k) (q ∷ qs) h = let e : l + suc k ≡ suc l + k = omega arith in rw e (own-step (suc l) k qs (omega arith))
-
--- each statement is a step under its own label
-pub own-label : (s : List ℕ) (P : Program) → Checked s P → (l : ℕ) → l < length (P .tables .statements) → originsOf P l ≡ counted l
-own-label s P c l h =
-    let e : 0 + l ≡ l = omega arith in
-    ap (λ os. getD os l silent) (c .origins) ∙ own-step 0 l (P .tables .statements) h ∙ ap counted e
+    let o = bind-ok (readOutline s) (λ O. programOf (O .tables) (inlinedRows (O .tables) (O .parts))) P e in
+    let O = o .0 in
+    let rows = inlinedRows (O .tables) (O .parts) in
+    let whole : Code → Out Program = λ c. ok (record { tables = O .tables; code = c; origins = originsIn rows }) in
+    let few = check-ok (leb (length rows) mostRows) wrongProcedures (instead wrongProcedures (treeOf (stmtsIn rows)) >>= whole) P (o .2) in
+    let c = bind-ok (instead wrongProcedures (treeOf (stmtsIn rows))) whole P (few .1) in
+    let r : Program = record { tables = O .tables; code = c .0; origins = originsIn rows } in
+    let z : Checked s r = record {
+      parts = O .parts;
+      listed = o .1;
+      outlined = outline-checked s O (o .1);
+      short = few .0;
+      tree = instead-ok wrongProcedures (treeOf (stmtsIn rows)) (c .0) (c .1);
+      origins = refl {a = originsIn rows};
+    } in
+    subst (Checked s) {x = r} (ok-eq r P (c .2)) z
 
 -- ---- one statement
 
@@ -90,7 +132,8 @@ module _ (T : Tables) (known : typesRight T ≡ true) where
   unfolding typesRight
   arrays-known = every-all arrayRight (T .arrays) (and-right (every typeRight (T .fields) && every typeRight (T .variables)) (every arrayRight (T .arrays)) known)
 
-  variable-type : (x : ℕ) → ltb x (length (T .variables)) ≡ true → variableType T x < 8
+  -- a variable that there is has a type
+  pub variable-type : (x : ℕ) → ltb x (length (T .variables)) ≡ true → variableType T x < 8
   variable-type x h = ltb-true (variableType T x) 8 (all-getD (λ t. typeRight t ≡ true) (T .variables) x 0 variables-known (ltb-true x (length (T .variables)) h))
 
   array-type : (r : ℕ) → ltb r (length (T .arrays)) ≡ true → arrayOf T r .ty < 8
@@ -107,6 +150,9 @@ module _ (T : Tables) (known : typesRight T ≡ true) where
 
   row-b : (p q r s : Bool) → (p && q && r && s) ≡ true → q ≡ true
   row-b p q r s e = and-right p q (and-left (p && q) r (and-left (p && q && r) s e))
+
+  row-c : (p q r s : Bool) → (p && q && r && s) ≡ true → r ≡ true
+  row-c p q r s e = and-right (p && q) r (and-left (p && q && r) s e)
 
   module _ (q : Statement) where
     abbrev a : ℕ
@@ -173,15 +219,48 @@ module _ (T : Tables) (known : typesRight T ≡ true) where
     kind-typed aCall f g h = tt
     kind-typed noKind f g h = tt
 
-    statement-typed : formRight T q ≡ true → typesAgree T q ≡ true → immediateRight T q ≡ true → AtPlain (TypedInstr T) (stmtOf T q)
+    pub statement-typed : formRight T q ≡ true → typesAgree T q ≡ true → immediateRight T q ≡ true → AtPlain (TypedInstr T) (stmtOf T q)
     unfolding formRight typesAgree immediateRight stmtOf
     statement-typed = kind-typed (kindOf (q .kind))
 
-pub program-typed : (s : List ℕ) (P : Program) → Checked s P → Typed (P .tables) (P .code)
-program-typed s P c =
-    let T = P .tables in
-    tree-each (TypedInstr T) (map (stmtOf T) (T .statements)) (P .code)
-    (all-map (AtPlain (TypedInstr T)) (stmtOf T) (T .statements)
-    (all-imp₃ (statement-typed T (c .types)) (T .statements)
-    (every-all (formRight T) (T .statements) (c .forms)) (every-all (typesAgree T) (T .statements) (c .agree)) (every-all (immediateRight T) (T .statements) (c .immediates))))
-    (c .tree)
+    -- ---- the variables that it names
+
+    -- a variable that there is
+    abbrev Below : ℕ → Type 0
+    Below x = x < length (T .variables)
+
+    is-variable : (x : ℕ) → isV x ≡ true → Below x
+    is-variable x e = ltb-true x (length (T .variables)) e
+
+    first-named : (x y z : Bool) → (isV a && x && y && z) ≡ true → Below a
+    first-named x y z f = is-variable a (row-a (isV a) x y z f)
+
+    two-named : (isV a && isV b && free c && free (q .imm)) ≡ true → Below a × (Below b × Unit {0})
+    two-named f = (first-named (isV b) (free c) (free (q .imm)) f, (is-variable b (row-b (isV a) (isV b) (free c) (free (q .imm)) f), tt))
+
+    kind-named : (k : Kind) → formOf k T q ≡ true → All Below (named (own (meaningOf k T q)))
+    kind-named aNumber f = (is-variable a (and-left (isV a) (free b) (and-left (isV a && free b) (free c) f)), tt)
+    kind-named aCopy f = two-named f
+    kind-named (anOperation o) f = (
+      first-named (isV b) (isV c) (free (q .imm)) f,
+      (is-variable b (row-b (isV a) (isV b) (isV c) (free (q .imm)) f), (is-variable c (row-c (isV a) (isV b) (isV c) (free (q .imm)) f), tt)),
+    )
+    kind-named aConversion f = two-named f
+    kind-named aRead f = (first-named (isField T b) (free c) (free (q .imm)) f, tt)
+    kind-named aLoad f =
+        (first-named (isArray T b) (isV c) (free (q .imm)) f, (is-variable c (row-c (isV a) (isArray T b) (isV c) (free (q .imm)) f), tt))
+    kind-named aStore f =
+        (is-variable b (row-b (isArray T a) (isV b) (isV c) (free (q .imm)) f), (is-variable c (row-c (isArray T a) (isV b) (isV c) (free (q .imm)) f), tt))
+    kind-named aSite f = (first-named (free b) (free c) (free (q .imm)) f, tt)
+    kind-named anIf f = (first-named (free b) (free c) (free (q .imm)) f, tt)
+    kind-named anElse f = tt
+    kind-named anEnd f = tt
+    kind-named aWhile f = (first-named (free b) (free c) (free (q .imm)) f, tt)
+    kind-named aProcedure f = tt
+    kind-named aCall f = tt
+    kind-named noKind f = tt
+
+    -- the variables that a statement names are there
+    pub statement-named : formRight T q ≡ true → All (λ x. x < length (T .variables)) (named (own (stmtOf T q)))
+    unfolding formRight stmtOf
+    statement-named = kind-named (kindOf (q .kind))

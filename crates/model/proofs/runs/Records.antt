@@ -20,7 +20,8 @@ use Rattle.model.specs.Run.{zeros, Line, execute, markByte, recordBytes,
 use Rattle.model.specs.Exact.{nothing, Note, notes, exactRun}
 use Rattle.model.specs.Demands.{Record, recordAt, recordsOf, Marks, MarkExact}
 use Rattle.model.specs.Typing.{TypedInput}
-use Rattle.model.proofs.files.Checked.{program-checked, program-typed}
+use Rattle.model.proofs.files.Checked.{program-checked}
+use Rattle.model.proofs.procedures.Programs.{wide, program-typed}
 use Rattle.model.proofs.runs.Follow.{Follows, run-alike, begin}
 use Rattle.model.proofs.basics.Lists.{entries-all}
 use Rattle.model.proofs.basics.LittleEndian.{two-back, u64-bytes8}
@@ -135,10 +136,11 @@ module _ (program input : List ℕ) (limit : ℕ) (choices log : List ℕ) (ran 
   pub lines-inside : All (λ l. fits (l .type) (l .value .num) ≡ true) linesOf
   unfolding linesOf
   lines-inside =
-      let T = r .P .tables in
+      let c = program-checked program (r .P) (r .reads) in
+      let T = wide program (r .P) c in
       let typed = input-typed T input (r .I) (r .readsInput) in
       run-inside T (r .I) typed (originsOf (r .P)) limit (length log / 12) zeros (r .P .code) (choicesOf choices) (zeros-inside T (r .I) typed)
-      (program-typed program (r .P) (program-checked program (r .P) (r .reads)))
+      (program-typed program (r .P) c)
 
   pub ran-marks : Forall₂ Marks (recordsOf (ran .records) (ran .log)) notesOf
   ran-marks = subst (λ rs. Forall₂ Marks rs notesOf) (sym ran-records) (lines-marks lines-follow lines-inside)

@@ -1,14 +1,14 @@
 -- How deep the blocks of a program are nested: at most 4.
-use mathlib.Core.Path.{_≡_, refl, sym, ap, subst, _∙_}
-use mathlib.Core.Bool.{true, false}
-use mathlib.Core.List.{List, [], _∷_, map}
+use mathlib.Core.Path.{_≡_, refl, subst}
+use mathlib.Core.List.{List, [], _∷_}
 use Prim.Native.Nat.{ℕ, zero, suc, _+_, _<_}
 use native.Mathlib.Omega.{arith}
 use borrow.Author.Tests.{ltb-true}
 use lib.Dec.{ltb}
 use Rattle.model.specs.Code.{Code, done, step, branch, loop, Stmt, plain, if, else, end, while, Open, top, block, other, front, openBlocks, taking, opened, closed, treeOf}
-use Rattle.model.specs.Program.{Tables, stmtOf, Program, readProgram}
-use Rattle.model.specs.Refusals.{Out, ok, refused, wrongBlocks}
+use Rattle.model.specs.Inlined.{stmtsIn}
+use Rattle.model.specs.Program.{inlinedRows, Program, readProgram}
+use Rattle.model.specs.Refusals.{ok, wrongBlocks}
 use Rattle.model.specs.Run.{append}
 use Rattle.model.specs.Nesting.{Nested}
 use Rattle.model.specs.Sizes.{mostNested}
@@ -90,4 +90,4 @@ tree-nested ss c e =
     closed-fits (k .0) c (opened-fits 0 ss (k .0) (k .1)) (k .2)
 
 pub program-nested : (s : List ℕ) (P : Program) → readProgram s ≡ ok P → Nested mostNested (P .code)
-program-nested s P e = let k = program-checked s P e in tree-nested (map (stmtOf (P .tables)) (P .tables .statements)) (P .code) (k .tree)
+program-nested s P e = let k = program-checked s P e in tree-nested (stmtsIn (inlinedRows (P .tables) (k .parts))) (P .code) (k .tree)

@@ -19,7 +19,8 @@ use Rattle.model.specs.Condition.{sourceType, typeNode, typeNodes, singl
 use Rattle.model.specs.Formed.{FileNode, Whole, Formed}
 use Rattle.model.specs.Typing.{TypedVar, TypedArray, TypedField, TypedRight, TypedInstr}
 use Rattle.model.proofs.conjuncts.Atoms.{atom-eq}
-use Rattle.model.proofs.files.Checked.{program-checked, program-typed}
+use Rattle.model.proofs.files.Checked.{program-checked}
+use Rattle.model.proofs.procedures.Programs.{wide, program-typed}
 use Rattle.model.proofs.walks.Invariant.{derived-every}
 use Rattle.model.proofs.basics.Lists.{all-append}
 use Rattle.model.proofs.basics.Results.{bind-assoc, bind-self}
@@ -199,6 +200,7 @@ module _ (T : Tables) where
 -- every conjunct that the analysis derives from a program that is read may stand in a condition file
 pub derived-formed : (s : List ℕ) (P : Program) (S : Conjuncts) → readProgram s ≡ ok P → derived (P .code) ≡ ok S → All (Formed (P .tables .fields)) S
 derived-formed s P S p d =
-    let T = P .tables in
+    let c = program-checked s P p in
+    let T = wide s P c in
     derived-every (Whole (InFile T)) (Whole (WalkNode T)) (TypedInstr T) (whole-renumber (InFile T) (λ a n h. h)) (whole-renumber (WalkNode T) (λ a n h. h))
-    (site-whole T) (before-whole T) (whole-map (WalkNode T) (InFile T) zeroed (zeroed-stands T)) (P .code) (program-typed s P (program-checked s P p)) S d
+    (site-whole T) (before-whole T) (whole-map (WalkNode T) (InFile T) zeroed (zeroed-stands T)) (P .code) (program-typed s P c) S d

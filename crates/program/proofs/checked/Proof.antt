@@ -7,8 +7,9 @@ use borrow.Author.Needs.{needs}
 use borrow.Author.Tests.{not-true, not-false}
 use Rattle.model.specs.Program.{Layout as Sections, layoutOf, countsRight, typesRight}
 use Rattle.model.specs.Refusals.{Out}
-use Rattle.program.specs.Reading.{tablesOf, layoutFrom, programAnswer, statementChecks, blockCheck}
+use Rattle.program.specs.Reading.{tablesOf, layoutFrom, programAnswer, statementChecks, blockChecks}
 use Rattle.program.proofs.Answers.{statements-pass, statements-refused, placed-same}
+use Rattle.program.proofs.Known.{few-entries}
 use Rattle.program.proofs.Tables.{sized}
 use Rattle.program.proofs.checked.Statement.{statement}
 use Rattle.program.proofs.checked.Tie as tie
@@ -65,7 +66,7 @@ returns-3 c =
     let f = c .before .before in
     let s = bytes (f .before) in
     rw (counted (f .before .before .before), typed (f .before))
-    (statements-refused s (c .enum-told .given .0 .0) (layoutOf s) (blockCheck s) (programAnswer (f .read-statements .result))
+    (statements-refused s (c .enum-told .given .0 .0) (layoutOf s) (blockChecks s) (programAnswer (f .read-statements .result))
     (ap programAnswer (c .enum-told .given .1)) (f .read-statements .ensures))
 
 -- checks 5 to 7 have passed, and gave the layout
@@ -76,17 +77,21 @@ passed c =
     let g = c .before .formed .given in
     statements-pass s (layoutFrom (g .0 .0)) (layoutOf s) (sym (ap programAnswer (g .1)) ∙ forms c .read-statements .ensures)
 
-match-blocks-requires : tie.Need-match-blocks-requires
-match-blocks-requires c κs =
-    let b = start (forms c .before) in
-    placed-same (b .args .program .now) (c .before .formed .given .0 .0) (b .args .layout) (passed c .1) (b .pre)
+blocks-checked-requires : tie.Need-blocks-checked-requires
+blocks-checked-requires c κs =
+    let f = forms c .before in
+    let b = start f in
+    let s = b .args .program .now in
+    let known = c .before .formed .given .0 .0 in
+    let placed = placed-same s known (b .args .layout) (passed c .1) (b .pre) in
+    (placed, few-entries s known placed (counted (f .before .before)) .statements)
 
 returns-4 : tie.Need-returns-4
 returns-4 c =
     let k = c .before in
     let f = forms k .before in
     let s = bytes f in
-    rw (counted (f .before .before), typed f) (c .match-blocks .ensures ∙ passed k .0 (blockCheck s))
+    rw (counted (f .before .before), typed f) (c .blocks-checked .ensures ∙ passed k .0 (blockChecks s))
 
 pub checked-spec : {M : Type 1} → statement M
 checked-spec =
@@ -100,5 +105,5 @@ checked-spec =
     enum-known-formed
     enum-told
     returns-3
-    match-blocks-requires
+    blocks-checked-requires
     returns-4)

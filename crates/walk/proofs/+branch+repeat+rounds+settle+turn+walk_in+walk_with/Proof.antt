@@ -9,7 +9,7 @@ use Prim.Native.Nat.{ℕ, _+_, _-_, _*_, _≤_, _<_}
 use native.Mathlib.Omega.{arith}
 use lib.ListN.{length}
 use borrow.Author.Needs.{needs}
-use Rattle.model.specs.Sizes.{mostStatements, mostRounds}
+use Rattle.model.specs.Sizes.{mostRows, mostRounds}
 use Rattle.model.proofs.walks.Laid.{laid-le}
 use Rattle.code_table.specs.Statements.{stmtFrom, instrOf, Known}
 use Rattle.code_table.specs.Table.{tableWords, tableOf, stmts, mates}
@@ -1018,7 +1018,7 @@ walk-with-bounds t c =
     (c .before .before .loop-test .taken) (c .beginning .ensures)
 
 -- the words hold the table, and every label up to the last is one of it
-walk-with-room : (t : ℕ) (h : WalkLoop t) → (tableWords ≤ length (h .loop .s)) × (h .loop .r ≤ mostStatements)
+walk-with-room : (t : ℕ) (h : WalkLoop t) → (tableWords ≤ length (h .loop .s)) × (h .loop .r ≤ mostRows)
 walk-with-room t h =
     let g = walk-with-start t h in
     let ready = g .pre .1 .0 .ready in

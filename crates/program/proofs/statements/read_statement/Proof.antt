@@ -4,7 +4,6 @@ use borrow.Author.Needs.{needs}
 use borrow.Author.Tests.{not-true, not-false}
 use Rattle.model.specs.Program.{formRight}
 use Rattle.program.specs.Reading.{entryOf, tablesOf}
-use Rattle.program.proofs.Tables.{sized}
 use Rattle.program.proofs.statements.read_statement.Statement.{statement}
 use Rattle.program.proofs.statements.read_statement.Tie as tie
 
@@ -17,9 +16,7 @@ form-right-requires c κs = search needs
 -- the test of the form, where the statement was read
 form : (c : tie.After-form-right) → let s = c .before in
     formRight (tablesOf (s .before .before .args .program .now)) (entryOf (s .statement .result)) ≡ c .form-right .result
-form c =
-    let start = c .before .before .before in
-    sym (c .form-right .ensures _ (sized (start .args .program .now) (start .args .layout) (start .pre .0)))
+form c = sym (c .form-right .ensures)
 
 returns : tie.Need-returns
 returns c = rw (← c .before .before .statement .ensures, form (c .before), not-true (c .before .form-right .result) (c .if1 .taken))

@@ -1,7 +1,7 @@
 -- `program::statements::types_agree` meets its contract.
 use borrow.Author.Needs.{needs}
 use Rattle.model.specs.Kinds.{kindOf}
-use Rattle.model.specs.Program.{typesAgree}
+use Rattle.model.specs.Program.{callAlike, typesAgree}
 use Rattle.program.specs.Numbers.{siteKind}
 use Rattle.program.specs.Reading.{entryOf}
 use Rattle.program.specs.declared.Entry.{Entry}
@@ -52,6 +52,9 @@ cell-agrees-requires c κs = search needs
 cell-agrees-requires-2 : tie.Need-cell-agrees-requires-2
 cell-agrees-requires-2 c κs = search needs
 
+call-agrees-requires : tie.Need-call-agrees-requires
+call-agrees-requires c κs = search needs
+
 returns : tie.Need-returns
 unfolding typesAgree kindOf
 returns c = rw (c .match .keys1)
@@ -93,7 +96,13 @@ unfolding typesAgree kindOf
 returns-10 c = rw (c .before .match .keys10) (c .cell-agrees2 .ensures)
 
 returns-11 : tie.Need-returns-11
-returns-11 c = let q = other c in rw (agree-none _ (entryOf q) (none-of siteKind (q .kind) (c .match .rest)))
+unfolding typesAgree callAlike kindOf
+returns-11 c = rw (c .before .match .keys11) (c .call-agrees .ensures)
+
+returns-12 : tie.Need-returns-12
+returns-12 c =
+    let q = other c in
+    rw (agree-none _ (entryOf q) (none-of siteKind (q .kind) (c .match .rest .0)) (c .match .rest .1))
 
 pub types-agree-spec : {M : Type 1} → statement M
 types-agree-spec =
@@ -112,6 +121,7 @@ types-agree-spec =
     variable-type-requires-3
     cell-agrees-requires
     cell-agrees-requires-2
+    call-agrees-requires
     returns
     returns-2
     returns-3
@@ -122,4 +132,5 @@ types-agree-spec =
     returns-8
     returns-9
     returns-10
-    returns-11)
+    returns-11
+    returns-12)

@@ -1,0 +1,2 @@
+pub mod PartsFrom
+pub mod Listed
