@@ -6,3 +6,4 @@ pub mod Calls
 pub mod Asking
 pub mod Shows
 pub mod Outlines
+pub mod Plain
