@@ -80,7 +80,7 @@ fn procedure_end(program: &[u8], layout: Layout, begin: usize) -> EndRead
 // ---- all of them
 
 // Whether the statement with a label begins a procedure; past the last one none does.
-fn begins_procedure(program: &[u8], layout: Layout, i: usize) -> bool
+pub fn begins_procedure(program: &[u8], layout: Layout, i: usize) -> bool
     requires { ⌜ Placed (now program) layout ⌝ }
     ensures { λ r. ⌜ r ≡ not (beginsNone (itemAt (tablesOf (now (program .entry))) i)) ⌝ }
 {
@@ -91,7 +91,7 @@ fn begins_procedure(program: &[u8], layout: Layout, i: usize) -> bool
 }
 
 // Whether no statement from a label on begins a procedure.
-pub fn none_begins(program: &[u8], layout: Layout, from: usize) -> bool
+fn none_begins(program: &[u8], layout: Layout, from: usize) -> bool
     requires { ⌜ Placed (now program) layout ⌝ }
     ensures { λ r. ⌜ r ≡ every beginsNone (drop from (itemsOf (tablesOf (now (program .entry))))) ⌝ }
 {
