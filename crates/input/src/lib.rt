@@ -36,7 +36,7 @@ enum Pairs {
 fn width_of(ty: u8) -> usize
     ensures { λ w. ⌜ WidthIs ty w ⌝ }
 {
-    let range = arith::range_of(ty % 8);
+    let range = arith::step_range(ty % 8);
     (range.bits / 8) as usize
 }
 
@@ -156,5 +156,5 @@ pub fn reading(ty: u8, part: &[u8], k: usize) -> arith::Num
     requires { ⌜ (ty < 8) × ((k + 1) * width ty ≤ length (now part)) ⌝ }
     ensures { λ r. ⌜ valueOf r ≡ readingAt ty (now (part .entry)) (k * width ty) ⌝ }
 {
-    reading_by_row(arith::range_of(ty), part, k)
+    reading_by_row(arith::step_range(ty), part, k)
 }

@@ -7,8 +7,8 @@ use Rattle.input.proofs.Fields.{row-width, width-modulo, some-width, wi
 use Rattle.input.proofs.width_of.Statement.{statement}
 use Rattle.input.proofs.width_of.Tie as tie
 
-range-of-requires : tie.Need-range-of-requires
-range-of-requires c κs = search needs
+step-range-requires : tie.Need-step-range-requires
+step-range-requires c κs = search needs
 
 cast-result : tie.Need-cast-result
 cast-result c = search needs
@@ -16,8 +16,8 @@ cast-result c = search needs
 returns : tie.Need-returns
 returns c =
     let t = c .before .before .args .ty in
-    let w = row-width (t % 8) _ (c .before .range-of .ensures) ∙ width-modulo t in
+    let w = row-width (t % 8) _ (c .before .step-range .ensures) ∙ width-modulo t in
     record { is = w; some = omega (arith, w, some-width t); few = omega (arith, w, width-le t) }
 
 pub width-of-spec : {M : Type 1} → statement M
-width-of-spec = tie.close (tie.spec range-of-requires cast-result returns)
+width-of-spec = tie.close (tie.spec step-range-requires cast-result returns)
