@@ -156,7 +156,7 @@ pub fn insert(s: &mut [u64], base: usize, w: &[u64], m: usize) -> bool
     ensures { λ r. ⌜ Inserted r base (conjOf (now (w .entry)) m) (now (s .entry)) (now (s .exit)) × Within base (now (s .entry)) (now (s .exit)) ⌝ }
 {
     let n = at_most(s[base]);
-    let spot = find(s, base, n, w, m);
+    let spot = find(s, base, n, &w[..m], m);
     match spot {
         Spot::Here => true,
         Spot::Before(i) => {
