@@ -63,11 +63,13 @@ fn cut(nest: Nest, terms: usize) -> Nest {
     Nest { touched, loads, readings, reads: nest.reads.min(readings), sites: Sites::Same(1), ..nest }
 }
 
-/// Seconds of one site, reckoned from few pieces.
+/// Seconds of one site, reckoned from few pieces, and from one call of them.
 fn one_site(nest: Nest) -> Option<f64> {
-    let none = seconds(Nest { pieces: 0, ..nest })?;
-    let few = seconds(Nest { pieces: FEW, ..nest })?;
-    Some(none + (few - none).max(0.0) * nest.pieces as f64 / FEW as f64)
+    let calls = nest.calls.min(1);
+    let none = seconds(Nest { pieces: 0, calls, ..nest })?;
+    let few = seconds(Nest { pieces: FEW, calls, ..nest })?;
+    let pieces = nest.pieces * nest.calls.max(1);
+    Some(none + (few - none).max(0.0) * pieces as f64 / FEW as f64)
 }
 
 /// Seconds of all sites; sites of one value count once.
@@ -85,15 +87,21 @@ fn reckoned(nest: Nest) -> Option<f64> {
     }
 }
 
-/// As many pieces as there is room for, or nothing if there is none.
+/// As many pieces as there is room for, and as many calls of them, or nothing if there is none.
 fn filled(nest: Nest) -> Option<Nest> {
-    (FEW..MOST_STATEMENTS).rev().map(|pieces| Nest { pieces, ..nest }).find(|nest| nest.fits())
+    let calls = nest.calls.min(1);
+    let one = (FEW..MOST_STATEMENTS).rev().map(|pieces| Nest { pieces, calls, ..nest }).find(|nest| nest.fits())?;
+    let more = |calls: usize| Nest { pieces: one.pieces - calls / 2 - 1, calls, ..one };
+    if calls == 0 {
+        return Some(one);
+    }
+    (1..2 * (one.pieces - FEW)).rev().map(more).find(|nest| nest.fits()).or(Some(one))
 }
 
 /// A step to a nest nearby.
 fn step(rng: &mut Rng, mut nest: Nest) -> Nest {
     for _ in 0..rng.between(1, 4) {
-        match rng.below(10) {
+        match rng.below(11) {
             0 => nest.depth = rng.between(1, 4),
             1 => nest.rounds = rng.between(2, 16),
             2 => nest.rounds = rng.between(nest.rounds.max(4) - 2, nest.rounds.min(14) + 2),
@@ -103,6 +111,7 @@ fn step(rng: &mut Rng, mut nest: Nest) -> Nest {
             6 => nest.touched = rng.between(1, 40),
             7 => nest.loads = rng.between(0, 4),
             8 => nest.reads = rng.between(0, TERMS),
+            9 => nest.calls = rng.below(2),
             _ => {
                 let count = rng.between(1, TERMS);
                 nest.sites = rng.pick(&[Sites::Same(1), Sites::Different(count), Sites::Numbered(MOST_CONJUNCTS)]);

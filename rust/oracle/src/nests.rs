@@ -11,8 +11,9 @@
 //! starts it at both places, an outer link at the first alone.
 
 use crate::blocks::DEEPEST;
-use crate::build::{constant, recipe, s};
+use crate::build::{call, constant, procedure, recipe, s};
 use crate::generate::Rng;
+use crate::procedures::MOST_WRITTEN;
 use crate::recipe::{MOST_STATEMENTS, MOST_VARIABLES};
 use crate::types::{ADD, COPY, ELSE, END, IF, LOAD, READ, SITE, STORE, WHILE};
 
@@ -64,6 +65,8 @@ pub struct Nest {
     /// What the innermost body has, and how many of them.
     pub piece: Piece,
     pub pieces: usize,
+    /// How many times the innermost body calls a procedure that has the pieces; without calls it has them itself.
+    pub calls: usize,
     /// Terms of the sum: the touched variable, loads from the tray of two cells, which double the set each, and
     /// readings, as many of them of their own as `reads` says.
     pub touched: usize,
@@ -94,12 +97,25 @@ impl Nest {
     #[must_use]
     pub fn fits(self) -> bool {
         let ifs = usize::from(self.piece == Piece::If && self.pieces > 0);
-        self.depth + ifs <= DEEPEST && self.variables() <= MOST_VARIABLES && self.statements() <= MOST_STATEMENTS
+        self.depth + ifs <= DEEPEST
+            && self.variables() <= MOST_VARIABLES
+            && self.statements() <= MOST_STATEMENTS
+            && self.written_out() <= MOST_WRITTEN
     }
 
-    /// The chains, and four more.
+    /// The statements with each call written out: the argument, the pieces and the result.
+    #[must_use]
+    pub fn written_out(self) -> usize {
+        if self.calls == 0 {
+            return self.statements();
+        }
+        let pieces = self.statements() - Nest { pieces: 0, ..self }.statements();
+        self.statements() - pieces - 2 - self.calls + self.calls * (pieces + 2)
+    }
+
+    /// The chains, four more, and the procedure's own.
     fn variables(self) -> usize {
-        self.chains() + 4
+        self.chains() + 4 + usize::from(self.calls > 0)
     }
 
     /// The links of all chains.
@@ -118,6 +134,9 @@ impl Nest {
 
     fn code(self) -> Vec<[u8; 8]> {
         let mut writer = Writer::new(self);
+        if self.calls > 0 {
+            writer.procedure();
+        }
         if self.depth == 0 {
             // A reading, or the conjuncts would all be one at the start.
             writer.put(READ, writer.touched, 0, 0);
@@ -137,6 +156,7 @@ const DEEP: Nest = Nest {
     long: false,
     piece: Piece::Copies,
     pieces: 410,
+    calls: 0,
     touched: 8,
     loads: 0,
     readings: 51,
@@ -192,6 +212,7 @@ pub fn some(rng: &mut Rng) -> Nest {
         long: rng.chance(50),
         piece,
         pieces: rng.below(4),
+        calls: if rng.chance(30) { rng.between(1, 3) } else { 0 },
         touched,
         loads,
         readings,
@@ -222,6 +243,17 @@ impl Writer {
         self.code.push(s(kind, a, b, c));
     }
 
+    /// The procedure of the pieces: its one variable is its parameter, its result and all that they name.
+    fn procedure(&mut self) {
+        let own = self.taken + 1;
+        let Writer { touched, spare, taken, .. } = *self;
+        self.code.push(procedure(1, own, 1));
+        (self.touched, self.spare, self.taken) = (own, own, own);
+        (0..self.nest.pieces).for_each(|_| self.piece());
+        (self.touched, self.spare, self.taken) = (touched, spare, taken);
+        self.put(END, 0, 0, 0);
+    }
+
     /// An if without an else, of assignments.
     fn either(&mut self, assignments: impl IntoIterator<Item = (u8, u8)>) {
         self.put(IF, self.taken, 0, 0);
@@ -238,7 +270,7 @@ impl Writer {
     fn whiles(&mut self, level: usize) {
         let nest = self.nest;
         if level == nest.depth {
-            return (0..nest.pieces).for_each(|_| self.piece());
+            return self.innermost();
         }
         let inner = level + 1 < nest.depth;
         self.put(WHILE, self.taken, 0, 0);
@@ -253,6 +285,15 @@ impl Writer {
             self.either((self.link(level, 0)..first).map(|link| (link, first)));
         }
         self.put(END, 0, 0, 0);
+    }
+
+    /// The pieces, or the calls of the procedure that has them.
+    fn innermost(&mut self) {
+        let Nest { pieces, calls, .. } = self.nest;
+        if calls == 0 {
+            return (0..pieces).for_each(|_| self.piece());
+        }
+        (0..calls).for_each(|_| self.code.push(call(self.touched, 0, &[self.touched])));
     }
 
     fn piece(&mut self) {
