@@ -1,13 +1,13 @@
 /* The survey gate: from a recipe to its condition, from a condition and a sheet to a verdict, and a
- * recipe's run. Each function is proved to equal its definition in document 01, with document 02's
- * Cards 1 to 4, for every input. docs/FORMATS.md has the files byte by byte, docs/REFUSALS.md the
- * refusals and the causes of holds, examples/gate.c a program.
+ * recipe's run; and old recipes in today's form. Each function is proved to equal its definition in
+ * document 01, with document 02's Cards 1 to 5, for every input. docs/FORMATS.md has the files byte by byte,
+ * docs/REFUSALS.md the refusals and the causes of holds, examples/gate.c a program.
  *
  * Slices. A slice is a pointer and a number of elements. With a length of 0 the pointer may be NULL,
  * since nothing is read or written through it. Bytes may stand at any address; scratch, `steps` and
  * `records` are aligned as uint64_t, and the last two are never NULL. Slices that are only read may
- * overlap each other; what is written to (`condition`, `log`, `scratch`, `steps`, `records`) overlaps
- * nothing else.
+ * overlap each other; what is written to (`condition`, `log`, `scratch`, `steps`, `records`, and
+ * `recipe` of gate_convert) overlaps nothing else.
  *
  * Answers. An answer's upper 32 bits are the number of the refusal, 1 to 16, or 0; its lower 32 bits
  * are then what each function says. After a refusal everything that is lent, but scratch, is as it was.
@@ -33,8 +33,8 @@ extern "C" {
 
 /* Sizes. */
 #define GATE_SCRATCH_WORDS 134350u /* words of scratch that serve every call: gate_scratch() */
-#define GATE_CONDITION_BYTES 61992u /* the least bytes of a condition output; no condition is longer */
-#define GATE_RECIPE_BYTES 8384u /* the longest recipe */
+#define GATE_CONDITION_BYTES 62024u /* the least bytes of a condition output; no condition is longer */
+#define GATE_RECIPE_BYTES 8416u /* the longest recipe, and the least bytes of a recipe output */
 #define GATE_SHEET_BYTES 33024u /* the longest sheet */
 #define GATE_RECORD_BYTES 12u /* a record of a log */
 #define GATE_CHOICE_BYTES 2u /* a choice */
@@ -78,7 +78,7 @@ enum gate_refusal {
     GATE_REFUSAL_ROOM = 1, /* too little room was lent */
     GATE_REFUSAL_RECIPE_TABLE = 2, /* the recipe's length or section table is wrong */
     GATE_REFUSAL_ENTRIES = 3, /* a section has too many entries */
-    GATE_REFUSAL_DECLARATION = 4, /* a type code, a tray's length or its zero byte is wrong */
+    GATE_REFUSAL_DECLARATION = 4, /* a type code, a field's bits, a tray's length or its zero byte is wrong */
     GATE_REFUSAL_STATEMENT = 5, /* a statement's kind, operand or unused byte is wrong */
     GATE_REFUSAL_TYPES = 6, /* types disagree */
     GATE_REFUSAL_NUMBER = 7, /* a number does not fit its type */
@@ -87,7 +87,7 @@ enum gate_refusal {
     GATE_REFUSAL_CONJUNCTS = 10, /* there are over 64 expressions */
     GATE_REFUSAL_LOOP = 11, /* a loop makes a value from its own earlier value */
     GATE_REFUSAL_CONDITION = 12, /* the condition is damaged, or is no condition */
-    GATE_REFUSAL_SHEET = 13, /* the sheet is damaged, or belongs to another recipe */
+    GATE_REFUSAL_SHEET = 13, /* the sheet is damaged, has a reading beyond its bits, or belongs to another recipe */
     GATE_REFUSAL_COMBINATIONS = 14, /* a conjunct has over 1,048,576 combinations of readings */
     GATE_REFUSAL_BLANK = 15, /* a field that a conjunct reads has no readings */
     GATE_REFUSAL_PROCEDURES = 16 /* a procedure is wrong, or the calls written out are too long or too deep */
@@ -155,6 +155,15 @@ uint64_t gate_guarded(const uint8_t *recipe, size_t recipe_length,
                       uint8_t *condition, size_t condition_length,
                       uint64_t *scratch, size_t scratch_length,
                       uint64_t *steps, uint64_t *records);
+
+/* Converts a recipe of the form before document 02's Card 5, whose fields are types alone and which has
+ * at most 8,384 bytes, to today's form: its fields get all bits of their types, and the sections after
+ * them their new offsets. Gives its length in bytes; it stands at the start of `recipe`, and every byte
+ * past it is as it was. Wants GATE_RECIPE_BYTES and gate_scratch() words, else refuses with 1; then 2 to
+ * 8 and 16 by the old form. What only gate_derive refuses, with 9 to 11, is converted. */
+uint64_t gate_convert(const uint8_t *old, size_t old_length,
+                      uint8_t *recipe, size_t recipe_length,
+                      uint64_t *scratch, size_t scratch_length);
 
 #ifdef __cplusplus
 }

@@ -1,6 +1,6 @@
 /* What include/gate.h says of lent slices and of verdicts, through the library: NULL with length 0, odd
- * addresses, overlap of what is read, scratch before and after, threads; each cause of a hold. Prints
- * nothing if all of it is so. */
+ * addresses, overlap of what is read, scratch before and after, threads; each cause of a hold; readings
+ * at the ends of their bits; a conversion. Prints nothing if all of it is so. */
 #undef NDEBUG
 #include <assert.h>
 #include <gate.h>
@@ -16,11 +16,16 @@ static const uint8_t nothing[32] = {32, 0, 0, 0, 0, 0, 0, 0, 32, 0, 0, 0, 0, 0, 
 static const uint8_t unmatched[40] = {32, 0, 0, 0, 0, 0, 0, 0, 32, 0, 0, 0, 0, 0, 0, 0,
                                       32, 0, 0, 0, 0, 0, 0, 0, 32, 0, 0, 0, 8, 0, 0, 0,
                                       13, 0, 0, 0, 0, 0, 0, 0};
-/* field f u8; var x u8; x = read f; x = x + x; site x. */
-static const uint8_t doubled[58] = {32, 0, 0, 0, 1, 0, 0, 0, 33, 0, 0, 0, 1, 0, 0, 0,
-                                    34, 0, 0, 0, 0, 0, 0, 0, 34, 0, 0, 0, 24, 0, 0, 0,
-                                    0, 0, 7, 0, 0, 0, 0, 0, 0, 0, 2, 0, 0, 0, 0, 0, 0, 0,
+/* field f u8; var x u8; x = read f; x = x + x; site x. Byte 33 is 128 plus the 8 bits of the field. */
+static const uint8_t doubled[59] = {32, 0, 0, 0, 2, 0, 0, 0, 34, 0, 0, 0, 1, 0, 0, 0,
+                                    35, 0, 0, 0, 0, 0, 0, 0, 35, 0, 0, 0, 24, 0, 0, 0,
+                                    0, 136, 0, 7, 0, 0, 0, 0, 0, 0, 0, 2, 0, 0, 0, 0, 0, 0, 0,
                                     10, 0, 0, 0, 0, 0, 0, 0};
+/* The same in the old form. */
+static const uint8_t old_doubled[58] = {32, 0, 0, 0, 1, 0, 0, 0, 33, 0, 0, 0, 1, 0, 0, 0,
+                                        34, 0, 0, 0, 0, 0, 0, 0, 34, 0, 0, 0, 24, 0, 0, 0,
+                                        0, 0, 7, 0, 0, 0, 0, 0, 0, 0, 2, 0, 0, 0, 0, 0, 0, 0,
+                                        10, 0, 0, 0, 0, 0, 0, 0};
 /* Readings 100 and 127, whose doubles fit, and 128, whose double does not; and no reading. */
 static const uint8_t passing[10] = {8, 0, 0, 0, 2, 0, 0, 0, 100, 127};
 static const uint8_t holding[9] = {8, 0, 0, 0, 1, 0, 0, 0, 128};
@@ -28,6 +33,7 @@ static const uint8_t blank[8] = {8, 0, 0, 0, 0, 0, 0, 0};
 
 struct lent {
     uint8_t condition[GATE_CONDITION_BYTES];
+    uint8_t recipe[GATE_RECIPE_BYTES];
     uint8_t log[2 * GATE_RECORD_BYTES];
     uint64_t scratch[ROOM], steps, records;
 };
@@ -42,6 +48,10 @@ static int marked(const void *bytes, size_t length) {
 
 static uint64_t derive(struct lent *d, const uint8_t *recipe, size_t length) {
     return gate_derive(recipe, length, d->condition, sizeof d->condition, d->scratch, ROOM);
+}
+
+static uint64_t convert(struct lent *d, const uint8_t *old, size_t length) {
+    return gate_convert(old, length, d->recipe, sizeof d->recipe, d->scratch, ROOM);
 }
 
 static uint64_t run(struct lent *d, const uint8_t *recipe, size_t length, const uint8_t *sheet, size_t sheet_length) {
@@ -63,9 +73,11 @@ static void null_with_length_0(struct lent *d) {
     assert(run(d, nothing, sizeof nothing, NULL, 0) == GATE_END_FINISHED && d->steps == 0 && d->records == 0);
     assert(guarded(d, nothing, sizeof nothing, NULL, 0, NULL, 0) == GATE_END_FINISHED);
     assert(GATE_REFUSED(derive(d, NULL, 0)) == GATE_REFUSAL_RECIPE_TABLE);
+    assert(GATE_REFUSED(convert(d, NULL, 0)) == GATE_REFUSAL_RECIPE_TABLE);
     assert(GATE_REFUSED(run(d, NULL, 0, NULL, 0)) == GATE_REFUSAL_RECIPE_TABLE);
     assert(GATE_REFUSED(guarded(d, NULL, 0, NULL, 0, NULL, 0)) == GATE_REFUSAL_RECIPE_TABLE);
     assert(GATE_REFUSED(gate_derive(nothing, sizeof nothing, NULL, 0, NULL, 0)) == GATE_REFUSAL_ROOM);
+    assert(GATE_REFUSED(gate_convert(nothing, sizeof nothing, NULL, 0, NULL, 0)) == GATE_REFUSAL_ROOM);
     assert(GATE_REFUSED(gate_run(NULL, 0, NULL, 0, 0, NULL, 0, NULL, 0, NULL, 0, &d->steps, &d->records)) ==
            GATE_REFUSAL_ROOM);
     assert(GATE_REFUSED(gate_guarded(NULL, 0, NULL, 0, 0, NULL, 0, NULL, 0, NULL, 0, NULL, 0, &d->steps,
@@ -78,14 +90,21 @@ static void refusals_leave_all(struct lent *d) {
     assert(GATE_REFUSED(derive(d, unmatched, sizeof unmatched)) == GATE_REFUSAL_BLOCKS);
     assert(GATE_REFUSED(run(d, unmatched, sizeof unmatched, NULL, 0)) == GATE_REFUSAL_BLOCKS);
     assert(GATE_REFUSED(guarded(d, unmatched, sizeof unmatched, NULL, 0, NULL, 0)) == GATE_REFUSAL_BLOCKS);
+    assert(GATE_REFUSED(convert(d, unmatched, sizeof unmatched)) == GATE_REFUSAL_BLOCKS);
+    assert(GATE_REFUSED(convert(d, doubled, sizeof doubled)) == GATE_REFUSAL_DECLARATION);
     assert(GATE_REFUSED(gate_derive(nothing, sizeof nothing, d->condition, sizeof d->condition, d->scratch,
                                     GATE_SCRATCH_WORDS - 1)) == GATE_REFUSAL_ROOM);
+    assert(GATE_REFUSED(gate_convert(nothing, sizeof nothing, d->recipe, sizeof d->recipe, d->scratch,
+                                     GATE_SCRATCH_WORDS - 1)) == GATE_REFUSAL_ROOM);
+    assert(GATE_REFUSED(gate_convert(nothing, sizeof nothing, d->recipe, GATE_RECIPE_BYTES - 1, d->scratch,
+                                     ROOM)) == GATE_REFUSAL_ROOM);
     assert(marked(d, sizeof *d));
 }
 
 /* Whether everything lent is as it was, but the words of scratch that a call may change. */
 static int outputs_marked(const struct lent *d) {
-    return marked(d->condition, sizeof d->condition) && marked(d->log, sizeof d->log) &&
+    return marked(d->condition, sizeof d->condition) && marked(d->recipe, sizeof d->recipe) &&
+           marked(d->log, sizeof d->log) &&
            marked(&d->steps, sizeof d->steps) && marked(&d->records, sizeof d->records) &&
            marked(d->scratch + GATE_SCRATCH_WORDS, SPARE * sizeof *d->scratch);
 }
@@ -100,19 +119,52 @@ static const struct {
 };
 
 static void verdicts_and_causes(void) {
-    uint8_t condition[41] = {1, 0, 0, 0, 1, 0, 0, 0, 0, 17, 0, 0, 0, 24};
+    uint8_t condition[42] = {1, 0, 0, 0, 1, 0, 0, 0, 0, 136, 18, 0, 0, 0, 24};
     uint8_t sheet[9] = {8, 0, 0, 0, 1};
     size_t at;
-    condition[25] = condition[29] = 1; /* the first reading of the field */
+    condition[26] = condition[30] = 1; /* the first reading of the field */
     for (at = 0; at < sizeof steps / sizeof *steps; at++) {
         uint64_t answer;
-        condition[21] = steps[at].constant;
-        condition[33] = steps[at].operation;
+        condition[22] = steps[at].constant;
+        condition[34] = steps[at].operation;
         sheet[8] = steps[at].reading;
         answer = gate_check(condition, sizeof condition, sheet, sizeof sheet);
         assert(GATE_REFUSED(answer) == 0 && answer == steps[at].verdict + 256u * steps[at].cause);
         assert(GATE_VERDICT(answer) == steps[at].verdict && GATE_CAUSE(answer) == steps[at].cause);
     }
+}
+
+/* A field of u8 with so many bits, and readings that they hold or not. */
+static void readings_in_their_bits(void) {
+    uint8_t condition[10] = {0, 0, 0, 0, 1, 0, 0, 0, 0, 0};
+    uint8_t sheet[9] = {8, 0, 0, 0, 1};
+    int bits, reading;
+    for (bits = 1; bits <= 8; bits++) {
+        condition[9] = (uint8_t)(128 + bits);
+        for (reading = 0; reading < 256; reading++) {
+            uint64_t answer;
+            sheet[8] = (uint8_t)reading;
+            answer = gate_check(condition, sizeof condition, sheet, sizeof sheet);
+            if (reading >> bits)
+                assert(GATE_REFUSED(answer) == GATE_REFUSAL_SHEET);
+            else
+                assert(answer == GATE_PASS);
+        }
+    }
+    condition[9] = 137;
+    assert(GATE_REFUSED(gate_check(condition, sizeof condition, sheet, sizeof sheet)) == GATE_REFUSAL_CONDITION);
+}
+
+/* The new recipe stands at the start, and all else but scratch is as it was. */
+static void conversion(struct lent *d) {
+    memset(d, MARK, sizeof *d);
+    assert(convert(d, old_doubled, sizeof old_doubled) == sizeof doubled);
+    assert(memcmp(d->recipe, doubled, sizeof doubled) == 0);
+    memset(d->recipe, MARK, sizeof doubled);
+    assert(outputs_marked(d));
+    assert(convert(d, nothing, sizeof nothing) == sizeof nothing);
+    assert(memcmp(d->recipe, nothing, sizeof nothing) == 0);
+    assert(GATE_REFUSED(derive(d, old_doubled, sizeof old_doubled)) == GATE_REFUSAL_RECIPE_TABLE);
 }
 
 static void hold_leaves_outputs(struct lent *d) {
@@ -172,6 +224,8 @@ int main(void) {
     null_with_length_0(&all_lent[0]);
     refusals_leave_all(&all_lent[0]);
     verdicts_and_causes();
+    readings_in_their_bits();
+    conversion(&all_lent[0]);
     blank_leaves_outputs(&all_lent[0]);
     threads_with_scratch_each();
     return 0;

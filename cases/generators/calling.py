@@ -4,56 +4,14 @@ Each cause of 16 alone and with an end too many, which is 8; the limits of the w
 6 of the two kinds; what calls do to conditions; and each end of a run around a call. The answers were worked out by hand, and
 are those of the independent implementation, whose test `stored` holds it to them. All recipes have one field of u32, eight
 variables of u32 and one of u8, and a tray of two u32, but for those of many procedures, whose variables are 64 of u32."""
-from typing import List, NamedTuple, Sequence, Tuple, Union
+from typing import List, Sequence
 
-from filtering import U8, U32, condition, conjunct, sheet
-from stored import four
+from recipes import (ADD, BLANK, CALL, COPY, ELSE, END, FIELDS, IF, LOAD, NUMBER, PROCEDURE, READ, SITE, STORE, SUBTRACT, TRAYS,
+                     U32, VARIABLES, WHILE, Statement, Worked, s)
+from recipes import recipe as of_parts
+from recipes import refused as worked
 
-NUMBER, COPY, ADD, SUBTRACT, READ, LOAD, STORE, SITE, IF, ELSE, END, WHILE, PROCEDURE, CALL = 0, 1, 2, 3, *range(7, 17)
-Statement = bytes
-FIELDS, VARIABLES, MANY = [U32], [U32] * 8 + [U8], [U32] * 64
-SEVEN, BLANK = sheet(four(7)), sheet(b"")
-
-
-class Calling(NamedTuple):
-    """A case: what it is there for, its recipe, its sheet, the run's limit, choices and room, and the answers.
-
-    `derive` is a refusal or the conjuncts; `records` are the label, the mark and the value of each."""
-
-    what: str
-    recipe: bytes
-    derive: Union[str, Sequence[str]]
-    run: str
-    records: Sequence[Tuple[int, int, int]] = ()
-    sheet: bytes = SEVEN
-    limit: int = 100
-    choices: int = 1
-    room: int = 120
-
-    @property
-    def choice_file(self) -> bytes:
-        """The limit, and choices of 0."""
-        return four(self.limit) + bytes(2 * self.choices)
-
-    def derived(self) -> bytes:
-        """The condition's file, of a recipe that is accepted."""
-        return condition(FIELDS, *[conjunct(U32, text) for text in self.derive])
-
-    def listing(self) -> List[str]:
-        """The listing program's lines."""
-        if isinstance(self.derive, str):
-            return [self.derive]
-        typed = [" ".join(f"{node}:u32" for node in text.split()) for text in self.derive]
-        return [f"conjuncts {len(typed)}", *(f"{place}: {text}" for place, text in enumerate(typed))]
-
-    def log(self) -> bytes:
-        """The records' bytes."""
-        return b"".join(label.to_bytes(2, "little") + bytes([mark, 0]) + value.to_bytes(8, "little") for label, mark, value in self.records)
-
-
-def s(kind: int, a: int = 0, b: int = 0, c: int = 0, immediate: int = 0) -> Statement:
-    """A statement."""
-    return bytes([kind, a, b, c]) + four(immediate)
+MANY = [U32] * 64
 
 
 def procedure(parameters: int, first: int, count: int) -> Statement:
@@ -66,14 +24,9 @@ def call(target: int, number: int, *given: int) -> Statement:
     return bytes([CALL, target, number, 0]) + bytes(given).ljust(4, b"\0")
 
 
-def recipe(statements: Sequence[Statement], variables: Sequence[int] = tuple(VARIABLES)) -> bytes:
+def recipe(statements: Sequence[Statement], variables: Sequence[int] = VARIABLES) -> bytes:
     """A recipe's file."""
-    parts = [bytes(FIELDS), bytes(variables), bytes([U32, 0, 2, 0]), b"".join(statements)]
-    table, at = b"", 32
-    for part in parts:
-        table += four(at) + four(len(part))
-        at += len(part)
-    return table + b"".join(parts)
+    return of_parts(FIELDS, variables, statements, TRAYS)
 
 
 CLOSE = s(END)
@@ -81,12 +34,12 @@ DOUBLES = [procedure(1, 4, 2), s(ADD, 5, 4, 4), CLOSE]
 FINISHED = "end 0 steps %d records %d"
 
 
-def refused(what: str, number: int, statements: Sequence[Statement], variables: Sequence[int] = tuple(VARIABLES)) -> Calling:
+def refused(what: str, number: int, statements: Sequence[Statement], variables: Sequence[int] = VARIABLES) -> Worked:
     """A recipe that analysis and run refuse."""
-    return Calling(what, recipe(statements, variables), f"refused {number}", f"refused {number}")
+    return worked(what, number, recipe(statements, variables))
 
 
-def causes() -> List[Calling]:
+def causes() -> List[Worked]:
     """Each cause of 16 that is none of the written-out form, alone and with an end too many."""
     rows = [
         ("a procedure below another statement", [s(NUMBER), *DOUBLES]),
@@ -119,7 +72,7 @@ def doubling(last: int) -> List[Statement]:
     return code
 
 
-def limits() -> List[Calling]:
+def limits() -> List[Worked]:
     """The written-out form at its limits, and what is never called."""
     body = [procedure(0, 4, 1), *[s(NUMBER, 4, immediate=7)] * 126, CLOSE]
     most = [*body, *[call(0, 0)] * 127, *[s(NUMBER, 1)] * 127, s(SITE, 0)]
@@ -130,20 +83,20 @@ def limits() -> List[Calling]:
     inside = recipe([procedure(0, 4, 1), *[s(WHILE, 4)] * 4, *[CLOSE] * 5, call(0, 0), site])
     too_deep = [*deep, procedure(0, 5, 1), *[s(WHILE, 5)] * 3, call(5, 0), *[CLOSE] * 4]
     return [
-        Calling("16,384 statements written out", recipe(most), ["7"], FINISHED % (16257, 1), [(382, 0, 7)], limit=20000),
+        Worked("16,384 statements written out", recipe(most), ["7"], FINISHED % (16257, 1), [(382, 0, 7)], limit=20000),
         refused("16,385", 16, [*most, s(NUMBER, 1)]),
         refused("2 to the power of 60 calls", 16, [*doubling(60), call(0, 60)], MANY),
-        Calling("the same procedures, and none is called", recipe([*doubling(60), site], MANY), ["0"], FINISHED % (1, 1), [(242, 0, 0)]),
-        Calling("a call nests blocks 4 deep", called, ["0"], FINISHED % (2, 1), [(11, 0, 0)]),
+        Worked("the same procedures, and none is called", recipe([*doubling(60), site], MANY), ["0"], FINISHED % (1, 1), [(242, 0, 0)]),
+        Worked("a call nests blocks 4 deep", called, ["0"], FINISHED % (2, 1), [(11, 0, 0)]),
         refused("a call nests blocks 5 deep", 16, [*deep, *[s(WHILE)] * 3, call(0, 0), *[CLOSE] * 3]),
-        Calling("4 deep inside a procedure, which is no nested block", inside, ["0"], FINISHED % (3, 1), [(11, 0, 0)]),
+        Worked("4 deep inside a procedure, which is no nested block", inside, ["0"], FINISHED % (3, 1), [(11, 0, 0)]),
         refused("5 deep inside a procedure", 8, [procedure(0, 4, 1), *[s(WHILE, 4)] * 5, *[CLOSE] * 6]),
-        Calling("5 deep where nobody calls it", recipe([*too_deep, site]), ["0"], FINISHED % (1, 1), [(15, 0, 0)]),
-        Calling("procedures alone", recipe(DOUBLES), [], FINISHED % (0, 0), limit=1),
+        Worked("5 deep where nobody calls it", recipe([*too_deep, site]), ["0"], FINISHED % (1, 1), [(15, 0, 0)]),
+        Worked("procedures alone", recipe(DOUBLES), [], FINISHED % (0, 0), limit=1),
     ]
 
 
-def operands() -> List[Calling]:
+def operands() -> List[Worked]:
     """5 and 6 of the two kinds, and 16 where 6 passes over a call."""
     own = [procedure(2, 4, 3), CLOSE]
     return [
@@ -162,7 +115,7 @@ def operands() -> List[Calling]:
     ]
 
 
-def conditions() -> List[Calling]:
+def conditions() -> List[Worked]:
     """What the written-out assignments do to conditions."""
     reads, loads = [procedure(0, 4, 1), s(READ, 4), CLOSE], [procedure(0, 4, 2), s(LOAD, 5, 0, 4), CLOSE]
     again = [procedure(0, 4, 2), s(ADD, 4, 4, 4), s(COPY, 5, 4), CLOSE]
@@ -173,30 +126,30 @@ def conditions() -> List[Calling]:
     sites = recipe([procedure(1, 4, 2), s(SITE, 4), s(ADD, 5, 4, 4), CLOSE, get, call(0, 0, 0), call(0, 0, 0)])
     both = ["0 0 add", "0 f0<1> add", "f0<1> 0 add", "f0<1> f0<1> add"]
     return [
-        Calling("a read in a procedure, called twice: two atoms", recipe([*reads, call(0, 0), call(1, 0), *total]),
+        Worked("a read in a procedure, called twice: two atoms", recipe([*reads, call(0, 0), call(1, 0), *total]),
                 ["f0<1> f0<2> add"], FINISHED % (6, 1), [(6, 0, 14)], choices=2),
-        Calling("the target among the arguments", recipe([*DOUBLES, get, call(0, 0, 0), show]),
+        Worked("the target among the arguments", recipe([*DOUBLES, get, call(0, 0, 0), show]),
                 ["f0<1> f0<1> add"], FINISHED % (4, 1), [(5, 0, 14)]),
-        Calling("the result is the last parameter", recipe([*itself, get, call(1, 0, 0), show, s(SITE, 1)]),
+        Worked("the result is the last parameter", recipe([*itself, get, call(1, 0, 0), show, s(SITE, 1)]),
                 ["f0<1>", "f0<1> f0<1> add"], FINISHED % (5, 2), [(5, 0, 7), (6, 0, 14)]),
-        Calling("a call in a while, whose own variable is read before it is set: 0 each time, so that the while settles", in_a_while,
+        Worked("a call in a while, whose own variable is read before it is set: 0 each time, so that the while settles", in_a_while,
                 ["0", "0 0 add"], FINISHED % (8, 1), [(9, 0, 0)]),
-        Calling("the same load in two calls: two labels", two_loads, both, FINISHED % (8, 1), [(8, 0, 14)]),
-        Calling("a site in a procedure, called twice", sites, ["f0<1>", "f0<1> f0<1> add"], FINISHED % (7, 2), [(1, 0, 7), (1, 0, 14)]),
-        Calling("calls in a call", recipe([*twice, get, call(1, 1, 0), s(SITE, 1)]),
+        Worked("the same load in two calls: two labels", two_loads, both, FINISHED % (8, 1), [(8, 0, 14)]),
+        Worked("a site in a procedure, called twice", sites, ["f0<1>", "f0<1> f0<1> add"], FINISHED % (7, 2), [(1, 0, 7), (1, 0, 14)]),
+        Worked("calls in a call", recipe([*twice, get, call(1, 1, 0), s(SITE, 1)]),
                 ["f0<1> f0<1> add f0<1> f0<1> add add"], FINISHED % (7, 1), [(9, 0, 28)]),
     ]
 
 
-def runs() -> List[Calling]:
+def runs() -> List[Worked]:
     """Each end of a run around a call, and marks that go through one."""
     body = [procedure(1, 4, 2), s(ADD, 5, 4, 4), s(SITE, 5), CLOSE]
     code = recipe([*body, s(READ, 0), call(1, 0, 0), call(1, 0, 1), s(SITE, 1)])
     expected = ["f0<1> f0<1> add", "f0<1> f0<1> add f0<1> f0<1> add add"]
     records = [(2, 0, 14), (2, 0, 28), (7, 0, 28)]
 
-    def ended(what: str, end: int, steps: int, noted: int, **given: int) -> Calling:
-        return Calling(what, code, expected, f"end {end} steps {steps} records {noted}", records[:noted], **given)
+    def ended(what: str, end: int, steps: int, noted: int, **given: int) -> Worked:
+        return Worked(what, code, expected, f"end {end} steps {steps} records {noted}", records[:noted], **given)
 
     last = recipe([procedure(1, 4, 2), CLOSE, call(1, 0, 1)])
     reads = recipe([procedure(0, 4, 1), s(READ, 4), CLOSE, call(0, 0), call(0, 0), s(SITE, 0)])
@@ -211,14 +164,14 @@ def runs() -> List[Calling]:
         ended("the limit is met at the first call", 1, 1, 0, limit=1),
         ended("the log is full at a site in the second body", 4, 6, 1, room=12),
         ended("the log is full behind the second call", 4, 7, 2, room=35),
-        Calling("a call as the last step of its limit: coming back is none", last, [], FINISHED % (1, 0), limit=1),
-        Calling("a read in a body of a blank field", reads, ["f0<1>"], "end 2 steps 1 records 0", sheet=BLANK),
-        Calling("choices used up in the second body", reads, ["f0<1>"], "end 3 steps 3 records 0"),
-        Calling("a mark goes through a call, and an own variable has none at the next", marked, ["0", "0 1 sub"],
+        Worked("a call as the last step of its limit: coming back is none", last, [], FINISHED % (1, 0), limit=1),
+        Worked("a read in a body of a blank field", reads, ["f0<1>"], "end 2 steps 1 records 0", sheet=BLANK),
+        Worked("choices used up in the second body", reads, ["f0<1>"], "end 3 steps 3 records 0"),
+        Worked("a mark goes through a call, and an own variable has none at the next", marked, ["0", "0 1 sub"],
                 FINISHED % (12, 4), [(1, 0, 0), (8, 1, 2**32 - 1), (1, 0, 0), (10, 0, 0)]),
     ]
 
 
-def beside() -> List[Calling]:
+def beside() -> List[Worked]:
     """The cases, in order."""
     return [*causes(), *limits(), *operands(), *conditions(), *runs()]

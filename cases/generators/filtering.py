@@ -1,18 +1,21 @@
 """The part `filtering` of the program cases: verdicts on the outside vectors, and the cases beside them.
 
-The verdicts come from the vectors' answers; a condition whose answer is empty is left out. In the first cases, which are of sets
-without causes, a hold is `held` alone. The cases beside the vectors: document 01's example of one field with 128 readings, here a
-u32 in which nothing overflows; blank fields, whose refusal 15 stands between 13 and 14; holds, with the cause of the first
-failure, as worked out by hand; and sheets with wrong pairs, under a condition that has fields alone."""
-from typing import List, NamedTuple, Sequence, Tuple
+The verdicts come from the vectors' answers; a condition whose answer is empty is left out. The cases beside the vectors: document
+01's example of one field with 128 readings, here a u32 in which nothing overflows; blank fields, whose refusal 15 stands between
+13 and 14; holds, with the cause of the first failure, as worked out by hand; sheets with wrong pairs, under a condition that has
+fields alone; and fields of fewer bits than their type's."""
+from typing import List, NamedTuple, Sequence, Tuple, Union
 
 from stored import four
 from vectors import Case
 
 TYPES = ("u8", "u16", "u32", "u64", "i8", "i16", "i32", "i64")
-U8, U16, U32, U64, I8, I32 = (TYPES.index(name) for name in ("u8", "u16", "u32", "u64", "i8", "i32"))
+U8, U16, U32, U64, I8, I16, I32, I64 = range(8)
 CONSTANT, READING = 0, 1
 OPERATIONS = {"add": 2, "sub": 3, "mul": 4, "div": 5, "to": 6}
+# A field is its type, whose bits it has all, or the two bytes of its entry.
+Field = Union[int, bytes]
+OVER_BITS = 128
 
 
 class Beside(NamedTuple):
@@ -40,13 +43,29 @@ def conjunct(usual: int, text: str) -> bytes:
     return nodes
 
 
-def condition(types: Sequence[int], *conjuncts: bytes) -> bytes:
+def width(code: int) -> int:
+    """The bytes of a type."""
+    return 2 ** (code % 4)
+
+
+def entry(field: Field) -> bytes:
+    """The entry of a field."""
+    return bytes([field, OVER_BITS + 8 * width(field)]) if isinstance(field, int) else field
+
+
+def narrow(code: int, bits: int) -> Field:
+    """A field of a type with so many bits."""
+    return bytes([code, OVER_BITS + bits])
+
+
+def condition(fields: Sequence[Field], *conjuncts: bytes) -> bytes:
     """A condition's file; the conjuncts are given in the file's order."""
-    table, at = b"", 8 + len(types) + 8 * len(conjuncts)
+    entries = b"".join(map(entry, fields))
+    table, at = b"", 8 + len(entries) + 8 * len(conjuncts)
     for conjunct in conjuncts:
         table += four(at) + four(len(conjunct))
         at += len(conjunct)
-    return four(len(conjuncts)) + four(len(types)) + bytes(types) + table + b"".join(conjuncts)
+    return four(len(conjuncts)) + four(len(fields)) + entries + table + b"".join(conjuncts)
 
 
 def sheet(*columns: bytes) -> bytes:
@@ -56,6 +75,11 @@ def sheet(*columns: bytes) -> bytes:
         table += four(at) + four(len(column))
         at += len(column)
     return table + b"".join(columns)
+
+
+def column(code: int, *values: int) -> bytes:
+    """The bytes of a field's readings."""
+    return b"".join((value % 2 ** (8 * width(code))).to_bytes(width(code), "little") for value in values)
 
 
 def blank_fields() -> List[Beside]:
@@ -84,9 +108,7 @@ def blank_fields() -> List[Beside]:
 def held(cause: str, what: str, code: int, conjuncts: str, *columns: Sequence[int]) -> Beside:
     """A hold: its conjuncts, with a semicolon between, and the readings of each field, all of this type."""
     types, parts = [code] * len(columns), [conjunct(code, text) for text in conjuncts.split(";")]
-    width = 2 ** (code % 4)
-    readings = [b"".join((value % 2 ** (8 * width)).to_bytes(width, "little") for value in column) for column in columns]
-    return Beside(what, condition(types, *parts), sheet(*readings), f"held {cause}")
+    return Beside(what, condition(types, *parts), sheet(*(column(code, *values) for values in columns)), f"held {cause}")
 
 
 def first_failures() -> List[Beside]:
@@ -148,6 +170,74 @@ def wrong_pairs() -> List[Beside]:
     ]
 
 
+def second(what: str, answer: str, *entries: Tuple[int, int]) -> Beside:
+    """Fields by the two bytes of their entries, with a reading of 0 each, under a condition without conjuncts."""
+    return Beside(what, condition([bytes(one) for one in entries]), sheet(*(bytes(width(code)) for code, _ in entries)), answer)
+
+
+def second_bytes() -> List[Beside]:
+    """The second byte of a field's entry: 128 plus 1 to the bits of its type."""
+    wrong, old = "refused 12", four(0) + four(1) + bytes([U8])
+    return [
+        second("a u8 of no bits, second byte 128", wrong, (U8, 128)),
+        second("a u8 of 9 bits, second byte 137", wrong, (U8, 137)),
+        second("second byte 127", wrong, (U8, 127)),
+        second("second byte 0", wrong, (U8, 0)),
+        second("second byte 255", wrong, (U8, 255)),
+        second("eight u8 of 1 to 8 bits, second bytes 129 to 136", "pass", *((U8, byte) for byte in range(129, 137))),
+        second("all types with all their bits", "pass", *((code, 128 + 8 * width(code)) for code in range(8))),
+        second("all types, the i64 with a bit too many", wrong, *((code, 128 + 8 * width(code)) for code in range(7)), (I64, 193)),
+        second("an i8 of 9 bits", wrong, (I8, 137)),
+        second("a u16 of 17 bits beside one of 16", wrong, (U16, 144), (U16, 145)),
+        Beside("an entry of the old form", old, sheet(bytes(1)), wrong),
+        Beside("two entries of the old form", four(0) + four(2) + bytes([U8, U8]), sheet(bytes(1), bytes(1)), wrong),
+        Beside("a wrong second byte, and a sheet that is none", condition([bytes([U8, 128])]), b"", wrong),
+    ]
+
+
+def reading(what: str, answer: str, code: int, bits: int, *values: int) -> Beside:
+    """A field of so many bits and its readings, under a condition without conjuncts."""
+    return Beside(what, condition([narrow(code, bits)]), sheet(column(code, *values)), answer)
+
+
+def beyond_bits() -> List[Beside]:
+    """Readings at the ends of their field's bits, and beyond them."""
+    wrong, four_bits = "refused 13", narrow(U8, 4)
+    return [
+        reading("u8 of 4 bits: 0, 15", "pass", U8, 4, 0, 15),
+        reading("u8 of 4 bits: 16", wrong, U8, 4, 16),
+        reading("i8 of 1 bit: -1, 0", "pass", I8, 1, -1, 0),
+        reading("i8 of 1 bit: 1", wrong, I8, 1, 1),
+        reading("i16 of 4 bits: -8, 7", "pass", I16, 4, -8, 7),
+        reading("i16 of 4 bits: 8", wrong, I16, 4, 8),
+        reading("i16 of 4 bits: -9", wrong, I16, 4, -9),
+        reading("u16 of 8 bits: 255", "pass", U16, 8, 255),
+        reading("u16 of 8 bits: 256, beyond them in its second byte alone", wrong, U16, 8, 256),
+        reading("u64 of 63 bits: the highest", "pass", U64, 63, 2**63 - 1),
+        reading("u64 of 63 bits: one more", wrong, U64, 63, 2**63),
+        reading("i64 of 63 bits: the lowest and the highest", "pass", I64, 63, -2**62, 2**62 - 1),
+        reading("i64 of 63 bits: one less than the lowest", wrong, I64, 63, -2**62 - 1),
+        reading("i64 of 63 bits: one more than the highest", wrong, I64, 63, 2**62),
+        reading("u64 of 64 bits: the highest", "pass", U64, 64, 2**64 - 1),
+        reading("i64 of 64 bits: the lowest and the highest", "pass", I64, 64, -2**63, 2**63 - 1),
+        reading("the last of 128 readings is beyond its bits", wrong, U8, 4, *[15] * 127, 16),
+        Beside("the second of two fields has a reading beyond its bits, which are not the first's", condition([U8, four_bits]),
+               sheet(bytes([16]), bytes([16])), wrong),
+        Beside("a reading beyond its bits, in a field that no conjunct reads", condition([U8, four_bits], conjunct(U8, "f0<1>")),
+               sheet(bytes([1]), bytes([16])), wrong),
+        Beside("a reading beyond its bits, beside a blank field", condition([U8, four_bits], conjunct(U8, "f0<1>")),
+               sheet(b"", bytes([16])), wrong),
+        Beside("a reading beyond its bits, and 2,097,152 combinations", condition([four_bits], conjunct(U8, "f0<1> f0<2> add f0<3> add")),
+               sheet(bytes([*[0] * 127, 16])), wrong),
+        Beside("a blank field of 4 bits, which no conjunct reads", condition([four_bits]), sheet(b""), "pass"),
+        Beside("a blank field of 4 bits, which a conjunct reads", condition([four_bits], conjunct(U8, "f0<1>")), sheet(b""), "refused 15"),
+        Beside("a sum beyond 4 bits: results have their type", condition([four_bits], conjunct(U8, "f0<1> f0<2> add")),
+               sheet(bytes([15])), "pass"),
+        Beside("a product beyond u8, of readings of 4 bits", condition([four_bits], conjunct(U8, "f0<1> 20 mul")),
+               sheet(bytes([12, 13])), "held too big"),
+    ]
+
+
 def quotient(number: int) -> str:
     """What has no divisor in the combination with this number, from 0, and is small in all others."""
     return f"1 {less(number)} div"
@@ -173,6 +263,8 @@ def beside() -> List[Beside]:
         *blank_fields(),
         *first_failures(),
         *wrong_pairs(),
+        *second_bytes(),
+        *beyond_bits(),
     ]
 
 

@@ -7,7 +7,7 @@ import sys
 
 crate = sys.argv[1]
 U16, U32 = 1, 2
-fields = bytes([U16])
+fields = bytes([U16, 128 + 16])
 variables = bytes([U16, U16, U32, U32, U32])
 trays = b""
 statements = [

@@ -1,7 +1,6 @@
 """The part `reading` of the program cases: what the three readers say of a case of the outside vectors.
 
-A refusal comes from the vectors' answers; the counts of a file that is not refused are read from its section table or head. A
-gate's answer that is left empty was a verdict before Card 1, so that neither 12 nor 13 was met."""
+A refusal comes from the vectors' answers; the counts of a file that is not refused are read from its section table or head."""
 from typing import List
 
 from vectors import Case
@@ -22,7 +21,7 @@ def recipe_lines(case: Case) -> List[str]:
     recipe = case.content("recipe")
     if case.derive in [f"refused {n}" for n in (*range(2, 9), 16)]:
         return [f"{case.number} recipe {case.derive}"]
-    counts = number(recipe, 4), number(recipe, 12), number(recipe, 20) // 4, number(recipe, 28) // 8
+    counts = number(recipe, 4) // 2, number(recipe, 12), number(recipe, 20) // 4, number(recipe, 28) // 8
     return [
         f"{case.number} recipe fields %d variables %d trays %d statements %d" % counts,
         f"{case.number} sheet for the recipe {read_or_refused(case.run)}",

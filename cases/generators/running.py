@@ -1,16 +1,13 @@
 """The part `running` of the program cases: runs of the outside vectors, and the cases beside them.
 
 The ends, steps, records and refusals come from the vectors' answers, the records' bytes from the .log files, and the notes of
-the cases whose derived condition passes from the .whole files, where they were worked out: labels and numbers as noted, and no
-mark, since nothing in the making of a value overflows there. The cases beside the vectors: a while that is always taken, one step
-a round, and a read."""
-from typing import List, NamedTuple, Sequence, Tuple
+the cases whose derived condition passes from the .whole files: labels and numbers as noted, and no mark, since nothing in the
+making of a value overflows there. The cases beside the vectors: a while that is always taken, one step a round, and a read."""
+from typing import List, NamedTuple
 
+from recipes import END, NUMBER, READ, U8, WHILE, recipe, s
 from stored import RUNNING, ZERO_LIMIT, four
 from vectors import Case
-
-U8 = 0
-SET, READ, END, WHILE = 0, 7, 13, 14
 
 
 class Beside(NamedTuple):
@@ -24,20 +21,10 @@ class Beside(NamedTuple):
     answer: str
 
 
-def recipe(fields: Sequence[int], variables: Sequence[int], statements: Sequence[Tuple[int, int, int, int, int]]) -> bytes:
-    """A recipe with no trays; a statement is its kind, a, b, c and immediate."""
-    parts = [bytes(fields), bytes(variables), b"", b"".join(bytes(s[:4]) + four(s[4]) for s in statements)]
-    table, at = b"", 32
-    for part in parts:
-        table += four(at) + four(len(part))
-        at += len(part)
-    return table + b"".join(parts)
-
-
 def beside() -> List[Beside]:
     """The cases beside the vectors, in order."""
-    endless = recipe([], [U8], [(SET, 0, 0, 0, 1), (WHILE, 0, 0, 0, 0), (END, 0, 0, 0, 0)])
-    reads = recipe([U8], [U8], [(READ, 0, 0, 0, 0)])
+    endless = recipe([], [U8], [s(NUMBER, immediate=1), s(WHILE), s(END)])
+    reads = recipe([U8], [U8], [s(READ)])
     one_reading, blank = four(8) + four(1) + bytes([7]), four(8) + four(0)
     whole = "end 1 steps 10000 records 0"
     return [

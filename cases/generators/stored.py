@@ -6,7 +6,7 @@ from typing import Iterable
 from vectors import Case
 
 # What a case asks, as the bits of a byte; crates/cases/src/stored.rt says what each is.
-READING, ANALYSING, MADE_UP, DERIVED, CAUSE, RUNNING, NOTES, ZERO_LIMIT = (1 << place for place in range(8))
+READING, ANALYSING, MADE_UP, DERIVED, CONVERTING, RUNNING, NOTES, ZERO_LIMIT = (1 << place for place in range(8))
 
 
 def four(n: int) -> bytes:

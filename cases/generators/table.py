@@ -11,11 +11,13 @@ HERE = os.path.dirname(os.path.abspath(__file__))
 ROOT = os.path.dirname(os.path.dirname(HERE))
 sys.path[:0] = [HERE, os.path.join(ROOT, "python")]
 
-from cases import calling_cases, gate_cases, run_cases  # noqa: E402
+from cases import calling_cases, converting_cases, gate_cases, narrowing_cases, run_cases, worked_cases  # noqa: E402
 from vectors import cases  # noqa: E402
 
 from survey_gate.condition import Condition  # noqa: E402
+from survey_gate.fields import all_bits  # noqa: E402
 from survey_gate.recipe import Recipe  # noqa: E402
+from survey_gate.recipe_file import OLD, refusal  # noqa: E402
 from survey_gate.sheet import readings_of  # noqa: E402
 from survey_gate.trouble import Refused  # noqa: E402
 
@@ -28,15 +30,17 @@ What each stored case is there for. `rt check` and `.ci/run` run the programs be
 | program | cases | what it shows |
 |---|---|---|
 | `cases`, reading | 000 to %(last)s | the three readers: counts of what is read, refusals 2 to 8 and 16 of recipes, 12 of conditions, 13 of sheets, each sheet read for the recipe and for the condition |
-| `cases`, analysing | 000 to %(last)s, %(first_calling)s to %(calling)s | the analysis: the condition byte for byte and its listing, or refusals 2 to 11 and 16 |
+| `cases`, analysing | 000 to %(last)s, %(first_calling)s to %(narrowing)s | the analysis: the condition byte for byte and its listing, or refusals 2 to 11 and 16 |
 | `cases`, filtering | 000 to %(filter)s | the gate on the made-up condition and on the derived one: pass, held with the cause of the first failure, refusals 12 to 15 |
-| `cases`, running | 000 to %(last)s, %(first_run)s to %(calling)s | the run: end, steps and every byte of the records; where the derived condition passes, the numbers of the whole-number run, unmarked |
+| `cases`, running | 000 to %(last)s, %(first_run)s to %(narrowing)s | the run: end, steps and every byte of the records; where the derived condition passes, the numbers of the whole-number run, unmarked |
+| `cases`, converting | 000 to %(last)s, %(first_converting)s to %(converting)s | the conversion of old recipes: every byte of the new one, and the rest of the output as it was; or refusals 2 to 8 and 16 of the old form |
 | `list` | one, on standard input | document 01's example of a listing: two reads of one field are two atoms |
 | `derive` | one | document 01's loop `x = x + 1` before a site: refused 11, and nothing is written |
-| `gate` | one | the files of 000: the made-up condition passes |
-| `run`, `guarded` | one | the files of 013: it passes, finishes and logs two records |
+| `gate` | one | the files of 001: the made-up condition passes |
+| `run`, `guarded` | one | the files of 036: it passes, finishes and logs two records |
+| `convert` | one | 40 fields in an old recipe of 8,384 bytes: refused 3, and nothing is written |
 
-The answers of the cases beside the vectors were worked out by hand; those of procedures are the independent implementation's too (`rust/oracle/tests/stored.rs` holds it to every stored case), and none comes from the proved programs. The same vectors go through the library in C's form by `rust/gate/tests/vectors.rs`, through the independent implementation by `rust/oracle/tests/vectors.rs`, and as files through the Python package by `python/tests`.
+The answers of the cases beside the vectors were worked out by hand; they are the independent implementation's too (`rust/oracle/tests/stored.rs` holds it to every stored case), and none comes from the proved programs. The same vectors go through the library in C's form by `rust/gate/tests/vectors.rs`, through the independent implementation by `rust/oracle/tests/vectors.rs`, and as files through the Python package by `python/tests`.
 
 ## Beside the vectors
 
@@ -45,12 +49,12 @@ The answers of the cases beside the vectors were worked out by hand; those of pr
 %(beside)s
 ## The vectors
 
-A recipe that is accepted, or refused with 9 to 11, shows its procedures, calls, whiles, ifs, loads, stores and sites. `Made up` is the condition that comes with the case, put to the case's sheet; `derived` is the recipe's own. Where Card 1 has moved an answer of the gate and the vectors leave it empty, the table says `not compared`. The sets `base` and `card-01` were made before Card 2 and say `held` alone; there the cause is not compared, and `cases` does not print it. A run that is refused as the recipe is says `the same`. Labels and entries count from 0. No recipe of `base`, `card-01` and `card-02` has a procedure or a call, so that Card 4 moved none of their answers.
+A recipe that is accepted, or refused with 9 to 11, shows its fields of fewer bits than their types', procedures, calls, whiles, ifs, loads, stores and sites. `Made up` is the condition that comes with the case, put to the case's sheet; `derived` is the recipe's own. A run that is refused as the recipe is says `the same`. `Old` is the recipe of the old form that comes with the case. Labels and entries count from 0, and readings from 1.
 
 %(sets)s
 
-| case | recipe | made up | derived | run |
-|---|---|---|---|---|
+| case | recipe | made up | derived | run | old |
+|---|---|---|---|---|---|
 """
 
 
@@ -72,7 +76,9 @@ def shape(recipe):
     """What an accepted recipe is made of."""
     kinds = [statement.kind for statement in recipe.statements]
     named = [("procedure", PROCEDURE), ("call", CALL), ("while", WHILE), ("if", IF), ("load", LOAD), ("store", STORE), ("site", SITE)]
-    return ", ".join(counted(str(kinds.count(kind)), word) for word, kind in named if kind in kinds)
+    narrow = sum(part.bits < all_bits(part.code) for part in recipe.fields)
+    parts = [counted(str(narrow), "narrow field")] if narrow else []
+    return ", ".join(parts + [counted(str(kinds.count(kind)), word) for word, kind in named if kind in kinds])
 
 
 def recipe_told(case):
@@ -84,41 +90,35 @@ def recipe_told(case):
     return f"{case.derive}: {parts}" if parts else case.derive
 
 
-def names_of(types):
-    return [f"f{n}" for n in range(len(types))]
+def sheet_place(case, fields):
+    return place(lambda: readings_of(case.content("sheet"), fields))
 
 
-def sheet_place(case, types):
-    return place(lambda: readings_of(case.content("sheet"), types, names_of(types)))
-
-
-def pair_place(one):
-    """Where the sheet of a case beside the vectors is wrong."""
+def gate_place(one):
+    """Where the condition or the sheet of a case beside the vectors is wrong."""
+    if one.answer == "refused 12":
+        return place(lambda: Condition.from_bytes(one.condition))
     if one.answer != "refused 13":
         return ""
-    types = Condition.from_bytes(one.condition).types
-    return place(lambda: readings_of(one.sheet, types, names_of(types)))
+    return place(lambda: readings_of(one.sheet, Condition.from_bytes(one.condition).fields))
 
 
 def verdict_told(case, kind, answer):
     """The gate's answer on a condition of the case, with the place of a refusal."""
-    if not answer:
-        return "not compared" if case.has(kind) else ""
     if answer == "refused 12":
         return told(answer, place(lambda: Condition.from_bytes(case.content(kind))))
     if not answer.startswith("refused"):
         return answer
     condition = Condition.from_bytes(case.content(kind))
     if answer == "refused 13":
-        return told(answer, sheet_place(case, condition.types))
-    names = names_of(condition.types)
-    refusal = condition.refusal(readings_of(case.content("sheet"), condition.types, names), names)
-    return told(answer, refusal.place)
+        return told(answer, sheet_place(case, condition.fields))
+    names = [part.name for part in condition.fields]
+    return told(answer, condition.refusal(readings_of(case.content("sheet"), condition.fields), names).place)
 
 
 def run_told(case):
     if case.run == "refused 13":
-        return told(case.run, sheet_place(case, Recipe.from_bytes(case.content("recipe")).types))
+        return told(case.run, sheet_place(case, Recipe.from_bytes(case.content("recipe")).fields))
     if case.run.startswith("refused"):
         return "the same" if case.run == case.derive else case.run
     _, end, _, steps, _, records = case.run.split()
@@ -132,9 +132,20 @@ def counted(number, word):
     return f"{number} {word}" if number == "1" else f"{number} {word}s"
 
 
+def old_told(answer, old, new):
+    """What becomes of an old recipe."""
+    if answer.startswith("refused"):
+        return told(answer, refusal(old, OLD).place)
+    return f"{counted(str(len(old)), 'byte')} become {len(new)}"
+
+
+def convert_told(case):
+    return old_told(case.convert, case.content("old"), b"" if case.convert else case.content("converted"))
+
+
 def row(case):
     cells = [case.number, recipe_told(case), verdict_told(case, "condition", case.made_up)]
-    cells += [verdict_told(case, "derived", case.derived), run_told(case)]
+    cells += [verdict_told(case, "derived", case.derived), run_told(case), convert_told(case)]
     return "| " + " | ".join(cell.replace("|", "\\|") for cell in cells) + " |\n"
 
 
@@ -148,8 +159,8 @@ def sets_told(outside):
     return "; ".join(parts) + "."
 
 
-def calling_told(one):
-    """What a case of procedures is there for, with its answers, and with the place of a refusal."""
+def worked_told(one):
+    """What a case of analysis and run is there for, with its answers, and with the place of a refusal."""
     derive = one.listing()[0]
     if derive.startswith("refused"):
         return f"{one.what}: {told(derive, place(lambda: Recipe.from_bytes(one.recipe)))}"
@@ -158,17 +169,19 @@ def calling_told(one):
 
 def beside_told():
     """The rows of the cases beside the vectors."""
-    rows = [("filtering", number, f"{one.what}: {told(one.answer, pair_place(one))}") for number, one in gate_cases()]
+    rows = [("filtering", number, f"{one.what}: {told(one.answer, gate_place(one))}") for number, one in gate_cases()]
     rows += [("running", number, one.what) for number, one in run_cases()]
-    rows += [("analysing, running", number, calling_told(one)) for number, one in calling_cases()]
+    rows += [("analysing, running", number, worked_told(one)) for number, one in worked_cases()]
+    rows += [("converting", number, f"{one.what}: {old_told(one.answer, one.old, one.new)}") for number, one in converting_cases()]
     return "".join(f"| {part} | {number} | {what} |\n" for part, number, what in rows)
 
 
 def table():
     """The whole of CASES.md."""
-    outside, of_gate, of_run, of_calling = cases(), gate_cases(), run_cases(), calling_cases()
-    numbers = {"last": outside[-1].number, "filter": of_gate[-1][0], "first_run": of_run[0][0]}
-    numbers.update(first_calling=of_calling[0][0], calling=of_calling[-1][0])
+    outside = cases()
+    numbers = {"last": outside[-1].number, "filter": gate_cases()[-1][0], "first_run": run_cases()[0][0]}
+    numbers.update(first_calling=calling_cases()[0][0], narrowing=narrowing_cases()[-1][0])
+    numbers.update(first_converting=converting_cases()[0][0], converting=converting_cases()[-1][0])
     head = HEAD % {"beside": beside_told(), "sets": sets_told(outside), **numbers}
     return head + "".join(row(case) for case in outside)
 

@@ -1,15 +1,13 @@
 """The outside vectors, rust/vectors: the sets in force, their cases numbered one after the other.
 
 A set is a folder with the files of its cases, NNN.KIND, and ANSWERS.tsv, whose first line names the columns. An answer of the
-gate that is empty is not compared: the recipe has no condition, or a change request moved the answer after the set was made.
-The sets up to card-01 were made before a hold had a cause, and say `held` alone."""
+gate on the recipe's own condition is empty where there is none; one of the conversion, where the case has the file."""
 import os
 from typing import List, NamedTuple
 
 ROOT = os.path.dirname(os.path.dirname(os.path.dirname(os.path.abspath(__file__))))
 VECTORS = os.path.join(ROOT, "rust", "vectors")
-SETS = ("base", "card-01", "card-02", "card-04")
-SETS_WITHOUT_CAUSES = ("base", "card-01")
+SETS = ("card-05",)
 CAUSES = {"held above": "held too big", "held below": "held too small", "held divisor": "held no divisor"}
 
 
@@ -17,7 +15,7 @@ class Case(NamedTuple):
     """A case by its number over all sets, with its set, its number there and its answers.
 
     `made_up` is the gate's answer on the condition that comes with the case, `derived` its answer on the recipe's own, each in
-    the words of the program gate, or `held` alone; `room` is the log's length in bytes."""
+    the words of the program gate; `convert` is the refusal of the old recipe, if any; `room` is the log's length in bytes."""
 
     number: str
     set: str
@@ -27,6 +25,7 @@ class Case(NamedTuple):
     made_up: str
     derived: str
     run: str
+    convert: str
 
     def path(self, kind: str) -> str:
         """Where the case's file of a kind is."""
@@ -46,7 +45,7 @@ class Case(NamedTuple):
             return source.read()
 
 
-COLUMNS = ("case", "log length", "derive", "gate on .condition", "gate on .derived", "run")
+COLUMNS = ("case", "log length", "derive", "gate on .condition", "gate on .derived", "run", "convert .old")
 
 
 def cases() -> List[Case]:
@@ -60,8 +59,3 @@ def cases() -> List[Case]:
             answers = [CAUSES.get(row[at], row[at]) for at in places]
             found.append(Case(f"{len(found):03d}", name, *answers))
     return found
-
-
-def is_answer(expected: str, told: str) -> bool:
-    """Whether an answer of the gate is the expected one, which may say nothing of the cause of a hold."""
-    return told == expected or expected == "held" and told.startswith("held ")

@@ -96,14 +96,17 @@ def _gate_commands(kinds: argparse._SubParsersAction) -> None:
 
 def _form_commands(kinds: argparse._SubParsersAction) -> None:
     """recipe, sheet, records and choices."""
-    recipe = kinds.add_parser("recipe", help="a recipe's file from its text, and back", allow_abbrev=False)
-    forms = recipe.add_subparsers(metavar="make|show", required=True, parser_class=Parser)
+    recipe = kinds.add_parser("recipe", help="a recipe's file from its text, and back; one of the old form in today's", allow_abbrev=False)
+    forms = recipe.add_subparsers(metavar="make|show|convert", required=True, parser_class=Parser)
     make = _command(forms, "make", commands.recipe_make, "write a recipe's file from its text")
     make.add_argument("text", metavar="TEXT")
     make.add_argument("output", metavar="RECIPE")
     show = _command(forms, "show", commands.recipe_show, "print a recipe's text, or write it")
     show.add_argument("recipe", metavar="RECIPE", help=RECIPE)
     show.add_argument("output", metavar="TEXT", nargs="?")
+    convert = _command(forms, "convert", commands.recipe_convert, "write a recipe's file of the old form, without bits of fields, in today's")
+    convert.add_argument("recipe", metavar="OLD", help="a recipe's file of the old form")
+    convert.add_argument("output", metavar="NEW", help="the recipe's file to write")
 
     sheet = kinds.add_parser("sheet", help="a sheet's file from a table, and back", allow_abbrev=False)
     forms = sheet.add_subparsers(metavar="make|show", required=True, parser_class=Parser)

@@ -10,7 +10,7 @@ import argparse
 import sys
 from typing import List, Optional, Tuple
 
-from . import files, gate
+from . import files, gate, recipe_file
 from .condition import Condition
 from .library import load
 from .output import PASS, REFUSED, Output
@@ -223,6 +223,30 @@ def recipe_make(arguments: Arguments, output: Output) -> int:
 def recipe_show(arguments: Arguments, output: Output) -> int:
     """A recipe's text from its file."""
     return _shown(Recipe.read(arguments.recipe).to_text(), arguments.output, [arguments.recipe])
+
+
+def recipe_convert(arguments: Arguments, output: Output) -> int:
+    """A recipe's file from one of the old form, by the proved library; a refusal's place is found beside it."""
+    files.refuse_input_as_output(arguments.output, [arguments.recipe])
+    name = arguments.recipe
+    data = files.read(name, LONGEST_TEXT)
+    if not recipe_file.looks_packed(data):
+        raise Trouble(f"{shown(name)}: no recipe's file; of a text `survey-gate recipe make` makes one")
+    found = recipe_file.refusal(data, recipe_file.OLD)
+    try:
+        recipe = load().convert(data)
+    except Refused as refused:
+        if found is None:
+            raise Trouble(f"{shown(name)}: the gate answers {refused.number}, and by its parts it is right: one of the two is wrong") from None
+        known = "" if recipe_file.refusal(data, recipe_file.TODAY) else "; it is of today's form already"
+        agreed = _agreed(name, Refused(found.number, found.place + known), refused.number)
+        if isinstance(agreed, Trouble):
+            raise agreed from None
+        return output.refused(name, agreed, files.move_aside(arguments.output))
+    if found is not None:
+        raise _agreed(name, found, 0)
+    files.write(arguments.output, recipe)
+    return PASS
 
 
 def sheet_make(arguments: Arguments, output: Output) -> int:

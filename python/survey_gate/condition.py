@@ -12,10 +12,11 @@ from dataclasses import dataclass
 from functools import cached_property
 from typing import Dict, List, NamedTuple, Optional, Sequence, Tuple
 
+from . import fields as entries
 from .ranges import TYPES, fits, immediate_value
 from .recipe import Recipe
-from .sizes import MOST_COMBINATIONS, MOST_CONJUNCTS, MOST_FIELDS, MOST_NODES, NODE_BYTES
-from .statements import Kind
+from .sizes import FIELD_BYTES, MOST_COMBINATIONS, MOST_CONJUNCTS, MOST_FIELDS, MOST_NODES, NODE_BYTES
+from .statements import Kind, Named
 from .trouble import Refused, count
 
 HEAD = 8
@@ -133,10 +134,10 @@ def _infix(steps: Sequence[Step], place: int, leaves: Sequence[str], conversions
 
 @dataclass
 class Condition:
-    """A condition: its file, the types of the recipe's fields and the conjuncts in the file's order."""
+    """A condition: its file, the recipe's fields by the names f0 onward, and the conjuncts in the file's order."""
 
     data: bytes
-    types: List[int]
+    fields: List[Named]
     conjuncts: List[Conjunct]
 
     @classmethod
@@ -149,13 +150,14 @@ class Condition:
     @classmethod
     def from_bytes(cls, data: bytes) -> "Condition":
         """The condition of a file; raises Refused with 12 and the place."""
-        types, parts = _parts(data)
+        fields, parts = _parts(data)
+        types = [part.code for part in fields]
         conjuncts = [Conjunct(_nodes(part, types, number)) for number, part in enumerate(parts)]
         for number in range(1, len(parts)):
             before, here = parts[number - 1], parts[number]
             if (len(before), before) >= (len(here), here):
                 raise Refused(12, f"conjunct {number} is out of order, or stands twice")
-        return cls(bytes(data), types, conjuncts)
+        return cls(bytes(data), fields, conjuncts)
 
     def raw(self) -> str:
         """The listing as document 01 prints it."""
@@ -166,7 +168,7 @@ class Condition:
     def only(self, number: int) -> bytes:
         """The file of the condition that has this conjunct alone."""
         nodes = b"".join(struct.pack("<BBHI", *node) for node in self.conjuncts[number].nodes)
-        head = struct.pack("<II", 1, len(self.types)) + bytes(self.types)
+        head = struct.pack("<II", 1, len(self.fields)) + entries.packed(self.fields)
         return head + struct.pack("<II", len(head) + PAIR, len(nodes)) + nodes
 
     def work(self, columns: Sequence[Sequence[int]]) -> int:
@@ -214,23 +216,24 @@ def _product(product: int) -> str:
     return count(product) if product < LONGEST_PRODUCT else f"over 10^{len(str(product)) - 1}"
 
 
-def _parts(data: bytes) -> Tuple[List[int], List[bytes]]:
-    """The fields' types and the conjuncts' bytes, or refusal 12."""
+def _parts(data: bytes) -> Tuple[List[Named], List[bytes]]:
+    """The fields and the conjuncts' bytes, or refusal 12."""
     if len(data) < HEAD:
         raise Refused(12, f"it has {len(data)} bytes, and the head takes {HEAD}")
     conjuncts, fields = struct.unpack_from("<II", data)
     if conjuncts > MOST_CONJUNCTS or fields > MOST_FIELDS:
         raise Refused(12, f"its head says {count(conjuncts)} conjuncts and {count(fields)} fields")
-    at = HEAD + fields + PAIR * conjuncts
+    table = HEAD + FIELD_BYTES * fields
+    at = table + PAIR * conjuncts
     if len(data) < at:
         raise Refused(12, f"it has {len(data)} bytes, and its table ends at byte {at}")
-    types = list(data[HEAD : HEAD + fields])
-    for number, code in enumerate(types):
-        if code >= len(TYPES):
-            raise Refused(12, f"field {number} has type code {code}")
+    for number in range(fields):
+        wrong = entries.wrong(data[HEAD + FIELD_BYTES * number :][:FIELD_BYTES])
+        if wrong:
+            raise Refused(12, f"field {number} {wrong}")
     parts = []
     for number in range(conjuncts):
-        offset, length = struct.unpack_from("<II", data, HEAD + fields + PAIR * number)
+        offset, length = struct.unpack_from("<II", data, table + PAIR * number)
         if offset != at or at + length > len(data):
             raise Refused(12, f"the table's entry for conjunct {number} is wrong: it starts at byte {at}")
         if length % NODE_BYTES or not NODE_BYTES <= length <= NODE_BYTES * MOST_NODES:
@@ -239,7 +242,7 @@ def _parts(data: bytes) -> Tuple[List[int], List[bytes]]:
         at += length
     if at != len(data):
         raise Refused(12, f"the conjuncts end at byte {at}, and the file at {count(len(data))}")
-    return types, parts
+    return entries.unpacked(data[HEAD:table]), parts
 
 
 def _nodes(part: bytes, types: Sequence[int], number: int) -> List[Node]:

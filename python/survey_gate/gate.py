@@ -24,6 +24,7 @@ from .library import Ran, load
 from .recipe import Recipe
 from .records import Record, choice_bytes, records_of
 from .sheet import Sheet
+from .sheet import refusal as sheet_refusal
 from .sizes import MOST_RECORDS, USUAL_LIMIT
 from .trouble import Disagreement, Refused
 from .why_held import Hold, Tick, why_held
@@ -94,7 +95,12 @@ def check(recipe: Recipe, sheet: Sheet, condition: Optional[Condition] = None, t
 
 
 def placed(refused: Refused, recipe: Recipe, condition: Condition, sheet: Sheet) -> Refused:
-    """Refusal 14 or 15 with the conjunct or the fields that it speaks of; Disagreement where the readings give another."""
+    """A refusal with its place: 13 with the field or the reading, 14 or 15 with the conjunct or the fields.
+
+    Disagreement where the readings give another of 14 and 15, or none.
+    """
+    if refused.number == 13:
+        return sheet_refusal(sheet.to_bytes(), recipe.fields) or refused
     if refused.number not in (14, 15):
         return refused
     word = "column" if sheet.lines and recipe.named else "field"

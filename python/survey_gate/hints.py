@@ -63,6 +63,10 @@ def right_type(word: str, name: str) -> str:
     sized = re.fullmatch(r"(u?)int(8|16|32|64)(?:_t)?", low)
     if sized:
         return f"did you mean {'u' if sized[1] else 'i'}{sized[2]}?"
+    narrow = re.fullmatch(r"([ui])([0-9]{1,2})", low)
+    if narrow and low not in TYPES and 1 <= int(narrow[2]) <= 64:
+        whole = next(bits for bits in (8, 16, 32, 64) if int(narrow[2]) <= bits)
+        return f"types have 8, 16, 32 or 64 bits, and a field may have fewer, as `field {name} {narrow[1]}{whole} {narrow[2]} bits`"
     near = [low] if low in TYPES else [TYPE_WORDS[low]] if low in TYPE_WORDS else close_to(low, TYPES)
     return f"did you mean {near[0]}?" if near else f"types are {' '.join(TYPES)}"
 
@@ -200,11 +204,24 @@ def _declaration(words: str) -> Optional[Told]:
         return f"{excerpt(parts[2])} is no length", "a length is a whole number, 1 to 256"
     if word == "tray" and len(parts) == 2 and parts[1] in TYPES:
         return f"{parts[0]} has no length", f"say how many cells, as `tray {parts[0]} {parts[1]} 8`"
+    bits = re.fullmatch(rf"({NAME})\s+({'|'.join(TYPES)})\s+(\S+)(\s*bits?)?", rest)
+    if bits and word != "tray":
+        return _bits(word, *bits.groups())
     if len(parts) == 1:
         return f"{excerpt(parts[0])} has no type", f"say which, as `{declaration(WHAT[word], parts[0])}`"
     if "=" in rest:
         return f"{excerpt(words)} sets a value", f"a declaration has none: write `{form}`, and the value on a line of its own"
     return f"{excerpt(words)} is no declaration", f"write `{form}`"
+
+
+def _bits(word: str, name: str, of: str, number: str, unit: Optional[str]) -> Told:
+    """A declaration with more than a type behind the name, which may mean the bits of a field."""
+    bare = number[:-4] if number.endswith("bits") else number
+    if word != "field":
+        return f"{name} has more than a type", f"fields alone have bits of their own: write `{word} {name} {of}`"
+    if re.fullmatch(r"[0-9]{1,2}", bare):
+        return f"{excerpt(number + (unit or ''))} stands behind the type", f"did you mean `field {name} {of} {bare} bits`?"
+    return f"{excerpt(number)} is no number of bits", f"a field has all bits of its type, or some, as `field {name} {of} 4 bits`"
 
 
 def _procedure(words: str) -> Optional[Told]:

@@ -14,7 +14,7 @@ from functools import lru_cache
 from typing import Callable, NamedTuple, Optional, Tuple
 
 from .ranges import CAUSES
-from .sizes import CONDITION_ROOM, RECORD_BYTES
+from .sizes import CONDITION_ROOM, LONGEST_RECIPE, RECORD_BYTES
 from .trouble import Refused, Trouble, shown
 
 HERE = os.path.dirname(os.path.realpath(__file__))
@@ -52,6 +52,13 @@ class Library:
         with self._lock:
             answer = self._gate.gate_derive(recipe, len(recipe), *self._lent())
             return self._condition[: _taken(answer)]
+
+    def convert(self, old: bytes) -> bytes:
+        """The recipe's file of a file of the old form."""
+        recipe = ctypes.create_string_buffer(LONGEST_RECIPE)
+        with self._lock:
+            answer = self._gate.gate_convert(old, len(old), recipe, len(recipe), self._scratch, len(self._scratch))
+        return recipe[: _taken(answer)]
 
     def refusal(self, recipe: bytes) -> int:
         """The number with which the recipe is refused, or 0."""
@@ -138,6 +145,7 @@ def _declare(gate: ctypes.CDLL) -> None:
     for function, takes in (
         (gate.gate_scratch, []),
         (gate.gate_derive, slice_in + slice_out + slice_out),
+        (gate.gate_convert, slice_in + slice_out + slice_out),
         (gate.gate_check, slice_in + slice_in),
         (gate.gate_run, a_run + slice_out + [number, number]),
         (gate.gate_guarded, a_run + slice_out + slice_out + [number, number]),

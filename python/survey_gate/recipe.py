@@ -5,7 +5,7 @@ from __future__ import annotations
 from dataclasses import dataclass, field
 from typing import Dict, Iterable, List, Optional, Sequence
 
-from . import files, recipe_file
+from . import fields, files, recipe_file
 from .procedures import reached, start_of
 from .ranges import TYPES
 from .sizes import LONGEST_TEXT
@@ -20,10 +20,10 @@ EMPTY = "# a recipe without fields, variables, trays and statements\n"
 class Recipe:
     """A recipe.
 
-    `fields`, `variables` and `trays` have a name, a type code and (trays) a number of cells each; `statements` are as
-    in the file, and `procedures` those that they open. From a text, `lines` has the line of each statement, `declared`
-    that of each name, and `named` is true; from a file the names are f0, v0, t0 and p0 onward. `warnings` say what is
-    allowed and seldom meant.
+    `fields`, `variables` and `trays` have a name, a type code and (trays) a number of cells or (fields) of bits each;
+    `statements` are as in the file, and `procedures` those that they open. From a text, `lines` has the line of each
+    statement, `declared` that of each name, and `named` is true; from a file the names are f0, v0, t0 and p0 onward.
+    `warnings` say what is allowed and seldom meant.
     """
 
     fields: List[Named] = field(default_factory=list)
@@ -50,6 +50,19 @@ class Recipe:
         recipe = cls(names["field"], names["variable"], names["tray"], statements, opened(statements))
         recipe.warnings = recipe.noticed()
         return recipe
+
+    @classmethod
+    def from_old_bytes(cls, data: bytes) -> "Recipe":
+        """The recipe of a file of the form before fields had bits, converted by the proved library.
+
+        Its fields have all bits of their types. Raises Refused with 2 to 8 or 16 of the old form and the wrong entry.
+        """
+        from .library import load
+
+        try:
+            return cls.from_bytes(load().convert(data))
+        except Refused as refused:
+            raise recipe_file.refusal(data, recipe_file.OLD) or refused from None
 
     @classmethod
     def read(cls, path: str) -> "Recipe":
@@ -96,7 +109,7 @@ class Recipe:
         Variables are declared in the order of their numbers: a procedure declares its own, unless a procedure before it
         has higher ones.
         """
-        lines = [f"field {part.name} {TYPES[part.code]}" for part in self.fields]
+        lines = [fields.declared(part) for part in self.fields]
         declared = self.procedures[0].first if self.procedures else len(self.variables)
         lines += self._declarations(0, declared)
         lines += [f"tray {part.name} {TYPES[part.code]} {part.cells}" for part in self.trays]

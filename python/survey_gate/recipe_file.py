@@ -1,17 +1,21 @@
 """The recipe's file: its bytes from the parts, and the parts from its bytes.
 
 The reader makes document 01's checks 2 to 8 and document 02's 16 in their order, each over the whole recipe before
-the next, so that the number that it refuses with is the gate's; it adds the entry that is wrong.
+the next, so that the number that it refuses with is the gate's; it adds the entry that is wrong. It reads the old form
+too, in which a field was its type alone, so that the refusal of a conversion has a place.
 """
 
 from __future__ import annotations
 
 import struct
-from typing import List, NamedTuple, Sequence
+from typing import List, NamedTuple, Optional, Sequence, Tuple
 
+from . import fields
 from . import procedures as procedures_checked
 from .ranges import TYPES, fits, immediate_value, is_signed
 from .sizes import (
+    FIELD_BYTES,
+    LONGEST_OLD_RECIPE,
     LONGEST_RECIPE,
     MOST_CELLS,
     MOST_DEPTH,
@@ -20,6 +24,7 @@ from .sizes import (
     MOST_STATEMENTS,
     MOST_TRAYS,
     MOST_VARIABLES,
+    OLD_FIELD_BYTES,
     SECTION_TABLE,
     STATEMENT_BYTES,
 )
@@ -37,18 +42,31 @@ class Section(NamedTuple):
     most: int
 
 
-SECTIONS = (
-    Section("fields", 1, MOST_FIELDS),
-    Section("variables", 1, MOST_VARIABLES),
-    Section("trays", 4, MOST_TRAYS),
-    Section("statements", STATEMENT_BYTES, MOST_STATEMENTS),
-)
+class Form(NamedTuple):
+    """A form of the file: its most bytes and the width of a field's entry."""
+
+    longest: int
+    field: int
+
+    @property
+    def sections(self) -> Tuple[Section, ...]:
+        """The sections, in their order."""
+        return (
+            Section("fields", self.field, MOST_FIELDS),
+            Section("variables", 1, MOST_VARIABLES),
+            Section("trays", 4, MOST_TRAYS),
+            Section("statements", STATEMENT_BYTES, MOST_STATEMENTS),
+        )
+
+
+TODAY = Form(LONGEST_RECIPE, FIELD_BYTES)
+OLD = Form(LONGEST_OLD_RECIPE, OLD_FIELD_BYTES)
 
 
 def packed(names: Names, statements: Sequence[Statement]) -> bytes:
     """The file of a recipe."""
     sections = [
-        bytes(field.code for field in names["field"]),
+        fields.packed(names["field"]),
         bytes(variable.code for variable in names["variable"]),
         b"".join(struct.pack("<BBH", tray.code, 0, tray.cells) for tray in names["tray"]),
         b"".join(struct.pack("<BBBBI", *statement) for statement in statements),
@@ -65,10 +83,28 @@ def looks_packed(data: bytes) -> bool:
     return data[:4] == MAGIC
 
 
-def unpacked(data: bytes) -> "tuple[Names, List[Statement]]":
+def unpacked(data: bytes) -> Tuple[Names, List[Statement]]:
     """The parts of a file, with the names f0, v0 and t0 onward; or Refused with 2 to 8 or 16 and the entry."""
-    sections = _sections(data)
-    for section, entries in zip(SECTIONS, sections):
+    try:
+        return _unpacked(data, TODAY)
+    except Refused as refused:
+        hint = "" if refusal(data, OLD) else "; by the old form it is right: `survey-gate recipe convert` makes today's of it"
+        raise Refused(refused.number, refused.place + hint) from None
+
+
+def refusal(data: bytes, form: Form) -> Optional[Refused]:
+    """What a file is refused with by a form; nothing where it is right."""
+    try:
+        _unpacked(data, form)
+    except Refused as refused:
+        return refused
+    return None
+
+
+def _unpacked(data: bytes, form: Form) -> Tuple[Names, List[Statement]]:
+    """The parts of a file of a form."""
+    sections = _sections(data, form)
+    for section, entries in zip(form.sections, sections):
         if len(entries) > section.most:
             raise Refused(3, f"{count(len(entries))} {section.name}, and at most {count(section.most)} are allowed")
     names = _names(sections)
@@ -82,18 +118,18 @@ def unpacked(data: bytes) -> "tuple[Names, List[Statement]]":
     return names, statements
 
 
-def _sections(data: bytes) -> List[List[bytes]]:
+def _sections(data: bytes, form: Form) -> List[List[bytes]]:
     """The entries of the four sections, or refusal 2."""
-    if not SECTION_TABLE <= len(data) <= LONGEST_RECIPE:
-        least, most = SECTION_TABLE, count(LONGEST_RECIPE)
+    if not SECTION_TABLE <= len(data) <= form.longest:
+        least, most = SECTION_TABLE, count(form.longest)
         raise Refused(2, f"it has {count(len(data))} bytes, and a recipe has {least} to {most}")
     at, sections = SECTION_TABLE, []
-    for number, section in enumerate(SECTIONS):
+    for number, section in enumerate(form.sections):
         offset, length = struct.unpack_from("<II", data, 8 * number)
         if offset != at:
             raise Refused(2, f"the {section.name} start at byte {offset} by the table, and at {at} by what is before")
         if length % section.entry:
-            raise Refused(2, f"the {section.name} take {length} bytes, no multiple of {section.entry}")
+            raise Refused(2, f"the {section.name} take {length} byte{'s' * (length != 1)}, no multiple of {section.entry}")
         if at + length > len(data):
             raise Refused(2, f"the {section.name} end at byte {at + length}, and the file at {len(data)}")
         sections.append([data[i : i + section.entry] for i in range(at, at + length, section.entry)])
@@ -110,15 +146,27 @@ def _names(sections: List[List[bytes]]) -> Names:
         for number, entry in enumerate(entries):
             if entry[0] >= len(TYPES):
                 raise Refused(4, f"{what} {number} has type code {entry[0]}, and the highest is {len(TYPES) - 1}")
-            cells = 0
+            cells = bits = 0
+            if what == "field":
+                bits = _bits(number, entry)
             if what == "tray":
                 zero, cells = entry[1], int.from_bytes(entry[2:], "little")
                 if zero:
                     raise Refused(4, f"the zero byte of tray {number} is {zero}")
                 if not 1 <= cells <= MOST_CELLS:
                     raise Refused(4, f"tray {number} has {cells} cells, and a tray has 1 to {MOST_CELLS}")
-            names[what].append(Named(f"{what[0]}{number}", entry[0], cells))
+            names[what].append(Named(f"{what[0]}{number}", entry[0], cells, bits))
     return names
+
+
+def _bits(number: int, entry: bytes) -> int:
+    """The bits of a field, all of its type's in the old form; or refusal 4."""
+    if len(entry) == OLD_FIELD_BYTES:
+        return fields.all_bits(entry[0])
+    wrong = fields.wrong(entry)
+    if wrong:
+        raise Refused(4, f"field {number} {wrong}")
+    return fields.unpacked(entry)[0].bits
 
 
 def _operands(label: int, statement: Statement, names: Names, procedures: Sequence[Procedure]) -> None:

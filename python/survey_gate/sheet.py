@@ -7,9 +7,11 @@ from dataclasses import dataclass, field
 from typing import List, Optional, Sequence
 
 from . import files
+from .fields import beyond
 from .ranges import from_bytes, to_bytes, width
 from .recipe import Recipe
 from .sizes import LONGEST_TEXT, MOST_FIELDS, MOST_READINGS
+from .statements import Named
 from .trouble import Mistake, Refused, Trouble, count, shown
 
 PAIR = 8
@@ -38,8 +40,8 @@ class Sheet:
 
     @classmethod
     def from_bytes(cls, data: bytes, recipe: Recipe) -> "Sheet":
-        """The sheet of a file; raises Refused with 13 and the first field whose pair is wrong."""
-        return cls(recipe.types, readings_of(data, recipe.types, [part.name for part in recipe.fields]))
+        """The sheet of a file; raises Refused with 13 and the first field whose pair is wrong, or reading beyond its bits."""
+        return cls(recipe.types, readings_of(data, recipe.fields))
 
     @classmethod
     def read(cls, path: str, recipe: Recipe) -> "Sheet":
@@ -92,12 +94,36 @@ def packed(types: Sequence[int], columns: Sequence[Sequence[int]]) -> bytes:
     return table + body
 
 
-def readings_of(data: bytes, types: Sequence[int], names: Sequence[str]) -> List[List[int]]:
-    """The readings of a file, or Refused with 13: the first field whose pair is wrong, or that the file goes on."""
-    at, columns = PAIR * len(types), []
+def readings_of(data: bytes, fields: Sequence[Named]) -> List[List[int]]:
+    """The readings of a file, or Refused with 13.
+
+    Its place is the first field whose pair is wrong, or that the file goes on, or the first reading beyond its bits.
+    """
+    columns = _columns(data, fields)
+    for part, column in zip(fields, columns):
+        for number, value in enumerate(column, 1):
+            told = beyond(part, value)
+            if told:
+                raise Refused(13, f"reading {number} of {part.name} is {value}, and {told[1]}")
+    return columns
+
+
+def refusal(data: bytes, fields: Sequence[Named]) -> Optional[Refused]:
+    """What a file is refused with for these fields; nothing where it is right."""
+    try:
+        readings_of(data, fields)
+    except Refused as refused:
+        return refused
+    return None
+
+
+def _columns(data: bytes, fields: Sequence[Named]) -> List[List[int]]:
+    """The readings of a file, within their types."""
+    at, columns = PAIR * len(fields), []
     if len(data) < at:
-        raise Refused(13, f"{names[0]}'s readings are to start at byte {at}, behind the table, and the file ends at {len(data)}")
-    for number, (code, name) in enumerate(zip(types, names)):
+        raise Refused(13, f"{fields[0].name}'s readings are to start at byte {at}, behind the table, and the file ends at {len(data)}")
+    for number, part in enumerate(fields):
+        code, name = part.code, part.name
         offset, length = struct.unpack_from("<II", data, PAIR * number)
         if offset != at:
             raise Refused(13, f"{name}'s readings start at byte {offset} by the table, and at {at} by what is before")

@@ -58,11 +58,12 @@ class Statement(NamedTuple):
 
 
 class Named(NamedTuple):
-    """A field, a variable or a tray; `cells` is 0 but for a tray."""
+    """A field, a variable or a tray; `cells` is 0 but for a tray, and `bits` but for a field."""
 
     name: str
     code: int
     cells: int = 0
+    bits: int = 0
 
 
 Names = Dict[str, List[Named]]

@@ -11,8 +11,8 @@ import io
 import re
 from typing import List, NamedTuple, Optional
 
+from .fields import beyond
 from .files import lines_of
-from .ranges import TYPES, fits, highest, lowest
 from .recipe import Recipe
 from .sizes import LONGEST_ROW, MOST_DIGITS, MOST_MISTAKES, MOST_READINGS
 from .trouble import Mistake, Mistakes, close_to, count, excerpt
@@ -164,9 +164,9 @@ class Table:
         value = self.value(line, cell, part.name)
         if value is None:
             return
-        if not fits(part.code, value):
-            right = f"{TYPES[part.code]} goes from {lowest(part.code)} to {highest(part.code)}"
-            self.note(line, f"{value} under {part.name} does not fit {TYPES[part.code]}", right)
+        told = beyond(part, value)
+        if told:
+            self.note(line, f"{value} under {part.name} does not fit {told[0]}", told[1])
         if len(self.columns[number]) == MOST_READINGS:
             self.note(line, f"this is reading {MOST_READINGS + 1} of {part.name}", f"a field has at most {MOST_READINGS}")
         self.columns[number].append(value)

@@ -12,7 +12,7 @@ from __future__ import annotations
 import re
 from typing import Callable, Dict, List, Optional, Tuple
 
-from . import hints
+from . import fields, hints
 from .files import lines_of
 from .procedures import measured
 from .ranges import TYPES, fits, fits_immediate, highest, is_signed, lowest
@@ -131,7 +131,7 @@ class Reader:
 
     # -- names
 
-    def declare(self, what: str, name: str, word: str, cells: int = 0) -> None:
+    def declare(self, what: str, name: str, word: str, cells: int = 0, bits: int = 0) -> None:
         """Declares a name; a wrong type leaves it declared without one."""
         self.claim(name)
         table = self.recipe.names[what]
@@ -140,7 +140,7 @@ class Reader:
             raise Wrong(f"{excerpt(word)} is no type", hints.right_type(word, name))
         self.known[name] = Known(what, len(table), TYPES.index(word))
         self.recipe.declared[name] = self.line
-        table.append(Named(name, TYPES.index(word), cells))
+        table.append(Named(name, TYPES.index(word), cells, bits))
         if len(table) == MOST[what] + 1:
             raise Wrong(f"this is {what} {len(table)}", f"a recipe has at most {MOST[what]}")
 
@@ -204,8 +204,12 @@ class Reader:
         if len(self.recipe.statements) == MOST_STATEMENTS + 1:
             raise Wrong(f"this is statement {count(MOST_STATEMENTS + 1)}", f"a recipe has at most {count(MOST_STATEMENTS)}")
 
-    def field(self, name: str, word: str) -> None:
-        self.declare("field", name, word)
+    def field(self, name: str, word: str, number: Optional[str] = None) -> None:
+        most = fields.all_bits(TYPES.index(word)) if word in TYPES else 0
+        bits = most if number is None else int(number) if len(number) <= MOST_DIGITS else most + 1
+        self.declare("field", name, word, bits=bits)
+        if not 1 <= bits <= most:
+            raise Wrong(f"{excerpt(number)} is no number of bits", f"{word} has 1 to {most}")
 
     def var(self, name: str, word: str) -> None:
         self.declare("variable", name, word)
@@ -292,6 +296,7 @@ FORMS: List[Tuple["re.Pattern[str]", Act]] = [
     (re.compile(pattern), act)
     for pattern, act in (
         (rf"field\s+({NAME})\s+(\S+)", Reader.field),
+        (rf"field\s+({NAME})\s+(\S+)\s+([0-9]+)\s+bits?", Reader.field),
         (rf"var\s+({NAME})\s+(\S+)", Reader.var),
         (rf"tray\s+({NAME})\s+(\S+)\s+([0-9]+)", Reader.tray),
         (rf"({NAME})\s*=\s*({NUMBER})", Reader.number),

@@ -12,7 +12,7 @@ ROOT = os.path.dirname(os.path.dirname(HERE))
 sys.path[:0] = [os.path.join(ROOT, "python"), os.path.join(ROOT, "cases", "generators")]
 
 from survey_gate.cli import main  # noqa: E402
-from vectors import VECTORS, cases, is_answer  # noqa: E402, F401
+from vectors import VECTORS, cases  # noqa: E402, F401
 
 SAMPLES = os.path.join(ROOT, "samples")
 LAUNCHER = os.path.join(ROOT, "survey-gate")

@@ -5,7 +5,7 @@ import os
 import subprocess
 import unittest
 
-from support import LAUNCHER, SAMPLES, Folder, cases, gate, is_answer
+from support import LAUNCHER, SAMPLES, Folder, cases, gate
 
 from filtering import beside
 from survey_gate import Condition, Recipe, Refused, Sheet, check, run
@@ -202,15 +202,15 @@ class Library(unittest.TestCase):
             except Refused as refused:
                 told = f"refused {refused.number}"
                 self.assertTrue(refused.place, case)
-            self.assertTrue(is_answer(case.derived, told), (case, told))
+            self.assertEqual(told, case.derived, case)
             seen.add(told)
-        self.assertEqual(seen, {"pass", "held too big", "held too small", "held no divisor", "refused 14", "refused 15"})
+        self.assertEqual(seen, {"pass", "held too big", "held too small", "held no divisor", "refused 15"})
 
     def test_stored_verdicts_on_other_conditions(self):
         for case in cases():
             if case.made_up:
                 told = answer(case.content("condition"), case.content("sheet"))
-                self.assertTrue(is_answer(case.made_up, told), (case, told))
+                self.assertEqual(told, case.made_up, case)
 
     def test_the_cases_beside_the_vectors(self):
         for one in beside():

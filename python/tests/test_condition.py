@@ -38,8 +38,8 @@ class Conditions(unittest.TestCase):
                 if answer in ("", "refused 12", "refused 13"):
                     continue
                 condition = Condition.from_bytes(case.content(kind))
-                names = [f"f{n}" for n in range(len(condition.types))]
-                refused = condition.refusal(readings_of(case.content("sheet"), condition.types, names), names)
+                names = [part.name for part in condition.fields]
+                refused = condition.refusal(readings_of(case.content("sheet"), condition.fields), names)
                 self.assertEqual(refused.number if refused else 0, refusal(answer), case)
                 self.assertTrue(refused is None or refused.place, case)
                 seen.add(refusal(answer))

@@ -41,7 +41,7 @@ class Recipes(unittest.TestCase):
         names = [name for name in os.listdir(os.path.join(ROOT, "samples")) if name.endswith(".txt")]
         bare = re.sub(r"[ \t]+", " ", "\n".join(load(ROOT, "samples", name).decode() for name in names))
         parts = [block for block in blocks() if " = " in block and not block.startswith("    $ ")]
-        self.assertEqual(len(parts), 5)
+        self.assertEqual(len(parts), 6)
         for block in parts:
             for line in block.splitlines():
                 self.assertIn(re.sub(r"[ \t]+", " ", line.strip()), bare)
@@ -151,12 +151,14 @@ class Cases(unittest.TestCase):
     def test_the_files_of_the_programs(self):
         outside = {case.number: case for case in cases()}
         for program, case, kinds in (
-            ("gate", "000", ("condition", "sheet")),
-            ("run", "013", ("recipe", "sheet", "choices")),
-            ("guarded", "013", ("recipe", "sheet", "choices")),
+            ("gate", "001", ("condition", "sheet")),
+            ("run", "036", ("recipe", "sheet", "choices")),
+            ("guarded", "036", ("recipe", "sheet", "choices")),
         ):
             for kind in kinds:
                 self.assertEqual(load(ROOT, "crates", program, "data", kind), outside[case].content(kind), program)
+        (trap,) = [one.old for _, one in importlib.import_module("cases").converting_cases() if one.what.startswith("40 fields")]
+        self.assertEqual(load(ROOT, "crates", "convert", "data", "old"), trap)
 
 
 if __name__ == "__main__":

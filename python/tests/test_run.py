@@ -137,7 +137,7 @@ class Outputs(unittest.TestCase):
         folder = Folder(self)
         output = folder.at("c")
         self.assertEqual(gate("derive", BLOCK, output), (0, f"{BLOCK}: conjuncts 3 in {output}\n", ""))
-        self.assertEqual(len(load(output)), 275)
+        self.assertEqual(len(load(output)), 278)
 
     def test_an_output_that_is_an_input_is_refused(self):
         folder = Folder(self)
@@ -169,11 +169,11 @@ class Outputs(unittest.TestCase):
         os.chmod(real, 0o640)
         self.assertEqual(gate("derive", BLOCK, link)[0], 0)
         self.assertTrue(os.path.islink(link))
-        self.assertEqual((len(load(real)), os.stat(real).st_mode & 0o777), (275, 0o640))
+        self.assertEqual((len(load(real)), os.stat(real).st_mode & 0o777), (278, 0o640))
 
     def test_a_pipe_is_written_as_it_stands(self):
         ran = subprocess.run([LAUNCHER, "derive", "-q", BLOCK, "/dev/stdout"], capture_output=True, check=False)
-        self.assertEqual((ran.returncode, len(ran.stdout), ran.stderr), (0, 275, b""))
+        self.assertEqual((ran.returncode, len(ran.stdout), ran.stderr), (0, 278, b""))
 
     def test_choices_and_logs(self):
         self.assertEqual(from_choice_file(choice_file(7, [1, 2])), (7, b"\1\0\2\0"))

@@ -6,7 +6,7 @@ import time
 import unittest
 from unittest import mock
 
-from support import Folder, cases, gate, is_answer
+from support import Folder, cases, gate
 
 from survey_gate import Condition, Recipe, Sheet, Trouble, check
 from survey_gate.condition import READING, Atom, Conjunct, Node
@@ -57,7 +57,7 @@ class First(unittest.TestCase):
                 continue
             found = [self.same(conjunct, sheet.columns, case) for conjunct in condition.conjuncts]
             number, cause = next(((k, cause) for k, cause in enumerate(found) if cause), (None, None))
-            self.assertTrue(is_answer(case.derived, f"held {cause}" if cause else "pass"), case)
+            self.assertEqual(f"held {cause}" if cause else "pass", case.derived, case)
             if cause:
                 hold = why_held(recipe, condition, sheet, cause, load())
                 self.assertEqual((hold.conjunct, hold.cause), (number, cause), case)

@@ -154,7 +154,7 @@ class Places(unittest.TestCase):
         ):
             status, out, _ = gate("check", recipe, folder.put("s.sheet", data))
             self.assertEqual(status, 2)
-            self.assertIn(f"refused 13: the sheet is damaged, or belongs to another recipe: {place}", out)
+            self.assertIn(f"refused 13: the sheet is damaged, has a reading beyond its bits, or belongs to another recipe: {place}", out)
         for data, place in (
             (b"\x09" + good[1:], "f's readings start at byte 9 by the table, and at 8 by what is before"),
             (good[:5], "f's readings are to start at byte 8, behind the table, and the file ends at 5"),
@@ -177,7 +177,7 @@ class Places(unittest.TestCase):
             data = b"".join(struct.pack("<II", *pair) for pair in pairs) + b"\7\7"
             status, out, _ = gate("check", recipe, folder.put("s.sheet", data))
             self.assertEqual(status, 2)
-            self.assertIn(f"refused 13: the sheet is damaged, or belongs to another recipe: {place}", out)
+            self.assertIn(f"refused 13: the sheet is damaged, has a reading beyond its bits, or belongs to another recipe: {place}", out)
 
     def test_12_names_the_place_and_a_condition_is_held_to_its_recipe(self):
         folder = Folder(self)

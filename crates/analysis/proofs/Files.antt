@@ -9,6 +9,7 @@ use lib.ListN.{length, take, drop}
 use lib.Seq.{take-take}
 use borrow.Author.Tests.{le-leb, lt-leb}
 use Rattle.model.specs.Condition.{encode, conditionBytes, analysis}
+use Rattle.model.specs.Fields.{typesIn}
 use Rattle.model.specs.Conjunct.{Conjuncts}
 use Rattle.model.specs.Lists.{All}
 use Rattle.model.specs.Program.{Program, Tables, Outline, layoutOf, readOutline, readProgram}
@@ -51,8 +52,8 @@ module _ (s : List ℕ) (P : Program) (e : readProgram s ≡ ok P) where
   derives-refusal k out d = (then-derived ∙ ap (_>>= λ S. ok (encode (P .tables .fields) S)) d, refl)
 
   module _ (S : Conjuncts) (d : derived (P .code) ≡ ok S) where
-    pub set-formed : All (Formed (tablesOf s .fields)) S
-    set-formed = subst (λ (T : Tables). All (Formed (T .fields)) S) same-tables (derived-formed s P S e d)
+    pub set-formed : All (Formed (typesIn (tablesOf s .fields))) S
+    set-formed = subst (λ (T : Tables). All (Formed (typesIn (T .fields))) S) same-tables (derived-formed s P S e d)
 
     is-file : analysis s ≡ ok (encode (tablesOf s .fields) S)
     is-file =

@@ -236,7 +236,7 @@ fn sites(s: &mut [u64], n: usize) -> Answer
 pub const SCRATCH: usize = SITE + 10 * sets::REGION;
 
 // The bytes of output that it needs: the length of the longest condition file.
-pub const CONDITION: usize = 61992;
+pub const CONDITION: usize = 62024;
 
 // The length of the condition file that stands at the start of the output, or the number of the
 // refusal.

@@ -20,7 +20,7 @@ use Rattle.arith.proofs.Residues.{residue-neg}
 -- ---- fitting
 
 -- the range from -L to H
-between : (L H : ℕ) (n : Bool) (m : ℕ) → (leZ (negℤ (pos L)) (ofSign n m) && leZ (ofSign n m) (pos H)) ≡ leb m (cond n L H)
+pub between : (L H : ℕ) (n : Bool) (m : ℕ) → (leZ (negℤ (pos L)) (ofSign n m) && leZ (ofSign n m) (pos H)) ≡ leb m (cond n L H)
 between zero H false m = simp leb·zero
 between (suc L) H false m = refl
 between zero H true zero = simp leb·zero

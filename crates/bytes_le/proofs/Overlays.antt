@@ -32,6 +32,10 @@ overlay-append (x ∷ xs) l i ys =
     let e : i + suc (length xs) ≡ suc i + length xs = omega arith in
     rw e (overlay-append xs (set l i x) (suc i) ys)
 
+-- stores one behind the other
+pub stored-then : (l m k xs ys : List ℕ) (i j : ℕ) → j ≡ i + length xs → m ≡ overlay l i xs → k ≡ overlay m j ys → k ≡ overlay l i (xs ++ ys)
+stored-then l m k xs ys i j e p q = q ∙ rw (p, e) (sym (overlay-append xs l i ys))
+
 -- a copy, one element more
 pub overlay-more : (d : List ℕ) (b : ℕ) (s : List ℕ) (i : ℕ) → i < length s
     → set (overlay d b (take i s)) (b + i) (getD s i 0) ≡ overlay d b (take (i + 1) s)

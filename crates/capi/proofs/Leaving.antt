@@ -1,6 +1,7 @@
 -- From the operations' contracts to those of the words.
 use mathlib.Core.Path.{_≡_, refl, sym, ap, subst, _∙_}
 use mathlib.Core.Logic.{_⊎_, inl, inr}
+use mathlib.Core.Bool.{Bool, true, false, _&&_}
 use mathlib.Core.List.{List}
 use Prim.Native.Nat.{ℕ, _*_, _≤_, _<_}
 use native.Mathlib.Omega.{arith}
@@ -9,6 +10,7 @@ use lib.Dec.{leb}
 use lib.ListN.{length, take}
 use Rattle.bytes_le.specs.Overlay.{overlay}
 use Rattle.model.specs.Refusals.{Out, ok, refused, mapped, check, lentTooShort, wrongBlocks}
+use Rattle.model.specs.Sizes.{mostProgram}
 use Rattle.model.specs.Run.{Ran as ModelRan, run}
 use Rattle.model.specs.Guarded.{Guarded as ModelGuarded, held, passed}
 use Rattle.model.specs.Demands.{ResultOrRefusal, OrLent, GuardedRefusal, Exact}
@@ -18,6 +20,10 @@ use Rattle.model.proofs.basics.Results.{ok-eq, refused-ok}
 use Rattle.analysis.specs.Deriving.{analysisWords, Derives}
 use Rattle.analysis.specs.declared.Derived.{Derived}
 use Rattle.analysis.specs.declared.Derived.the-variants.{Written, Refused as NotDerived}
+use Rattle.code_table.specs.Table.{tableWords}
+use Rattle.widening.specs.Converting.{conversion, lengthOf, Converts}
+use Rattle.widening.specs.declared.Converted.{Converted}
+use Rattle.widening.specs.declared.Converted.the-variants.{Written as NewWritten, Refused as NotConverted}
 use Rattle.interpreter.specs.Answers.{runLent, Interprets}
 use Rattle.interpreter.specs.Progress.{scratchWords}
 use Rattle.interpreter.specs.declared.Ran.{Ran}
@@ -26,7 +32,7 @@ use Rattle.guard.specs.Answers.{guarding, guardedAnswer, Guards}
 use Rattle.guard.specs.declared.Guarded.{Guarded}
 use Rattle.guard.specs.declared.Guarded.the-variants.{Ended as GuardEnded, Held as GuardHeld, Refused as NotGuarded}
 use Rattle.guard.proofs.Behind.{guarding-answers}
-use Rattle.capi.specs.Words.{refusalUnit, answerWord, heldWord, endNumber, GateDerive, GateRun, GateGuarded}
+use Rattle.capi.specs.Words.{refusalUnit, answerWord, heldWord, endNumber, GateDerive, GateConvert, GateRun, GateGuarded}
 
 -- ---- a word below 2^32 is a result
 
@@ -65,6 +71,36 @@ derived-left o (NotDerived n) c c′ s s′ w d e = record {
   file = λ C q. absurd (refused-ok n C (sym (d .answer) ∙ q));
   scratch = d .scratch;
 }
+
+-- ---- a conversion
+
+abbrev pub convertedWord : Converted → ℕ
+convertedWord (NewWritten n) = n
+convertedWord (NotConverted n) = n * refusalUnit
+
+word-converted : (r : Converted) → convertedWord r ≡ answerWord (lengthOf r)
+word-converted (NewWritten n) = refl
+word-converted (NotConverted n) = refl
+
+pub converted-left : (o : Out (List ℕ)) (r : Converted) (p p′ s s′ : List ℕ) (w : ℕ) → Converts o r p p′ s s′ → w ≡ convertedWord r
+    → GateConvert o w p p′ s s′
+converted-left o r p p′ s s′ w c e = record { word = e ∙ word-converted r ∙ ap answerWord (c .answer); recipe = c .output; scratch = c .scratch }
+
+module _ (output words : ℕ) (old : List ℕ) where
+  lacks : (b : Bool) → (b && false) ≡ false
+  lacks true = refl
+  lacks false = refl
+
+  -- not as much scratch as every other call
+  pub convert-short : (p s : List ℕ) (w : ℕ) → words < analysisWords → w ≡ 1 * refusalUnit → GateConvert (conversion analysisWords output words old) w p p s s
+  unfolding conversion
+  convert-short p s w h e =
+      let few : (leb mostProgram output && leb analysisWords words) ≡ false = rw (lt-leb analysisWords words h) (lacks (leb mostProgram output)) in
+      record { word = rw few e; recipe = rw few; scratch = scratch-as-it-was tableWords wrongBlocks (conversion analysisWords output words old) s }
+
+  pub convert-enough : analysisWords ≤ words → conversion tableWords output words old ≡ conversion analysisWords output words old
+  unfolding conversion
+  convert-enough h = rw (le-leb tableWords words (omega (arith, h)), le-leb analysisWords words h)
 
 -- ---- a run
 

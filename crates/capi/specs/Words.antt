@@ -10,6 +10,7 @@ use Rattle.model.specs.Guarded.{Guarded, held, passed}
 use Rattle.model.specs.Demands.{Exact}
 use Rattle.model.specs.Lent.{leftBy, leftByRun, ScratchLeft}
 use Rattle.analysis.specs.Deriving.{analysisWords}
+use Rattle.code_table.specs.Table.{tableWords}
 use Rattle.interpreter.specs.Progress.{scratchWords}
 
 -- a refusal's number stands in the upper 32 bits
@@ -37,6 +38,12 @@ pub record GateDerive (o : Out (List ℕ)) (r : ℕ) (c c′ s s′ : List ℕ) 
   pub condition : c′ ≡ leftBy (λ C. overlay c 0 C) o c
   pub file : (C : List ℕ) → o ≡ ok C → take r c′ ≡ C
   pub scratch : ScratchLeft analysisWords wrongBlocks o s s′
+
+-- gate_convert: the file's length, and the file at the start of the recipe's output
+pub record GateConvert (o : Out (List ℕ)) (r : ℕ) (p p′ s s′ : List ℕ) : Type 0 where
+  pub word : r ≡ answerWord (mapped length o)
+  pub recipe : p′ ≡ leftBy (λ R. overlay p 0 R) o p
+  pub scratch : ScratchLeft tableWords wrongBlocks o s s′
 
 -- gate_run: the run's end, its log, and the numbers n of steps and k of records
 pub record GateRun (o : Out Ran) (r : ℕ) (l l′ s s′ : List ℕ) (n n′ k k′ : ℕ) : Type 0 where

@@ -10,12 +10,14 @@ ghost use Rattle.model.specs.Failure.{causeNumber, verdictNumber, verdict};
 ghost use Rattle.analysis.specs.Deriving.{analysisWords, derivation};
 ghost use Rattle.interpreter.specs.Answers.{runLent};
 ghost use Rattle.guard.specs.Answers.{guarding};
-ghost use Rattle.capi.specs.Words.{refusalUnit, answerWord, GateDerive, GateRun, GateGuarded};
+ghost use Rattle.widening.specs.Converting.{conversion};
+ghost use Rattle.capi.specs.Words.{refusalUnit, answerWord, GateDerive, GateConvert, GateRun, GateGuarded};
 use analysis::Derived;
 use arith::Cause;
 use filter::Verdict;
 use guard::Guarded;
 use interpreter::Ran;
+use widening::Converted;
 
 // The refusal's number stands in the upper 32 bits.
 const REFUSAL: u64 = 0x1_0000_0000;
@@ -49,6 +51,22 @@ pub extern "C" fn gate_derive(recipe: &[u8], condition: &mut [u8], scratch: &mut
     match derived {
         Derived::Refused(n) => refusal(n),
         Derived::Written(n) => n as u64,
+    }
+}
+
+// The new form of an old recipe: the file's length.
+#[no_mangle]
+pub extern "C" fn gate_convert(old: &[u8], recipe: &mut [u8], scratch: &mut [u64]) -> u64
+    ensures { λ r. ⌜ GateConvert (conversion analysisWords (length (now (recipe .entry))) (length (now (scratch .entry))) (now (old .entry)))
+        r (now (recipe .entry)) (now (recipe .exit)) (now (scratch .entry)) (now (scratch .exit)) ⌝ }
+{
+    if scratch.len() < analysis::SCRATCH {
+        return refusal(LENT_TOO_SHORT);
+    }
+    let converted = widening::convert(old, recipe, scratch);
+    match converted {
+        Converted::Refused(n) => refusal(n),
+        Converted::Written(n) => n as u64,
     }
 }
 

@@ -2,6 +2,7 @@
 // headline and then, for each case that asks for it, what the part's module says. The stored files and
 // what a case asks are in module `stored`.
 mod analysing;
+mod converting;
 mod filtering;
 mod reading;
 mod running;
@@ -10,13 +11,14 @@ mod stored;
 use files::answers::say;
 
 // How many cases are stored.
-const CASES: usize = 505;
+const CASES: usize = 339;
 
 enum Part {
     Reading,
     Analysing,
     Filtering,
     Running,
+    Converting,
 }
 
 fn show(part: Part, i: usize) {
@@ -26,6 +28,7 @@ fn show(part: Part, i: usize) {
         Part::Analysing => analysing::show(i, case),
         Part::Filtering => filtering::show(i, case),
         Part::Running => running::show(i, case),
+        Part::Converting => converting::show(i, case),
     }
 }
 
@@ -46,4 +49,6 @@ fn main() {
     show_all(Part::Filtering);
     say(b"running\n");
     show_all(Part::Running);
+    say(b"converting\n");
+    show_all(Part::Converting);
 }

@@ -22,12 +22,12 @@ fn refused(k: u8) {
     answers::refused(k);
 }
 
-// Whether a sheet has its form for these types.
-fn sheet_line(i: usize, what: &[u8], types: &[u8]) {
+// Whether a sheet has its form for these fields.
+fn sheet_line(i: usize, what: &[u8], fields: &[u8]) {
     let mut sheet = [0u8; files::SHEET];
     let n = stored::read(i, b"sheet", &mut sheet);
     begin(i, what);
-    let r = input::read(types, &sheet[..n]);
+    let r = input::read(fields, &sheet[..n]);
     match r {
         InputRead::Yes => say(b" read\n"),
         InputRead::Refused(k) => refused(k),
@@ -52,9 +52,9 @@ fn recipe_lines(i: usize, recipe: &[u8]) {
     match r {
         ProgramRead::Refused(k) => refused(k),
         ProgramRead::Read(layout) => {
-            let types = program::field_types(recipe, layout);
+            let fields = program::fields(recipe, layout);
             say_layout(layout);
-            sheet_line(i, b" sheet for the recipe", types);
+            sheet_line(i, b" sheet for the recipe", fields);
         }
     }
 }
@@ -65,9 +65,9 @@ fn condition_lines(i: usize, condition: &[u8]) {
     match r {
         ConditionRead::Refused(k) => refused(k),
         ConditionRead::Counts(counts) => {
-            let types = condition::types(condition, counts);
+            let fields = condition::fields(condition, counts);
             say_counts(counts);
-            sheet_line(i, b" sheet for the condition", types);
+            sheet_line(i, b" sheet for the condition", fields);
         }
     }
 }

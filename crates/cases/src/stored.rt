@@ -13,8 +13,8 @@ pub(crate) const ANALYSING: u8 = 2;
 pub(crate) const MADE_UP: u8 = 4;
 // The verdict under the recipe's own.
 pub(crate) const DERIVED: u8 = 8;
-// The cause of a hold.
-pub(crate) const CAUSE: u8 = 16;
+// The new form of its old recipe.
+pub(crate) const CONVERTING: u8 = 16;
 // The run.
 pub(crate) const RUNNING: u8 = 32;
 // The run's records as notes.

@@ -1,22 +1,22 @@
--- The passes over types, pairs and nodes, turn by turn: what is left from a place on.
+-- The passes over fields, pairs and nodes, turn by turn: what is left from a place on.
 use mathlib.Core.Path.{_≡_, refl, sym, _∙_, ap}
 use mathlib.Core.Bool.{Bool, true, false}
 use mathlib.Core.List.{List, _∷_}
 use Prim.Native.Nat.{ℕ, _+_, _*_, _-_, _/_, _≤_, _<_}
-use native.Mathlib.Numerals.{add-one}
 use native.Mathlib.Nat.{add-zero}
 use native.Mathlib.Omega.{arith}
-use lib.Dec.{eqb}
-use lib.ListN.{length, getD, drop}
-use lib.Seq.{drop-cons, drop-length}
-use borrow.Author.Tests.{eq-eqb, ne-eqb, lt-ltb, le-ltb}
-use Rattle.model.specs.Sizes.{pairSize, nodeSize}
+use lib.Dec.{eqb, leb}
+use lib.ListN.{length}
+use borrow.Author.Tests.{eq-eqb, ne-eqb, lt-ltb, le-ltb, le-leb, lt-leb, leb-true, leb-false}
+use Rattle.arith.specs.Types.{bits}
+use Rattle.model.specs.Sizes.{fieldSize, overBits, pairSize, nodeSize}
 use Rattle.model.specs.Lists.{every}
 use Rattle.model.specs.Refusals.{ok, refused, check, wrongCondition}
 use Rattle.model.proofs.basics.Results.{refused-ok}
 use Rattle.model.specs.Bytes.{Pair, pairAt, entries, pairsAt, chained}
-use Rattle.model.specs.Program.{typeRight}
+use Rattle.model.specs.Fields.{Field, entryOf, fieldAt, fieldRight, fieldsIn}
 use Rattle.model.specs.Condition.{nodeAt, nodeRight}
+use Rattle.model.proofs.basics.Tests.{case}
 use Rattle.model.proofs.basics.Results.{check-ok}
 use Rattle.model.proofs.files.Parts.{entries-step}
 use Rattle.condition.specs.Numbers.{typeCodes}
@@ -25,20 +25,52 @@ use Rattle.condition.specs.declared.Node.{Node}
 use Rattle.condition.specs.declared.NodeRead.{NodeRead}
 use Rattle.condition.specs.declared.NodeRead.the-variants.{Node as Entry, Refused as Wrong}
 
--- ---- types
+-- ---- the fields of a table
 
-module _ (types : List ℕ) (i : ℕ) (more : i < length types) where
-  pub types-on : getD types i 0 < typeCodes → every typeRight (drop i types) ≡ every typeRight (drop (i + 1) types)
+-- those from the one with number i on
+abbrev pub fieldsFrom : List ℕ → ℕ → ℕ → List Field
+fieldsFrom table n i = entries fieldAt fieldSize table (fieldSize * i) (n - i)
+
+pub fields-all : (table : List ℕ) → every fieldRight (fieldsIn table) ≡ every fieldRight (fieldsFrom table (length table / fieldSize) 0)
+fields-all table =
+    let n = length table / fieldSize in
+    let e : n - 0 ≡ n = omega arith in
+    rw e
+
+module _ (table : List ℕ) (n i : ℕ) (more : i < n) where
+  fields-step : fieldsFrom table n i ≡ fieldAt table (fieldSize * i) ∷ fieldsFrom table n (i + 1)
+  fields-step = entries-step fieldAt fieldSize table (fieldSize * i) (fieldSize * (i + 1)) (n - i) (n - (i + 1)) (omega arith) (omega arith)
+
+  pub fields-on : fieldRight (fieldAt table (fieldSize * i)) ≡ true → every fieldRight (fieldsFrom table n i) ≡ every fieldRight (fieldsFrom table n (i + 1))
   unfolding every
-  types-on h = rw (drop-cons types i 0 more, lt-ltb (getD types i 0) typeCodes h, add-one i)
+  fields-on h = rw (fields-step, h)
 
-  pub types-off : typeCodes ≤ getD types i 0 → every typeRight (drop i types) ≡ false
+  pub fields-off : fieldRight (fieldAt table (fieldSize * i)) ≡ false → every fieldRight (fieldsFrom table n i) ≡ false
   unfolding every
-  types-off h = rw (drop-cons types i 0 more, le-ltb (getD types i 0) typeCodes h)
+  fields-off h = rw (fields-step, h)
 
-pub types-end : (types : List ℕ) (i : ℕ) → length types ≤ i → i ≤ length types → every typeRight (drop i types) ≡ true
-unfolding every
-types-end types i h k = let e : i ≡ length types = omega arith in rw (e, drop-length types)
+pub fields-end : (table : List ℕ) (n i : ℕ) → n ≤ i → every fieldRight (fieldsFrom table n i) ≡ true
+unfolding every entries
+fields-end table n i h = let e : n - i ≡ 0 = omega arith in rw e
+
+-- the tests of an entry
+module _ (ty size : ℕ) where
+  pub no-type : typeCodes ≤ ty → fieldRight (entryOf ty size) ≡ false
+  unfolding fieldRight
+  no-type h = rw (le-ltb ty typeCodes h)
+
+  pub no-bits : ty < typeCodes → size ≤ overBits → fieldRight (entryOf ty size) ≡ false
+  unfolding fieldRight
+  no-bits t h = rw (lt-ltb ty typeCodes t, le-ltb overBits size h)
+
+  -- what is left is whether the type has as many bits
+  pub so-many-bits : ty < typeCodes → overBits < size → (n : ℕ) → n ≡ bits ty → leb (size - overBits) n ≡ fieldRight (entryOf ty size)
+  unfolding fieldRight
+  so-many-bits t h n e =
+      rw (lt-ltb ty typeCodes t, lt-ltb overBits size h, e)
+      (case (leb (size - overBits) (bits ty)) (λ z. z ≡ leb size (overBits + bits ty))
+      (λ q. sym (le-leb size (overBits + bits ty) (omega (arith, leb-true (size - overBits) (bits ty) q))))
+      (λ q. sym (lt-leb size (overBits + bits ty) (omega (arith, leb-false (size - overBits) (bits ty) q)))))
 
 -- ---- pairs
 

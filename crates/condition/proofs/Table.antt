@@ -8,11 +8,12 @@ use native.Mathlib.Omega.{arith}
 use lib.Dec.{eqb, leb, ltb}
 use lib.ListN.{length, getD, take, drop, length-map, List·getD-map}
 use borrow.Author.Tests.{eq-eqb, ne-eqb, le-leb, lt-leb, lt-ltb, le-ltb, leb-true, eqb-true}
-use Rattle.model.specs.Sizes.{countsSize, pairSize, nodeSize, mostNodes, mostConjuncts, mostFields}
+use Rattle.model.specs.Sizes.{fieldSize, countsSize, pairSize, nodeSize, mostNodes, mostConjuncts, mostFields}
 use Rattle.model.specs.Lists.{every}
 use Rattle.model.specs.Refusals.{ok, refused, mapped, check, wrongCondition}
 use Rattle.model.specs.Bytes.{u32At, part, Pair, pairAt, entries, pairsAt}
 use Rattle.model.specs.Program.{typeRight}
+use Rattle.model.specs.Fields.{fieldAt, fieldRight, fieldsIn}
 use Rattle.model.specs.Conjunct.{Conjuncts, _then_, orderNumbers, order}
 use Rattle.model.specs.Condition.{Condition, conjunctsAt, nodeAt, nodeRight, conjunctAt, nodesRight, lengthRight, whole, numbered}
 use Rattle.model.specs.Condition.{isBefore, rising, readCondition}
@@ -20,8 +21,9 @@ use Rattle.model.proofs.basics.Tests.{case, and-left, and-right}
 use Rattle.model.proofs.basics.Results.{check-ok, ok-eq}
 use Rattle.model.proofs.basics.Every.{every-of-map, every-at}
 use Rattle.model.proofs.files.Parts.{length-entries, entries-getD, chained-le, chained-inside, length-part, entries-part}
-use Rattle.condition.specs.Answers.{partNodes, partRight, pairPart, pairRight, pairPlace, pairsOf, typesIn, linked}
-use Rattle.condition.specs.Answers.{sizes, sizesOf, ConditionIsRead, typesOf, conjunctsOf}
+use Rattle.model.proofs.files.FieldTables.{fields-part, types-right}
+use Rattle.condition.specs.Answers.{partNodes, partRight, pairPart, pairRight, pairPlace, pairsOf, fieldsAt, typesAt, linked}
+use Rattle.condition.specs.Answers.{sizes, sizesOf, ConditionIsRead, fieldsOf, typesOf, conjunctsOf}
 use Rattle.condition.specs.declared.Counts.{Counts}
 use Rattle.condition.proofs.Nodes.{node-narrow, right-narrow}
 use Rattle.condition.proofs.Passes.{pairsFrom, pairs-step}
@@ -88,12 +90,19 @@ module _ (types s : List ℕ) (p : Pair) (inside : p .offset + p .len ≤ length
         part-nodes s p inside,
       )
 
--- the types of the fields, as they are taken from the file
-pub types-taken : (s : List ℕ) (f : ℕ) → take (countsSize + f - countsSize) (drop countsSize s) ≡ typesIn s f
-types-taken s f = let e : countsSize + f - countsSize ≡ f = omega arith in rw e
+-- the table of the fields, as it is taken from the file
+module _ (s : List ℕ) (f : ℕ) where
+  abbrev table : List ℕ
+  table = take (countsSize + fieldSize * f - countsSize) (drop countsSize s)
 
-pub types-count : (s : List ℕ) (f : ℕ) → countsSize + f ≤ length s → length (take (countsSize + f - countsSize) (drop countsSize s)) ≡ f
-types-count s f h = ap length (types-taken s f) ∙ length-part s countsSize f h
+  table-taken : table ≡ part s countsSize (fieldSize * f)
+  table-taken = let e : countsSize + fieldSize * f - countsSize ≡ fieldSize * f = omega arith in rw e
+
+  pub fields-taken : countsSize + fieldSize * f ≤ length s → fieldsIn table ≡ fieldsAt s f
+  fields-taken h = ap (λ (t : List ℕ). fieldsIn t) table-taken ∙ fields-part s countsSize f h
+
+  pub table-length : countsSize + fieldSize * f ≤ length s → length table ≡ fieldSize * f
+  table-length h = ap length table-taken ∙ length-part s countsSize (fieldSize * f) h
 
 -- ---- the table of pairs
 
@@ -103,9 +112,9 @@ module _ (s : List ℕ) (f c : ℕ) (chain : linked s f c ≡ true) where
 
   pub pair-inside : (i : ℕ) → i < c → pairAt s (pairPlace f i) .offset + pairAt s (pairPlace f i) .len ≤ length s
   pair-inside i h =
-      subst (λ (q : Pair). q .offset + q .len ≤ length s) (entries-getD pairAt pairSize s c (countsSize + f) i (pairAt s 0) h)
+      subst (λ (q : Pair). q .offset + q .len ≤ length s) (entries-getD pairAt pairSize s c (countsSize + fieldSize * f) i (pairAt s 0) h)
       (chained-inside (pairsOf s f c) (conjunctsAt f c) (length s) chain i (pairAt s 0)
-      (omega (arith, length-entries pairAt pairSize s c (countsSize + f))) .1)
+      (omega (arith, length-entries pairAt pairSize s c (countsSize + fieldSize * f))) .1)
 
 -- ---- the pass over the conjuncts
 
@@ -185,16 +194,16 @@ every-pair test s at n h i l =
 
 -- two neighbours, by their parts
 pub order-neighbours : (s : List ℕ) (f c : ℕ) → linked s f c ≡ true
-    → every (pairRight (typesIn s f) s) (pairsOf s f c) ≡ true
+    → every (pairRight (typesAt s f) s) (pairsOf s f c) ≡ true
     → ((i : ℕ) → getD s i 0 < 256) → (i : ℕ) → i + 1 < c → (t u : List ℕ) → t ≡ pairPart s (pairPlace f i) → u ≡ pairPart s (pairPlace f (i + 1))
     → order (conjunctAt s (pairAt s (pairPlace f i))) (conjunctAt s (pairAt s (pairPlace f (i + 1))))
     ≡ (compare (length t) (length u) then orderNumbers t u)
 order-neighbours s f c chain right small i more =
-    let types = typesIn s f in
+    let types = typesAt s f in
     order-parts types s small (pairAt s (pairPlace f i)) (pairAt s (pairPlace f (i + 1))) (pair-inside s f c chain i (omega arith))
     (pair-inside s f c chain (i + 1) more)
-    (every-pair (pairRight types s) s (countsSize + f) c right i (omega arith))
-    (every-pair (pairRight types s) s (countsSize + f) c right (i + 1) more)
+    (every-pair (pairRight types s) s (countsSize + fieldSize * f) c right i (omega arith))
+    (every-pair (pairRight types s) s (countsSize + fieldSize * f) c right (i + 1) more)
 
 -- conjuncts from the one with number i on
 abbrev pub conjunctsFrom : List ℕ → ℕ → ℕ → ℕ → Conjuncts
@@ -250,46 +259,49 @@ pairs-tests types s ps =
 -- the tests, with these counts
 unfoldable pub formBy : List ℕ → ℕ → ℕ → Bool
 formBy s c f =
-    let types = typesIn s f in
+    let types = typesAt s f in
     let pairs = pairsOf s f c in
     leb countsSize (length s) && leb c mostConjuncts && leb f mostFields && linked s f c
-    && every typeRight types && every (pairRight types s) pairs && rising (map (conjunctAt s) pairs)
+    && every fieldRight (fieldsAt s f) && every (pairRight types s) pairs && rising (map (conjunctAt s) pairs)
 
 regroup : (x a b c d r : Bool) → (x && (a && b && c && d) && r) ≡ (x && a && b && c && d && r)
 regroup false a b c d r = refl
 regroup true a b c d r = refl
 
 pub read-form : (s : List ℕ)
-    → readCondition s ≡ check (formBy s (u32At s 0) (u32At s 4)) wrongCondition (ok (record { types = typesOf s; conjuncts = conjunctsOf s }))
+    → readCondition s ≡ check (formBy s (u32At s 0) (u32At s 4)) wrongCondition (ok (record { fields = fieldsOf s; conjuncts = conjunctsOf s }))
 unfolding readCondition formBy
 read-form s =
     let ps = pairsOf s (u32At s 4) (u32At s 0) in
     let first = leb countsSize (length s) && leb (u32At s 0) mostConjuncts && leb (u32At s 4) mostFields && linked s (u32At s 4) (u32At s 0)
-    && every typeRight (typesOf s) in
+    && every fieldRight (fieldsOf s) in
     rw (pairs-tests (typesOf s) s ps)
-    (ap (λ (b : Bool). check b wrongCondition (ok (record { types = typesOf s; conjuncts = conjunctsOf s })))
+    (ap (λ (b : Bool). check b wrongCondition (ok (record { fields = fieldsOf s; conjuncts = conjunctsOf s })))
     (sym (regroup first (every lengthRight ps) (every (nodesRight (typesOf s) s) ps) (every whole (conjunctsOf s)) (every numbered (conjunctsOf s))
     (rising (conjunctsOf s)))))
 
 module _ (s : List ℕ) where
-  -- how many conjuncts and types a file holds
+  -- how many conjuncts and fields a file holds
   pub conjuncts-count : length (conjunctsOf s) ≡ u32At s 0
   conjuncts-count =
-      length-map (pairsOf s (u32At s 4) (u32At s 0)) (conjunctAt s) ∙ length-entries pairAt pairSize s (u32At s 0) (countsSize + u32At s 4)
+      length-map (pairsOf s (u32At s 4) (u32At s 0)) (conjunctAt s) ∙ length-entries pairAt pairSize s (u32At s 0) (countsSize + fieldSize * u32At s 4)
 
-  sizes-form : mapped sizes (readCondition s) ≡ check (formBy s (u32At s 0) (u32At s 4)) wrongCondition (ok (u32At s 0, length (typesOf s)))
+  pub fields-many : (f : ℕ) → length (fieldsAt s f) ≡ f
+  fields-many f = length-entries fieldAt fieldSize s f countsSize
+
+  sizes-form : mapped sizes (readCondition s) ≡ check (formBy s (u32At s 0) (u32At s 4)) wrongCondition (ok (u32At s 0, length (fieldsOf s)))
   sizes-form =
       ap (mapped sizes) (read-form s)
-      ∙ mapped-check sizes (formBy s (u32At s 0) (u32At s 4)) wrongCondition (record { types = typesOf s; conjuncts = conjunctsOf s })
-      ∙ ap (λ (m : ℕ). check (formBy s (u32At s 0) (u32At s 4)) wrongCondition (ok (m, length (typesOf s)))) conjuncts-count
+      ∙ mapped-check sizes (formBy s (u32At s 0) (u32At s 4)) wrongCondition (record { fields = fieldsOf s; conjuncts = conjunctsOf s })
+      ∙ ap (λ (m : ℕ). check (formBy s (u32At s 0) (u32At s 4)) wrongCondition (ok (m, length (fieldsOf s)))) conjuncts-count
 
   -- by the counts that were read
   module _ (c f : ℕ) (ec : c ≡ u32At s 0) (ef : f ≡ u32At s 4) where
     pub refuses : formBy s c f ≡ false → refused wrongCondition ≡ mapped sizes (readCondition s)
     refuses h = sym (sizes-form ∙ rw (← ec, ← ef, h))
 
-    pub accepts : countsSize + f ≤ length s → formBy s c f ≡ true → ok (c, f) ≡ mapped sizes (readCondition s)
-    accepts l h = sym (sizes-form ∙ rw (← ec, ← ef, h, length-part s countsSize f l))
+    pub accepts : formBy s c f ≡ true → ok (c, f) ≡ mapped sizes (readCondition s)
+    accepts h = sym (sizes-form ∙ rw (← ec, ← ef, h, fields-many f))
 
 -- the default does not count inside a list
 getD-any : {A : Type 0} (xs : List A) (i : ℕ) (d e : A) → i < length xs → getD xs i d ≡ getD xs i e
@@ -305,27 +317,30 @@ module _ (s : List ℕ) (c f : ℕ) (form : formBy s c f ≡ true) where
   begun = leb countsSize (length s) && leb c mostConjuncts && leb f mostFields && linked s f c
 
   abbrev rights : Bool
-  rights = every (pairRight (typesIn s f) s) (pairsOf s f c)
+  rights = every (pairRight (typesAt s f) s) (pairsOf s f c)
 
-  first-six : (begun && every typeRight (typesIn s f) && rights) ≡ true
+  first-six : (begun && every fieldRight (fieldsAt s f) && rights) ≡ true
   unfolding formBy
-  first-six = and-left (begun && every typeRight (typesIn s f) && rights) (rising (map (conjunctAt s) (pairsOf s f c))) form
+  first-six = and-left (begun && every fieldRight (fieldsAt s f) && rights) (rising (map (conjunctAt s) (pairsOf s f c))) form
 
   first-four : begun ≡ true
-  first-four = and-left begun (every typeRight (typesIn s f)) (and-left (begun && every typeRight (typesIn s f)) rights first-six)
+  first-four = and-left begun (every fieldRight (fieldsAt s f)) (and-left (begun && every fieldRight (fieldsAt s f)) rights first-six)
 
   pub form-chained : linked s f c ≡ true
   form-chained = and-right (leb countsSize (length s) && leb c mostConjuncts && leb f mostFields) (linked s f c) first-four
 
-  pub form-types : every typeRight (typesIn s f) ≡ true
-  form-types = and-right begun (every typeRight (typesIn s f)) (and-left (begun && every typeRight (typesIn s f)) rights first-six)
+  pub form-fields : every fieldRight (fieldsAt s f) ≡ true
+  form-fields = and-right begun (every fieldRight (fieldsAt s f)) (and-left (begun && every fieldRight (fieldsAt s f)) rights first-six)
+
+  pub form-types : every typeRight (typesAt s f) ≡ true
+  form-types = types-right (fieldsAt s f) form-fields
 
   pub form-pairs : rights ≡ true
-  form-pairs = and-right (begun && every typeRight (typesIn s f)) rights first-six
+  form-pairs = and-right (begun && every fieldRight (fieldsAt s f)) rights first-six
 
   -- the pair of a conjunct
-  pub form-pair : (i : ℕ) → i < c → pairRight (typesIn s f) s (pairAt s (pairPlace f i)) ≡ true
-  form-pair i h = every-pair (pairRight (typesIn s f) s) s (countsSize + f) c form-pairs i h
+  pub form-pair : (i : ℕ) → i < c → pairRight (typesAt s f) s (pairAt s (pairPlace f i)) ≡ true
+  form-pair i h = every-pair (pairRight (typesAt s f) s) s (countsSize + fieldSize * f) c form-pairs i h
 
 pub record Counted (s : List ℕ) (c f : ℕ) : Type 0 where
   pub conjuncts : c ≡ u32At s 0
@@ -335,11 +350,11 @@ pub record Counted (s : List ℕ) (c f : ℕ) : Type 0 where
 
 pub counted-read : (s : List ℕ) (k : Counts) → ConditionIsRead s k → Counted s (k .conjuncts) (k .fields)
 counted-read s k read =
-    let e = check-ok (formBy s (u32At s 0) (u32At s 4)) wrongCondition (ok (u32At s 0, length (typesOf s))) (sizesOf k) (sym (sizes-form s) ∙ read) in
+    let e = check-ok (formBy s (u32At s 0) (u32At s 4)) wrongCondition (ok (u32At s 0, length (fieldsOf s))) (sizesOf k) (sym (sizes-form s) ∙ read) in
     let l = table-inside s (u32At s 4) (u32At s 0) (form-chained s (u32At s 0) (u32At s 4) (e .0)) in
-    let m : (u32At s 0, length (typesOf s)) ≡ sizesOf k = ok-eq (u32At s 0, length (typesOf s)) (sizesOf k) (e .1) in
+    let m : (u32At s 0, length (fieldsOf s)) ≡ sizesOf k = ok-eq (u32At s 0, length (fieldsOf s)) (sizesOf k) (e .1) in
     let ec : k .conjuncts ≡ u32At s 0 = sym (ap (λ (x : ℕ × ℕ). x .0) m) in
-    let ef : k .fields ≡ u32At s 4 = sym (ap (λ (x : ℕ × ℕ). x .1) m) ∙ length-part s countsSize (u32At s 4) (omega arith) in
+    let ef : k .fields ≡ u32At s 4 = sym (ap (λ (x : ℕ × ℕ). x .1) m) ∙ fields-many s (u32At s 4) in
     record { conjuncts = ec; fields = ef; form = rw (ec, ef) (e .0); table = rw (ec, ef) l }
 
 -- a conjunct's part
@@ -360,20 +375,20 @@ module _ (s : List ℕ) (k : Counts) (read : ConditionIsRead s k) (i : ℕ) (h :
       ∙ sym (getD-any (map (conjunctAt s) ps) i [] (conjunctAt s (pairAt s 0)) (rw m (subst (λ (c : ℕ). i < c) (q .conjuncts) h))
       ∙ List·getD-map (conjunctAt s) ps i (pairAt s 0)
       ∙ ap (conjunctAt s)
-      (entries-getD pairAt pairSize s (u32At s 0) (countsSize + u32At s 4) i (pairAt s 0) (subst (λ (c : ℕ). i < c) (q .conjuncts) h)))
+      (entries-getD pairAt pairSize s (u32At s 0) (countsSize + fieldSize * u32At s 4) i (pairAt s 0) (subst (λ (c : ℕ). i < c) (q .conjuncts) h)))
 
   pub conjunct-short : length (pairPart s (pairPlace (k .fields) i)) ≤ nodeSize * mostNodes
   conjunct-short =
       let q = counted-read s k read in
       let p = pairAt s (pairPlace (k .fields) i) in
-      rw (part-length s p conjunct-inside) (pair-short (typesIn s (k .fields)) s p (form-pair s (k .conjuncts) (k .fields) (q .form) i h))
+      rw (part-length s p conjunct-inside) (pair-short (typesAt s (k .fields)) s p (form-pair s (k .conjuncts) (k .fields) (q .form) i h))
 
 -- what the model's reader gives
-pub condition-read : (s : List ℕ) (C : Condition) → readCondition s ≡ ok C → (C .types ≡ typesOf s) × (C .conjuncts ≡ conjunctsOf s)
+pub condition-read : (s : List ℕ) (C : Condition) → readCondition s ≡ ok C → (C .fields ≡ fieldsOf s) × (C .conjuncts ≡ conjunctsOf s)
 condition-read s C e =
-    let D : Condition = record { types = typesOf s; conjuncts = conjunctsOf s } in
+    let D : Condition = record { fields = fieldsOf s; conjuncts = conjunctsOf s } in
     let m : D ≡ C = ok-eq D C (check-ok (formBy s (u32At s 0) (u32At s 4)) wrongCondition (ok D) C (sym (read-form s) ∙ e) .1) in
-    (sym (ap (λ (x : Condition). x .types) m), sym (ap (λ (x : Condition). x .conjuncts) m))
+    (sym (ap (λ (x : Condition). x .fields) m), sym (ap (λ (x : Condition). x .conjuncts) m))
 
 -- ---- the tests, one after the other
 
@@ -393,7 +408,7 @@ module _ (s : List ℕ) (c f : ℕ) where
 
     module _ (few : c ≤ mostConjuncts) (narrow : f ≤ mostFields) where
       form-rest : formBy s c f
-          ≡ (linked s f c && every typeRight (typesIn s f) && every (pairRight (typesIn s f) s)
+          ≡ (linked s f c && every fieldRight (fieldsAt s f) && every (pairRight (typesAt s f) s)
           (pairsOf s f c)
           && rising (map (conjunctAt s) (pairsOf s f c)))
       unfolding formBy
@@ -409,13 +424,13 @@ module _ (s : List ℕ) (c f : ℕ) where
           (λ q r. absurd (omega (arith, table-inside s f c q))) (λ q r. form-unchained q) refl
 
       module _ (chain : linked s f c ≡ true) where
-        pub form-untyped : every typeRight (typesIn s f) ≡ false → formBy s c f ≡ false
-        form-untyped h = form-rest ∙ rw (chain, h)
+        pub form-unlisted : every fieldRight (fieldsAt s f) ≡ false → formBy s c f ≡ false
+        form-unlisted h = form-rest ∙ rw (chain, h)
 
-        module _ (typed : every typeRight (typesIn s f) ≡ true) where
-          pub form-wrong : every (pairRight (typesIn s f) s) (pairsOf s f c) ≡ false → formBy s c f ≡ false
-          form-wrong h = form-rest ∙ rw (chain, typed, h)
+        module _ (listed : every fieldRight (fieldsAt s f) ≡ true) where
+          pub form-wrong : every (pairRight (typesAt s f) s) (pairsOf s f c) ≡ false → formBy s c f ≡ false
+          form-wrong h = form-rest ∙ rw (chain, listed, h)
 
-          pub form-is : every (pairRight (typesIn s f) s) (pairsOf s f c) ≡ true
+          pub form-is : every (pairRight (typesAt s f) s) (pairsOf s f c) ≡ true
               → formBy s c f ≡ rising (map (conjunctAt s) (pairsOf s f c))
-          form-is h = form-rest ∙ rw (chain, typed, h)
+          form-is h = form-rest ∙ rw (chain, listed, h)

@@ -5,13 +5,14 @@ use mathlib.Core.List.{List, [], _∷_, map}
 use Prim.Native.Nat.{ℕ, _+_, _*_, _/_, _≤_}
 use lib.Dec.{ltb, eqb}
 use lib.ListN.{length, getD}
-use Rattle.model.specs.Sizes.{mostFields, mostNodes, nodeSize, countsSize, pairSize}
+use Rattle.model.specs.Sizes.{fieldSize, mostFields, mostNodes, nodeSize, countsSize, pairSize}
 use Rattle.arith.specs.Step.{fits}
 use Rattle.arith.specs.Words.{immediate}
 use Rattle.model.specs.Lists.{every}
 use Rattle.model.specs.Refusals.{Out, ok, refused, mapped, check, wrongCondition}
 use Rattle.model.specs.Bytes.{byteAt, u16At, u32At, part, Pair, pairAt, entries, pairsAt, chained}
 use Rattle.model.specs.Values.{add, sub, mul, div}
+use Rattle.model.specs.Fields.{Field, fieldAt, typesIn}
 use Rattle.model.specs.Program.{typeRight}
 use Rattle.model.specs.Conjunct.{field, Node as ModelNode, const, atom, op, conv, Conj, Conjuncts}
 use Rattle.model.specs.Condition.{Condition, conjunctsAt, nodeAt, nodeRight, nodesRight, conjunctAt, whole, numbered, lengthRight, readCondition}
@@ -80,12 +81,15 @@ partRight types s = every (λ b. b) (entries (nodeRight types) nodeSize s 0 (len
 abbrev pub pairPart : List ℕ → ℕ → List ℕ
 pairPart s a = part s (pairAt s a .offset) (pairAt s a .len)
 
--- the types and the pairs of a file with so many fields and conjuncts
-abbrev pub typesIn : List ℕ → (fields : ℕ) → List ℕ
-typesIn s f = part s countsSize f
+-- the fields, their types and the pairs of a file with so many fields and conjuncts
+abbrev pub fieldsAt : List ℕ → (fields : ℕ) → List Field
+fieldsAt s f = entries fieldAt fieldSize s countsSize f
+
+abbrev pub typesAt : List ℕ → (fields : ℕ) → List ℕ
+typesAt s f = typesIn (fieldsAt s f)
 
 abbrev pub pairsOf : List ℕ → (fields conjuncts : ℕ) → List Pair
-pairsOf s f c = pairsAt s (countsSize + f) c
+pairsOf s f c = pairsAt s (countsSize + fieldSize * f) c
 
 -- the conjuncts stand one after the other from behind the pairs to the file's end
 abbrev pub linked : List ℕ → (fields conjuncts : ℕ) → Bool
@@ -93,7 +97,7 @@ linked s f c = chained (conjunctsAt f c) (pairsOf s f c) (length s)
 
 -- where the pair of a conjunct stands, in a file with so many fields
 abbrev pub pairPlace : (fields i : ℕ) → ℕ
-pairPlace f i = countsSize + f + pairSize * i
+pairPlace f i = countsSize + fieldSize * f + pairSize * i
 
 -- the tests of one pair
 unfoldable pub pairRight : List ℕ → List ℕ → Pair → Bool
@@ -112,7 +116,7 @@ formed b = check b wrongCondition (ok tt)
 
 -- how many conjuncts and fields
 abbrev pub sizes : Condition → ℕ × ℕ
-sizes C = (length (C .conjuncts), length (C .types))
+sizes C = (length (C .conjuncts), length (C .fields))
 
 abbrev pub sizesOf : Counts → ℕ × ℕ
 sizesOf k = (k .conjuncts, k .fields)
@@ -125,9 +129,12 @@ conditionAnswer (Refused n) = refused n
 abbrev pub ConditionIsRead : List ℕ → Counts → Type 0
 ConditionIsRead s k = mapped sizes (readCondition s) ≡ ok (sizesOf k)
 
--- the types and the conjuncts that a file holds
+-- the fields, their types and the conjuncts that a file holds
+abbrev pub fieldsOf : List ℕ → List Field
+fieldsOf s = fieldsAt s (u32At s 4)
+
 abbrev pub typesOf : List ℕ → List ℕ
-typesOf s = typesIn s (u32At s 4)
+typesOf s = typesIn (fieldsOf s)
 
 abbrev pub conjunctsOf : List ℕ → Conjuncts
 conjunctsOf s = map (conjunctAt s) (pairsOf s (u32At s 4) (u32At s 0))
@@ -137,7 +144,7 @@ conjunctsOf s = map (conjunctAt s) (pairsOf s (u32At s 4) (u32At s 0))
 -- a pair stands at a place of a file with so many fields, and its part lies in the file
 pub record PairInside (s : List ℕ) (fields at : ℕ) : Type 0 where
   pub few : fields ≤ mostFields
-  pub types : countsSize + fields ≤ length s
+  pub table : countsSize + fieldSize * fields ≤ length s
   pub pair : at + pairSize ≤ length s
   pub inside : pairAt s at .offset + pairAt s at .len ≤ length s
 

@@ -7,19 +7,21 @@ ghost use Prim.Native.Nat.{ℕ, _+_, _*_, _/_, _%_, _≤_, _<_, compare};
 ghost use lib.ListN.{length};
 ghost use Rattle.model.specs.Lists.{every};
 ghost use Rattle.model.specs.Refusals.{ok, refused, check, mapped, wrongCondition};
-ghost use Rattle.model.specs.Sizes.{mostFields, mostNodes, nodeSize, countsSize, pairSize};
+ghost use Rattle.model.specs.Sizes.{fieldSize, mostFields, mostNodes, nodeSize, pairSize};
 ghost use Rattle.model.specs.Bytes.{part, pairAt, pairsAt, chained};
-ghost use Rattle.model.specs.Program.{typeRight};
+ghost use Rattle.model.specs.Fields.{entryOf, fieldRight, typesIn, fieldsIn};
 ghost use Rattle.model.specs.Conjunct.{_then_, orderNumbers};
 ghost use Rattle.model.specs.Condition.{nodeAt, nodeRight, conjunctAt, whole, numbered, isBefore, rising, readCondition};
 ghost use Rattle.condition.specs.Answers.{constantRight, readingRight, operationRight, rightBy, NodeIs, EntryIs, nodeOut};
 ghost use Rattle.condition.specs.Answers.{conjunctAnswer, formed, partNodes, partRight, pairPart, pairRight, sizes, conditionAnswer};
-ghost use Rattle.condition.specs.Answers.{ConditionIsRead, PairInside, ConjunctIs, typesOf, typesIn, pairsOf, linked};
+ghost use Rattle.condition.specs.Answers.{ConditionIsRead, PairInside, ConjunctIs, fieldsOf, typesAt, pairsOf, linked};
 
 // ---- the sizes of the condition file
 
-// the bytes of the two counts at its start, of a pair of offset and length, of a node
+// the bytes of the two counts at its start, of the entry of a field, of a pair of offset and length, of a node
 const COUNTS_SIZE: usize = 8;
+
+const FIELD_SIZE: usize = fields::SIZE;
 
 const PAIR_SIZE: usize = 8;
 
@@ -117,13 +119,13 @@ fn constant_right(ty: u8, field: usize, imm: u64) -> bool
 }
 
 // A reading of a listed field in its type.
-fn reading_right(types: &[u8], ty: u8, field: usize) -> bool
-    ensures { λ r. ⌜ r ≡ readingRight (now (types .entry)) ty field ⌝ }
+fn reading_right(fields: &[u8], ty: u8, field: usize) -> bool
+    ensures { λ r. ⌜ r ≡ readingRight (typesIn (fieldsIn (now (fields .entry)))) ty field ⌝ }
 {
-    if types.len() <= field {
+    if fields.len() / FIELD_SIZE <= field {
         return false;
     }
-    ty == types[field]
+    ty == fields[FIELD_SIZE * field]
 }
 
 // An operation or a conversion: only the type is used.
@@ -140,15 +142,15 @@ fn operation_right(ty: u8, field: usize, imm: u64) -> bool
 }
 
 // A node's form, by its kind.
-fn node_right(types: &[u8], v: Node) -> bool
-    ensures { λ r. ⌜ r ≡ rightBy (now (types .entry)) (v .kind) (v .ty) (v .field) (v .imm) ⌝ }
+fn node_right(fields: &[u8], v: Node) -> bool
+    ensures { λ r. ⌜ r ≡ rightBy (typesIn (fieldsIn (now (fields .entry)))) (v .kind) (v .ty) (v .field) (v .imm) ⌝ }
 {
     let kind = v.kind;
     if kind == CONSTANT {
         return constant_right(v.ty, v.field, v.imm);
     }
     if kind == READING {
-        return reading_right(types, v.ty, v.field);
+        return reading_right(fields, v.ty, v.field);
     }
     if kind < FILE_KINDS {
         return operation_right(v.ty, v.field, v.imm);
@@ -157,13 +159,13 @@ fn node_right(types: &[u8], v: Node) -> bool
 }
 
 // The node with a number in a part, if it has its form.
-fn read_node(types: &[u8], part: &[u8], k: usize) -> NodeRead
+fn read_node(fields: &[u8], part: &[u8], k: usize) -> NodeRead
     requires { ⌜ nodeSize * k + nodeSize ≤ length (now part) ⌝ }
-    ensures { λ r. ⌜ (nodeOut r ≡ check (nodeRight (now (types .entry)) (now (part .entry)) (nodeSize * k)) wrongCondition
+    ensures { λ r. ⌜ (nodeOut r ≡ check (nodeRight (typesIn (fieldsIn (now (fields .entry)))) (now (part .entry)) (nodeSize * k)) wrongCondition
         (ok (nodeAt (now (part .entry)) (nodeSize * k)))) × EntryIs r (now (part .entry)) (nodeSize * k) ⌝ }
 {
     let v = node_at(part, k);
-    if node_right(types, v) {
+    if node_right(fields, v) {
         return NodeRead::Node(v);
     }
     NodeRead::Refused(WRONG_CONDITION)
@@ -181,16 +183,16 @@ fn node_refusal(read: NodeRead) -> u8
 
 // Every node of a part has its form, and the part is one whole expression in which types agree. The
 // types on the stack stand from the bottom up.
-fn read_nodes(types: &[u8], part: &[u8]) -> ConjunctRead
+fn read_nodes(fields: &[u8], part: &[u8]) -> ConjunctRead
     requires { ⌜ length (now part) ≤ nodeSize * mostNodes ⌝ }
-    ensures { λ r. ⌜ conjunctAnswer r ≡ formed (partRight (now (types .entry)) (now (part .entry)) && whole (partNodes (now (part .entry)))) ⌝ }
+    ensures { λ r. ⌜ conjunctAnswer r ≡ formed (partRight (typesIn (fieldsIn (now (fields .entry)))) (now (part .entry)) && whole (partNodes (now (part .entry)))) ⌝ }
 {
     let n = part.len() / NODE_SIZE;
     let mut stack: [u8; STACK] = [0; STACK];
     let mut height: usize = 0;
     let mut k: usize = 0;
     while k < n {
-        let read = read_node(types, part, k);
+        let read = read_node(fields, part, k);
         let NodeRead::Node(v) = read else {
             return ConjunctRead::Refused(node_refusal(read));
         };
@@ -226,8 +228,8 @@ fn read_nodes(types: &[u8], part: &[u8]) -> ConjunctRead
 }
 
 // The n of each field count from 1 by first appearance: each is one met before or the next one.
-fn is_numbered(types: &[u8], part: &[u8]) -> bool
-    requires { ⌜ (length (now types) ≤ mostFields) × (partRight (now types) (now part) ≡ true) ⌝ }
+fn is_numbered(fields: &[u8], part: &[u8]) -> bool
+    requires { ⌜ (length (now fields) ≤ fieldSize * mostFields) × (partRight (typesIn (fieldsIn (now fields))) (now part) ≡ true) ⌝ }
     ensures { λ r. ⌜ r ≡ numbered (partNodes (now (part .entry))) ⌝ }
 {
     let n = part.len() / NODE_SIZE;
@@ -283,21 +285,6 @@ fn comes_before(a: &[u8], b: &[u8]) -> bool
     false
 }
 
-// Each is a type code.
-fn types_right(types: &[u8]) -> bool
-    ensures { λ r. ⌜ r ≡ every typeRight (now (types .entry)) ⌝ }
-{
-    let mut i: usize = 0;
-    while i < types.len() {
-        let ty = types[i];
-        if TYPE_CODES <= ty {
-            return false;
-        }
-        i += 1;
-    }
-    true
-}
-
 // The parts of the pairs from a place on stand one after the other, from start to the file's end.
 fn is_chained(condition: &[u8], at: usize, count: usize, start: usize) -> bool
     requires { ⌜ at + pairSize * count ≤ length (now condition) ⌝ }
@@ -331,16 +318,16 @@ fn part_at(condition: &[u8], at: usize) -> &[u8]
 }
 
 // A part is a conjunct in its form.
-fn read_conjunct(types: &[u8], part: &[u8]) -> ConjunctRead
-    requires { ⌜ (length (now types) ≤ mostFields) × (length (now part) ≤ nodeSize * mostNodes) ⌝ }
+fn read_conjunct(fields: &[u8], part: &[u8]) -> ConjunctRead
+    requires { ⌜ (length (now fields) ≤ fieldSize * mostFields) × (length (now part) ≤ nodeSize * mostNodes) ⌝ }
     ensures { λ r. ⌜ conjunctAnswer r ≡ formed
-        (partRight (now (types .entry)) (now (part .entry)) && whole (partNodes (now (part .entry))) && numbered (partNodes (now (part .entry)))) ⌝ }
+        (partRight (typesIn (fieldsIn (now (fields .entry)))) (now (part .entry)) && whole (partNodes (now (part .entry))) && numbered (partNodes (now (part .entry)))) ⌝ }
 {
-    let read = read_nodes(types, part);
+    let read = read_nodes(fields, part);
     let ConjunctRead::Formed = read else {
         return read;
     };
-    if !is_numbered(types, part) {
+    if !is_numbered(fields, part) {
         return ConjunctRead::Refused(WRONG_CONDITION);
     }
     ConjunctRead::Formed
@@ -350,7 +337,7 @@ fn read_conjunct(types: &[u8], part: &[u8]) -> ConjunctRead
 fn read_pair(condition: &[u8], fields: usize, at: usize) -> ConjunctRead
     requires { ⌜ PairInside (now condition) fields at ⌝ }
     ensures { λ r. ⌜ conjunctAnswer r ≡ formed
-        (pairRight (typesIn (now (condition .entry)) fields) (now (condition .entry)) (pairAt (now (condition .entry)) at)) ⌝ }
+        (pairRight (typesAt (now (condition .entry)) fields) (now (condition .entry)) (pairAt (now (condition .entry)) at)) ⌝ }
 {
     let held = part_at(condition, at);
     let len = held.len();
@@ -363,7 +350,7 @@ fn read_pair(condition: &[u8], fields: usize, at: usize) -> ConjunctRead
     if len % NODE_SIZE != 0 {
         return ConjunctRead::Refused(WRONG_CONDITION);
     }
-    let end = COUNTS_SIZE + fields;
+    let end = COUNTS_SIZE + FIELD_SIZE * fields;
     read_conjunct(&condition[COUNTS_SIZE..end], held)
 }
 
@@ -372,12 +359,16 @@ fn read_conjuncts(condition: &[u8], fields: usize, count: usize) -> ConjunctRead
     requires { ⌜ (fields ≤ mostFields)
         × (linked (now condition) fields count ≡ true) ⌝ }
     ensures { λ r. ⌜ conjunctAnswer r ≡ formed
-        (every (pairRight (typesIn (now (condition .entry)) fields) (now (condition .entry)))
+        (every (pairRight (typesAt (now (condition .entry)) fields) (now (condition .entry)))
         (pairsOf (now (condition .entry)) fields count)) ⌝ }
 {
     let mut i: usize = 0;
     while i < count {
-        let read = read_pair(condition, fields, COUNTS_SIZE + fields + PAIR_SIZE * i);
+        let read = read_pair(
+            condition,
+            fields,
+            COUNTS_SIZE + FIELD_SIZE * fields + PAIR_SIZE * i,
+        );
         let ConjunctRead::Formed = read else {
             return read;
         };
@@ -399,13 +390,16 @@ fn conjunct_refusal(read: ConjunctRead) -> u8
 // The conjuncts stand in rising order, none twice: each before the next.
 fn is_rising(condition: &[u8], fields: usize, count: usize) -> bool
     requires { ⌜ (linked (now condition) fields count ≡ true)
-        × (every (pairRight (typesIn (now condition) fields) (now condition)) (pairsOf (now condition) fields count) ≡ true) ⌝ }
+        × (every (pairRight (typesAt (now condition) fields) (now condition)) (pairsOf (now condition) fields count) ≡ true) ⌝ }
     ensures { λ r. ⌜ r ≡ rising (map (conjunctAt (now (condition .entry))) (pairsOf (now (condition .entry)) fields count)) ⌝ }
 {
     let mut i: usize = 0;
     while i + 1 < count {
-        let a = part_at(condition, COUNTS_SIZE + fields + PAIR_SIZE * i);
-        let b = part_at(condition, COUNTS_SIZE + fields + PAIR_SIZE * (i + 1));
+        let a = part_at(condition, COUNTS_SIZE + FIELD_SIZE * fields + PAIR_SIZE * i);
+        let b = part_at(
+            condition,
+            COUNTS_SIZE + FIELD_SIZE * fields + PAIR_SIZE * (i + 1),
+        );
         let before = comes_before(a, b);
         if !before {
             return false;
@@ -430,7 +424,7 @@ pub fn read(condition: &[u8]) -> ConditionRead
     if MOST_FIELDS < fields {
         return ConditionRead::Refused(WRONG_CONDITION);
     }
-    let at = COUNTS_SIZE + fields;
+    let at = COUNTS_SIZE + FIELD_SIZE * fields;
     let start = at + PAIR_SIZE * conjuncts;
     if condition.len() < start {
         return ConditionRead::Refused(WRONG_CONDITION);
@@ -439,8 +433,8 @@ pub fn read(condition: &[u8]) -> ConditionRead
     if !linked {
         return ConditionRead::Refused(WRONG_CONDITION);
     }
-    let typed = types_right(&condition[COUNTS_SIZE..at]);
-    if !typed {
+    let listed = fields::all_right(&condition[COUNTS_SIZE..at]);
+    if !listed {
         return ConditionRead::Refused(WRONG_CONDITION);
     }
     let formed = read_conjuncts(condition, fields, conjuncts);
@@ -460,14 +454,14 @@ pub fn conjunct(condition: &[u8], counts: Counts, i: usize) -> &[u8]
     ensures { λ r. ⌜ ConjunctIs (now (condition .entry)) counts i (now r) ⌝ }
 {
     let fields = counts.fields;
-    part_at(condition, COUNTS_SIZE + fields + PAIR_SIZE * i)
+    part_at(condition, COUNTS_SIZE + FIELD_SIZE * fields + PAIR_SIZE * i)
 }
 
-// The types of the fields of a condition that is read.
-pub fn types(condition: &[u8], counts: Counts) -> &[u8]
+// The table of the fields of a condition that is read.
+pub fn fields(condition: &[u8], counts: Counts) -> &[u8]
     requires { ⌜ ConditionIsRead (now condition) counts ⌝ }
-    ensures { λ r. ⌜ (now r ≡ typesOf (now (condition .entry))) × (length (now r) ≡ counts .fields) ⌝ }
+    ensures { λ r. ⌜ (fieldsIn (now r) ≡ fieldsOf (now (condition .entry))) × (length (now r) ≡ fieldSize * counts .fields) ⌝ }
 {
-    let end = COUNTS_SIZE + counts.fields;
+    let end = COUNTS_SIZE + FIELD_SIZE * counts.fields;
     &condition[COUNTS_SIZE..end]
 }

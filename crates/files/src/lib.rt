@@ -14,10 +14,10 @@ ghost use Rattle.io.specs.Counts.{Counts};
 ghost use Rattle.files.specs.Answers.{Filled, Whole};
 use libc::STDERR_FILENO;
 
-// A recipe: its table, 32 fields, 64 variables, 16 trays of 4 bytes, 1,024 statements of 8.
-const LONGEST_RECIPE: usize = 32 + 32 + 64 + 16 * 4 + 1024 * 8;
-// A condition: its counts, 32 fields, 64 conjuncts with their pairs, of 120 nodes of 8 bytes each.
-const LONGEST_CONDITION: usize = 8 + 32 + 64 * (8 + 120 * 8);
+// A recipe: its table, 32 fields of 2 bytes, 64 variables, 16 trays of 4 bytes, 1,024 statements of 8.
+const LONGEST_RECIPE: usize = 32 + 32 * 2 + 64 + 16 * 4 + 1024 * 8;
+// A condition: its counts, 32 fields of 2 bytes, 64 conjuncts with their pairs, of 120 nodes of 8 bytes each.
+const LONGEST_CONDITION: usize = 8 + 32 * 2 + 64 * (8 + 120 * 8);
 // A sheet: 32 fields with their pairs, of 128 readings of 8 bytes each.
 const LONGEST_SHEET: usize = 32 * (8 + 128 * 8);
 // A choice file as the programs take it; the form has no limit.

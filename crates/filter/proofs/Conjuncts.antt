@@ -2,7 +2,7 @@
 use mathlib.Core.Path.{_≡_, sym, subst, _∙_}
 use mathlib.Core.Bool.{true, _&&_}
 use mathlib.Core.List.{List, [], _∷_, map}
-use Prim.Native.Nat.{ℕ, _+_, _*_, _<_, _≤_}
+use Prim.Native.Nat.{ℕ, _+_, _<_, _≤_}
 use native.Mathlib.Numerals.{add-one}
 use native.Mathlib.Omega.{arith}
 use lib.Dec.{leb}
@@ -11,16 +11,17 @@ use lib.Seq.{drop-cons}
 use borrow.Author.Tests.{leb-true}
 use Rattle.model.specs.Sizes.{mostFields, mostConjuncts}
 use Rattle.model.specs.Lists.{All, every}
-use Rattle.model.specs.Bytes.{part, Pair, pairAt, pairsAt, chained}
+use Rattle.model.specs.Bytes.{part, Pair, pairAt}
+use Rattle.model.specs.Fields.{fieldRight}
 use Rattle.model.specs.Program.{typeRight}
 use Rattle.model.specs.Conjunct.{Conj}
-use Rattle.model.specs.Condition.{conjunctsAt, conjunctAt, lengthRight, nodesRight, whole, numbered, rising}
+use Rattle.model.specs.Condition.{conjunctAt, lengthRight, nodesRight, whole, numbered, rising}
 use Rattle.model.proofs.basics.Lists.{all-getD}
 use Rattle.model.proofs.basics.Tests.{and-left, and-right}
-use Rattle.model.proofs.files.Parts.{length-part}
-use Rattle.condition.specs.Answers.{partNodes, pairPart, pairRight, ConditionIsRead, typesOf, conjunctsOf}
+use Rattle.model.proofs.files.FieldTables.{length-types}
+use Rattle.condition.specs.Answers.{partNodes, pairPart, pairRight, pairPlace, fieldsAt, typesAt, pairsOf, linked, ConditionIsRead, typesOf, conjunctsOf}
 use Rattle.condition.specs.declared.Counts.{Counts}
-use Rattle.condition.proofs.Table.{formBy, form-types, form-pair, counted-read, conjunct-inside, conjuncts-count}
+use Rattle.condition.proofs.Table.{formBy, form-types, form-pair, counted-read, conjunct-inside, fields-many, conjuncts-count}
 use Rattle.plan.specs.Part.{conjunctOf, IsConjunct}
 use Rattle.plan.proofs.Parts.{part-is-conjunct}
 
@@ -30,14 +31,14 @@ use Rattle.plan.proofs.Parts.{part-is-conjunct}
 form-sized : (s : List ℕ) (c f : ℕ) → formBy s c f ≡ true → (leb 8 (length s) && leb c mostConjuncts && leb f mostFields) ≡ true
 unfolding formBy
 form-sized s c f form =
-    let pairs = pairsAt s (8 + f) c in
+    let pairs = pairsOf s f c in
     let sized = leb 8 (length s) && leb c mostConjuncts && leb f mostFields in
-    let chain = chained (conjunctsAt f c) pairs (length s) in
-    let typed = every typeRight (part s 8 f) in
-    let right = every (pairRight (part s 8 f) s) pairs in
+    let chain = linked s f c in
+    let listed = every fieldRight (fieldsAt s f) in
+    let right = every (pairRight (typesAt s f) s) pairs in
     and-left sized chain
-    (and-left (sized && chain) typed
-    (and-left (sized && chain && typed) right (and-left (sized && chain && typed && right) (rising (map (conjunctAt s) pairs)) form)))
+    (and-left (sized && chain) listed
+    (and-left (sized && chain && listed) right (and-left (sized && chain && listed && right) (rising (map (conjunctAt s) pairs)) form)))
 
 pub form-few : (s : List ℕ) (c f : ℕ) → formBy s c f ≡ true → c ≤ mostConjuncts
 form-few s c f form =
@@ -67,16 +68,17 @@ module _ (s : List ℕ) (k : Counts) (read : ConditionIsRead s k) where
   pub types-right : every typeRight (typesOf s) ≡ true
   types-right =
       let q = counted-read s k read in
-      subst (λ (f : ℕ). every typeRight (part s 8 f) ≡ true) (q .fields) (form-types s (k .conjuncts) (k .fields) (q .form))
+      subst (λ (f : ℕ). every typeRight (typesAt s f) ≡ true) (q .fields) (form-types s (k .conjuncts) (k .fields) (q .form))
 
   pub conjuncts-many : length (conjunctsOf s) ≡ k .conjuncts
   conjuncts-many = conjuncts-count s ∙ sym (counted-read s k read .conjuncts)
 
-  pub conjunct-formed : (i : ℕ) → i < k .conjuncts → IsConjunct (pairPart s (8 + k .fields + 8 * i))
+  pub conjunct-formed : (i : ℕ) → i < k .conjuncts → IsConjunct (pairPart s (pairPlace (k .fields) i))
   conjunct-formed i h =
       let q = counted-read s k read in
-      let size = length-part s 8 (k .fields) (omega (arith, q .table)) in
-      right-is-conjunct (part s 8 (k .fields)) s (pairAt s (8 + k .fields + 8 * i)) (omega (arith, fields-narrow)) (conjunct-inside s k read i h)
+      let types = typesAt s (k .fields) in
+      let size : length types ≡ k .fields = length-types (fieldsAt s (k .fields)) ∙ fields-many s (k .fields) in
+      right-is-conjunct types s (pairAt s (pairPlace (k .fields) i)) (omega (arith, fields-narrow)) (conjunct-inside s k read i h)
       (form-pair s (k .conjuncts) (k .fields) (q .form) i h)
 
   -- what is so of all conjuncts is so of the one that a part is

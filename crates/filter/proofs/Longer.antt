@@ -11,19 +11,21 @@ use lib.ListN.{length, getD, take}
 use lib.Seq.{length-take-le, take-all}
 use borrow.Author.Tests.{eqb-true, leb-true, leb-false}
 use Rattle.arith.proofs.Spans.{bits-le}
-use Rattle.model.specs.Sizes.{pairSize, countsSize, nodeSize, mostNodes, mostFields, mostReadings}
+use Rattle.model.specs.Sizes.{fieldSize, pairSize, countsSize, nodeSize, mostNodes, mostFields, mostReadings}
 use Rattle.model.specs.Lists.{All}
 use Rattle.model.specs.Refusals.{Out, ok, refused, _>>=_, check, wrongCondition, wrongInput}
-use Rattle.model.specs.Bytes.{u32At, part, Pair, pairAt, pairsAt, chained}
+use Rattle.model.specs.Bytes.{u32At, Pair, pairAt, pairsAt, chained}
+use Rattle.model.specs.Fields.{Field, typesIn}
 use Rattle.model.specs.Condition.{Condition, conditionBytes, conjunctsAt, readCondition}
-use Rattle.model.specs.Input.{Input, width, readingsOf, lengthsRight, readInput}
+use Rattle.model.specs.Input.{Input, width, readingsOf, lengthsRight, bitsRight, readInput}
 use Rattle.model.specs.Failure.{verdict}
 use Rattle.model.proofs.basics.Tests.{case, and-left, and-right}
 use Rattle.model.proofs.basics.Results.{check-ok}
 use Rattle.model.proofs.basics.Every.{every-all}
-use Rattle.model.proofs.files.Parts.{length-entries, length-part}
-use Rattle.condition.specs.Answers.{pairRight, typesOf, conjunctsOf}
-use Rattle.condition.proofs.Table.{formBy, form-chained, form-pairs, pair-short, read-form, condition-read, table-inside}
+use Rattle.model.proofs.files.Parts.{length-entries}
+use Rattle.model.proofs.files.FieldTables.{length-types}
+use Rattle.condition.specs.Answers.{pairRight, pairsOf, typesAt, fieldsOf, conjunctsOf}
+use Rattle.condition.proofs.Table.{formBy, form-chained, form-pairs, pair-short, read-form, condition-read, fields-many}
 use Rattle.filter.specs.Verdict.{judged}
 use Rattle.filter.proofs.Conjuncts.{form-few, form-narrow}
 use Rattle.filter.proofs.Verdicts.{verdict-steps}
@@ -62,30 +64,29 @@ rights-short types s (p ∷ ps) h = (pair-short types s p (h .0), rights-short t
 
 form-bounded : (s : List ℕ) (c f : ℕ) → formBy s c f ≡ true → length s ≤ conditionBytes
 form-bounded s c f form =
-    let ps = pairsAt s (countsSize + f) c in
-    let short = rights-short (part s countsSize f) s ps (every-all (pairRight (part s countsSize f) s) ps (form-pairs s c f form)) in
+    let ps = pairsOf s f c in
+    let short = rights-short (typesAt s f) s ps (every-all (pairRight (typesAt s f) s) ps (form-pairs s c f form)) in
     omega (
       arith,
       chained-end conjunctMost ps (conjunctsAt f c) (length s) (form-chained s c f form) short,
-      length-entries pairAt pairSize s c (countsSize + f),
+      length-entries pairAt pairSize s c (countsSize + fieldSize * f),
       form-few s c f form,
       form-narrow s c f form,
     )
 
 condition-long : (s : List ℕ) → conditionBytes < length s → readCondition s ≡ refused wrongCondition
 condition-long s h =
-    let C : Condition = record { types = typesOf s; conjuncts = conjunctsOf s } in
+    let C : Condition = record { fields = fieldsOf s; conjuncts = conjunctsOf s } in
     read-form s
     ∙ case (formBy s (u32At s 0) (u32At s 4)) (λ z. check z wrongCondition (ok C) ≡ refused wrongCondition)
     (λ q. absurd (omega (arith, form-bounded s (u32At s 0) (u32At s 4) q))) (λ q. refl)
 
 -- a condition that is read has at most 32 fields
-fields-few : (s : List ℕ) (C : Condition) → readCondition s ≡ ok C → length (C .types) ≤ mostFields
+fields-few : (s : List ℕ) (C : Condition) → readCondition s ≡ ok C → length (C .fields) ≤ mostFields
 fields-few s C e =
-    let D : Condition = record { types = typesOf s; conjuncts = conjunctsOf s } in
+    let D : Condition = record { fields = fieldsOf s; conjuncts = conjunctsOf s } in
     let form = check-ok (formBy s (u32At s 0) (u32At s 4)) wrongCondition (ok D) C (sym (read-form s) ∙ e) .0 in
-    let inside = table-inside s (u32At s 4) (u32At s 0) (form-chained s (u32At s 0) (u32At s 4) form) in
-    rw (condition-read s C e .0, length-part s countsSize (u32At s 4) (omega arith)) (form-narrow s (u32At s 0) (u32At s 4) form)
+    rw (condition-read s C e .0, fields-many s (u32At s 4)) (form-narrow s (u32At s 0) (u32At s 4) form)
 
 -- ---- the input
 
@@ -104,18 +105,22 @@ lengths-short (ty ∷ types) (p ∷ ps) n h =
       lengths-short types ps (omega arith) (and-right (even && few) (lengthsRight types ps) h),
     )
 
-input-long : (types s : List ℕ) → length types ≤ mostFields → inputBytes < length s → readInput types s ≡ refused wrongInput
+input-long : (fields : List Field) (s : List ℕ) → length fields ≤ mostFields → inputBytes < length s → readInput fields s ≡ refused wrongInput
 unfolding readInput
-input-long types s few h =
-    let ps = pairsAt s 0 (length types) in
-    let n = length-entries pairAt pairSize s (length types) 0 in
-    let chain = chained (pairSize * length types) ps (length s) in
-    let J : Input = λ f. cond (ltb f (length types)) (readingsOf (getD types f 0) s (pairAt s (pairSize * f))) [] in
-    case (chain && lengthsRight types ps) (λ z. check z wrongInput (ok J) ≡ refused wrongInput)
-    (λ q. absurd (omega (
+input-long fields s few h =
+    let types = typesIn fields in
+    let ps = pairsAt s 0 (length fields) in
+    let n = length-entries pairAt pairSize s (length fields) 0 in
+    let chain = chained (pairSize * length fields) ps (length s) in
+    let lengths = lengthsRight types ps in
+    let J : Input = λ f. cond (ltb f (length fields)) (readingsOf (getD types f 0) s (pairAt s (pairSize * f))) [] in
+    case (chain && lengths && bitsRight fields s ps) (λ z. check z wrongInput (ok J) ≡ refused wrongInput)
+    (λ q.
+    let both = and-left (chain && lengths) (bitsRight fields s ps) q in
+    absurd (omega (
       arith,
-      chained-end partMost ps (pairSize * length types) (length s) (and-left chain (lengthsRight types ps) q)
-          (lengths-short types ps n (and-right chain (lengthsRight types ps) q)),
+      chained-end partMost ps (pairSize * length fields) (length s) (and-left chain lengths both)
+          (lengths-short types ps (n ∙ sym (length-types fields)) (and-right chain lengths both)),
     )))
     (λ q. refl)
 
@@ -128,19 +133,19 @@ conditionPart c = take (conditionBytes + 1) c
 abbrev pub inputPart : List ℕ → List ℕ
 inputPart s = take (inputBytes + 1) s
 
-input-shortened : (types s : List ℕ) → length types ≤ mostFields → readInput types (inputPart s) ≡ readInput types s
-input-shortened types s few =
-    case (leb (length s) inputBytes) (λ z. readInput types (inputPart s) ≡ readInput types s)
-    (λ q. ap (readInput types) (take-all (inputBytes + 1) s (omega (arith, leb-true (length s) inputBytes q))))
+input-shortened : (fields : List Field) (s : List ℕ) → length fields ≤ mostFields → readInput fields (inputPart s) ≡ readInput fields s
+input-shortened fields s few =
+    case (leb (length s) inputBytes) (λ z. readInput fields (inputPart s) ≡ readInput fields s)
+    (λ q. ap (readInput fields) (take-all (inputBytes + 1) s (omega (arith, leb-true (length s) inputBytes q))))
     (λ q.
     let l = leb-false (length s) inputBytes q in
-    input-long types (inputPart s) few (omega (arith, length-take-le (inputBytes + 1) s (omega arith))) ∙ sym (input-long types s few l))
+    input-long fields (inputPart s) few (omega (arith, length-take-le (inputBytes + 1) s (omega arith))) ∙ sym (input-long fields s few l))
 
 on-input : (c s : List ℕ) (o : Out Condition) → readCondition c ≡ o → verdict c (inputPart s) ≡ verdict c s
 on-input c s (refused n) e = verdict-steps c (inputPart s) ∙ rw e (sym (verdict-steps c s ∙ rw e))
 on-input c s (ok C) e =
     verdict-steps c (inputPart s)
-    ∙ rw e (ap (λ (i : Out Input). i >>= λ I. judged I (C .conjuncts)) (input-shortened (C .types) s (fields-few c C e))
+    ∙ rw e (ap (λ (i : Out Input). i >>= λ I. judged I (C .conjuncts)) (input-shortened (C .fields) s (fields-few c C e))
     ∙ sym (verdict-steps c s ∙ rw e))
 
 pub shortened : (c s : List ℕ) → verdict (conditionPart c) (inputPart s) ≡ verdict c s

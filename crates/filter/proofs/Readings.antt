@@ -1,9 +1,9 @@
 -- The readings of an input that is read, put one by one to the places that an evaluator looks at.
-use mathlib.Core.Path.{_≡_, refl, sym, ap, _∙_}
+use mathlib.Core.Path.{_≡_, refl, sym, ap, ap₂, subst, _∙_}
 use mathlib.Core.Bool.{Bool, true}
 use mathlib.Core.List.{List, []}
 use Prim.Native.Nat.{ℕ, _+_, _*_, _/_, _<_, _≤_}
-use native.Mathlib.Nat.{div-mul-le-self, mul-comm, mul-le-mul-right}
+use native.Mathlib.Nat.{div-mul-le-self, mul-comm}
 use native.Mathlib.Omega.{arith}
 use lib.Dec.{leb}
 use lib.IntN.{ℤ, pos}
@@ -13,13 +13,15 @@ use borrow.Author.Count.{below-more}
 use borrow.Author.Tests.{lt-ltb, le-ltb, ltb-true, leb-true, leb-false}
 use Rattle.model.specs.Sizes.{mostFields, mostReadings}
 use Rattle.model.specs.Lists.{every}
-use Rattle.model.specs.Bytes.{entries}
 use Rattle.model.specs.Program.{typeRight}
+use Rattle.model.specs.Fields.{Field, typesIn, fieldsIn}
 use Rattle.model.specs.Input.{Input, width, readingAt}
 use Rattle.model.proofs.basics.Tests.{case}
 use Rattle.model.proofs.basics.Every.{every-at}
 use Rattle.model.proofs.files.Parts.{length-entries, entries-getD}
+use Rattle.model.proofs.files.FieldTables.{fields-length, types-length, type-in}
 use Rattle.input.specs.Answers.{InputIsRead, fieldPart, fieldReadings}
+use Rattle.input.specs.Bits.{partReadings}
 use Rattle.input.proofs.Fields.{part-readings}
 use Rattle.plan.specs.Readings.{signedAt, Lent, Decoded, Taken}
 use Rattle.filter.specs.Decoding.{inputIn, Filled}
@@ -36,38 +38,37 @@ module _ (z : ℕ → ℤ) (from : ℕ) (at : ℕ → ℤ) where
     kept = λ j l. t .1 j (λ p. omega arith) ∙ f .kept j l;
   }
 
--- the next of n readings of a width lies in the part
-pub next-inside : (k n w l : ℕ) → k < n → n * w ≤ l → (k + 1) * w ≤ l
-next-inside k n w l h m = let q : (k + 1) * w ≤ n * w = mul-le-mul-right w (omega arith) in omega arith
-
 -- ---- one field
 
-pub type-code : (types : List ℕ) (f : ℕ) → every typeRight types ≡ true → f < length types → getD types f 0 < 8
-type-code types f h l = ltb-true (getD types f 0) 8 (every-at typeRight 0 types h f l)
+pub type-code : (table : List ℕ) (f : ℕ) → every typeRight (typesIn (fieldsIn table)) ≡ true → f < length table / 2 → getD table (2 * f) 0 < 8
+type-code table f h l =
+    let types = typesIn (fieldsIn table) in
+    ltb-true (getD table (2 * f) 0) 8
+    (subst (λ t. typeRight t ≡ true) (type-in table f l) (every-at typeRight 0 types h f (omega (arith, types-length table))))
 
-pub field-none : (types s : List ℕ) (f : ℕ) → length types ≤ f → inputIn types s f ≡ []
+pub field-none : (fields : List Field) (s : List ℕ) (f : ℕ) → length fields ≤ f → inputIn fields s f ≡ []
 unfolding inputIn
-field-none types s f h = rw (le-ltb f (length types) h)
+field-none fields s f h = rw (le-ltb f (length fields) h)
 
-pub field-listed : (types s : List ℕ) (f : ℕ) → f < length types → inputIn types s f ≡ fieldReadings types s f
+pub field-listed : (table s : List ℕ) (f : ℕ) → f < length table / 2 → inputIn (fieldsIn table) s f ≡ fieldReadings table s f
 unfolding inputIn
-field-listed types s f h = rw (lt-ltb f (length types) h)
+field-listed table s f h = rw (lt-ltb f (length (fieldsIn table)) (omega (arith, fields-length table)))
 
 -- a field with a reading is listed
-field-read : (types s : List ℕ) (f : ℕ) → 1 ≤ length (inputIn types s f) → f < length types
-field-read types s f h =
-    case (leb (length types) f) (λ z. f < length types)
-    (λ q. let none = ap length (field-none types s f (leb-true (length types) f q)) in absurd (omega arith))
-    (λ q. leb-false (length types) f q)
+field-read : (fields : List Field) (s : List ℕ) (f : ℕ) → 1 ≤ length (inputIn fields s f) → f < length fields
+field-read fields s f h =
+    case (leb (length fields) f) (λ z. f < length fields)
+    (λ q. let none = ap length (field-none fields s f (leb-true (length fields) f q)) in absurd (omega arith))
+    (λ q. leb-false (length fields) f q)
 
 -- by what was read of it: the part p, with n readings
-module _ (types s : List ℕ) (f : ℕ) (read : InputIsRead types s) (listed : f < length types) (n : ℕ) (many : n ≡ length (fieldReadings types s f))
-    (p : List ℕ) (is : p ≡ fieldPart s f) where
+module _ (table s : List ℕ) (f : ℕ) (read : InputIsRead table s) (listed : f < length table / 2) (n : ℕ)
+    (many : n ≡ length (fieldReadings table s f)) (p : List ℕ) (is : p ≡ fieldPart s f) where
   abbrev ty : ℕ
-  ty = getD types f 0
+  ty = getD table (2 * f) 0
 
-  held : fieldReadings types s f ≡ entries (readingAt ty) (width ty) p 0 (length p / width ty)
-  held = rw is (part-readings types s f read listed)
+  held : fieldReadings table s f ≡ partReadings ty p
+  held = part-readings table s f read listed ∙ ap₂ (λ (t : ℕ) (q : List ℕ). partReadings t q) (type-in table f listed) (sym is)
 
   whole-readings : n ≡ length p / width ty
   whole-readings = many ∙ ap length held ∙ length-entries (readingAt ty) (width ty) p (length p / width ty) 0
@@ -75,15 +76,15 @@ module _ (types s : List ℕ) (f : ℕ) (read : InputIsRead types s) (listed : f
   pub readings-inside : n * width ty ≤ length p
   readings-inside = rw whole-readings (div-mul-le-self (length p) (width ty))
 
-  reading-is : (k : ℕ) → k < n → readingAt ty p (k * width ty) ≡ getD (inputIn types s f) k (pos 0)
+  reading-is : (k : ℕ) → k < n → readingAt ty p (k * width ty) ≡ getD (inputIn (fieldsIn table) s f) k (pos 0)
   reading-is k l =
       let e : k * width ty ≡ 0 + width ty * k = omega (arith, mul-comm k (width ty)) in
       ap (readingAt ty p) e
       ∙ sym (entries-getD (readingAt ty) (width ty) p (length p / width ty) 0 k (pos 0) (omega (arith, whole-readings)))
-      ∙ sym (ap (λ (zs : List ℤ). getD zs k (pos 0)) (field-listed types s f listed ∙ held))
+      ∙ sym (ap (λ (zs : List ℤ). getD zs k (pos 0)) (field-listed table s f listed ∙ held))
 
   pub field-filled : (from : ℕ) (at at′ : ℕ → ℤ) → Filled (λ k. readingAt ty p (k * width ty)) from n at at′
-      → Filled (λ k. getD (inputIn types s f) k (pos 0)) from n at at′
+      → Filled (λ k. getD (inputIn (fieldsIn table) s f) k (pos 0)) from n at at′
   field-filled from at at′ h = record { put = λ k l. h .put k l ∙ reading-is k l; kept = h .kept }
 
 -- ---- all fields
@@ -115,13 +116,13 @@ module _ (I : Input) where
   decoded-all counts mags negs d = record { number = d .number; each = λ f k l m. d .each f l k m }
 
 -- where there is room for the fields that are listed, there is room for all readings
-module _ (types s counts mags : List ℕ) (negs : List Bool) (d : DecodedTo (inputIn types s) mostFields counts mags negs) where
-  inside : (m f : ℕ) → mostReadings * length types ≤ m → f < mostFields → 1 ≤ getD counts f 0 → mostReadings * f + getD counts f 0 ≤ m
+module _ (fields : List Field) (s counts mags : List ℕ) (negs : List Bool) (d : DecodedTo (inputIn fields s) mostFields counts mags negs) where
+  inside : (m f : ℕ) → mostReadings * length fields ≤ m → f < mostFields → 1 ≤ getD counts f 0 → mostReadings * f + getD counts f 0 ≤ m
   inside m f h l some =
-      let listed = field-read types s f (omega (arith, d .number f l)) in
+      let listed = field-read fields s f (omega (arith, d .number f l)) in
       omega (arith, d .number f l, d .few f l)
 
-  pub decoded-lent : length counts ≡ mostFields → mostReadings * length types ≤ length mags → mostReadings * length types ≤ length negs
+  pub decoded-lent : length counts ≡ mostFields → mostReadings * length fields ≤ length mags → mostReadings * length fields ≤ length negs
       → Lent counts mags negs
   decoded-lent c m n = record {
     few = record { fields = c; each = λ f l. rw (d .number f l) (d .few f l) };

@@ -9,15 +9,15 @@ use Rattle.arith.specs.declared.Cause.{Cause}
 use Rattle.model.specs.Lists.{All, every}
 use Rattle.model.specs.Refusals.{Out, ok, refused, _>>=_, mapped, wrongInput}
 use Rattle.model.specs.Bytes.{pairAt, pairsAt, chained}
+use Rattle.model.specs.Fields.{Field, typesIn}
 use Rattle.model.specs.Conjunct.{Conjuncts}
 use Rattle.model.specs.Condition.{Condition, readCondition}
-use Rattle.model.specs.Input.{Input, readingsOf, lengthsRight, readInput}
+use Rattle.model.specs.Input.{Input, readingsOf, lengthsRight, bitsRight, readInput}
 use Rattle.model.specs.Filter.{hasReadings}
 use Rattle.model.specs.Failure.{Found, first, failureIn, verdict}
 use Rattle.model.proofs.basics.Results.{ok-eq, refused-ok, check-ok, mapped-ok}
 use Rattle.model.proofs.basics.Tests.{and-left, and-right}
-use Rattle.input.specs.Answers.{InputIsRead}
-use Rattle.condition.specs.Answers.{sizes, sizesOf, ConditionIsRead, typesOf, conjunctsOf}
+use Rattle.condition.specs.Answers.{sizes, sizesOf, ConditionIsRead, fieldsOf, conjunctsOf}
 use Rattle.condition.specs.declared.Counts.{Counts}
 use Rattle.condition.proofs.Table.{condition-read}
 use Rattle.plan.specs.Readings.{Counted, NoneBlank}
@@ -59,37 +59,39 @@ through f n (ok a) g e = absurd (refused-ok n (f a) e)
 through f n (refused m) g e = cc
 
 -- an input that is read
-input-is : (types s : List ℕ) (I : Input) → readInput types s ≡ ok I → I ≡ inputIn types s
+input-is : (fields : List Field) (s : List ℕ) (I : Input) → readInput fields s ≡ ok I → I ≡ inputIn fields s
 unfolding readInput inputIn
-input-is types s I e =
-    let ps = pairsAt s 0 (length types) in
-    let J : Input = λ f. cond (ltb f (length types)) (readingsOf (getD types f 0) s (pairAt s (8 * f))) [] in
-    sym (ok-eq J I (check-ok (chained (8 * length types) ps (length s) && lengthsRight types ps) wrongInput (ok J) I e .1))
+input-is fields s I e =
+    let types = typesIn fields in
+    let ps = pairsAt s 0 (length fields) in
+    let J : Input = λ f. cond (ltb f (length fields)) (readingsOf (getD types f 0) s (pairAt s (8 * f))) [] in
+    let right = chained (8 * length fields) ps (length s) && lengthsRight types ps && bitsRight fields s ps in
+    sym (ok-eq J I (check-ok right wrongInput (ok J) I e .1))
 
 module _ (s t : List ℕ) where
-  abbrev pub onInput : List ℕ → Conjuncts → Out (Found Cause)
-  onInput types S = readInput types t >>= λ I. judged I S
+  abbrev pub onInput : List Field → Conjuncts → Out (Found Cause)
+  onInput fields S = readInput fields t >>= λ I. judged I S
 
-  pub verdict-steps : verdict s t ≡ (readCondition s >>= λ C. onInput (C .types) (C .conjuncts))
+  pub verdict-steps : verdict s t ≡ (readCondition s >>= λ C. onInput (C .fields) (C .conjuncts))
   unfolding verdict judged
   verdict-steps = refl
 
   pub condition-refused : (n : ℕ) → refused n ≡ mapped sizes (readCondition s) → refused n ≡ verdict s t
-  condition-refused n e = through sizes n (readCondition s) (λ C. onInput (C .types) (C .conjuncts)) e ∙ sym verdict-steps
+  condition-refused n e = through sizes n (readCondition s) (λ C. onInput (C .fields) (C .conjuncts)) e ∙ sym verdict-steps
 
   module _ (k : Counts) (read : ConditionIsRead s k) where
-    verdict-read : verdict s t ≡ onInput (typesOf s) (conjunctsOf s)
+    verdict-read : verdict s t ≡ onInput (fieldsOf s) (conjunctsOf s)
     verdict-read =
         let r = mapped-ok sizes (readCondition s) (sizesOf k) read in
         let C : Condition = r .0 in
         let q = condition-read s C (r .1) in
-        verdict-steps ∙ ap (λ (o : Out Condition). o >>= λ D. onInput (D .types) (D .conjuncts)) (r .1) ∙ ap₂ onInput (q .0) (q .1)
+        verdict-steps ∙ ap (λ (o : Out Condition). o >>= λ D. onInput (D .fields) (D .conjuncts)) (r .1) ∙ ap₂ onInput (q .0) (q .1)
 
-    pub input-refused : (n : ℕ) → refused n ≡ mapped (λ I. tt {0}) (readInput (typesOf s) t) → refused n ≡ verdict s t
-    input-refused n e = through (λ I. tt {0}) n (readInput (typesOf s) t) (λ I. judged I (conjunctsOf s)) e ∙ sym verdict-read
+    pub input-refused : (n : ℕ) → refused n ≡ mapped (λ I. tt {0}) (readInput (fieldsOf s) t) → refused n ≡ verdict s t
+    input-refused n e = through (λ I. tt {0}) n (readInput (fieldsOf s) t) (λ I. judged I (conjunctsOf s)) e ∙ sym verdict-read
 
-    pub both-read : InputIsRead (typesOf s) t → verdict s t ≡ judged (inputIn (typesOf s) t) (conjunctsOf s)
+    pub both-read : mapped (λ I. tt {0}) (readInput (fieldsOf s) t) ≡ ok tt → verdict s t ≡ judged (inputIn (fieldsOf s) t) (conjunctsOf s)
     both-read h =
-        let r = mapped-ok (λ I. tt {0}) (readInput (typesOf s) t) (tt {0}) h in
+        let r = mapped-ok (λ I. tt {0}) (readInput (fieldsOf s) t) (tt {0}) h in
         verdict-read ∙ ap (λ (o : Out Input). o >>= λ I. judged I (conjunctsOf s)) (r .1)
-        ∙ ap (λ (I : Input). judged I (conjunctsOf s)) (input-is (typesOf s) t (r .0) (r .1))
+        ∙ ap (λ (I : Input). judged I (conjunctsOf s)) (input-is (fieldsOf s) t (r .0) (r .1))

@@ -8,15 +8,17 @@ use lib.IntN.{ℤ, pos}
 use lib.ListN.{length, getD}
 use Rattle.arith.specs.declared.Range.{Range}
 use Rattle.arith.specs.Types.{IsRow}
-use Rattle.model.specs.Sizes.{mostReadings}
+use Rattle.model.specs.Sizes.{fieldSize, mostReadings}
 use Rattle.model.specs.Lists.{every}
 use Rattle.model.specs.Program.{typeRight}
-use Rattle.model.specs.Input.{Input, width}
-use Rattle.input.specs.Answers.{InputIsRead, fieldReadings}
+use Rattle.model.specs.Bytes.{pairAt}
+use Rattle.model.specs.Fields.{Field, typesIn, fieldsIn}
+use Rattle.model.specs.Input.{Input, width, readingsOf}
+use Rattle.input.specs.Answers.{InputIsRead}
 
--- the readings that a byte string holds for fields of these types; a field that is not listed has none
-unfoldable pub inputIn : List ℕ → List ℕ → Input
-inputIn types s f = cond (ltb f (length types)) (fieldReadings types s f) []
+-- the readings that a byte string holds for these fields; a field that is not listed has none
+unfoldable pub inputIn : List Field → List ℕ → Input
+inputIn fields s f = cond (ltb f (length fields)) (readingsOf (getD (typesIn fields) f 0) s (pairAt s (8 * f))) []
 
 -- the first n of these numbers stand in the places from one on, and what stands before is as it was
 pub record Filled (z : ℕ → ℤ) (from n : ℕ) (at at′ : ℕ → ℤ) : Type 0 where
@@ -37,12 +39,12 @@ pub record ReadingsFit (ty : ℕ) (part : List ℕ) (n from : ℕ) (mags : List 
   pub magnitudes : from + n ≤ length mags
   pub signs : from + n ≤ length negs
 
--- an input that is read, and places for the readings of its fields
-pub record Decodable (types input mags : List ℕ) (negs : List Bool) : Type 0 where
-  pub read : InputIsRead types input
-  pub typed : every typeRight types ≡ true
-  pub magnitudes : mostReadings * length types ≤ length mags
-  pub signs : mostReadings * length types ≤ length negs
+-- an input that is read, and places for the readings of the fields of a table
+pub record Decodable (fields input mags : List ℕ) (negs : List Bool) : Type 0 where
+  pub read : InputIsRead fields input
+  pub typed : every typeRight (typesIn (fieldsIn fields)) ≡ true
+  pub magnitudes : mostReadings * (length fields / fieldSize) ≤ length mags
+  pub signs : mostReadings * (length fields / fieldSize) ≤ length negs
 
 -- the readings of a field stand in its places, r of them
 pub record FieldPut (r : ℕ) (readings : List ℤ) (f : ℕ) (at at′ : ℕ → ℤ) : Type 0 where

@@ -7,14 +7,13 @@ use lib.ListN.{length}
 use Rattle.arith.specs.declared.Cause.{Cause}
 use Rattle.model.specs.Sizes.{mostFields, mostReadings}
 use Rattle.model.specs.Lists.{All, every}
-use Rattle.model.specs.Refusals.{Out, ok, refused, check, tooManyCombinations, blankField}
+use Rattle.model.specs.Refusals.{Out, ok, refused, mapped, check, tooManyCombinations, blankField}
 use Rattle.model.specs.Conjunct.{Conjuncts}
-use Rattle.model.specs.Input.{Input}
+use Rattle.model.specs.Input.{Input, readInput}
 use Rattle.model.specs.Filter.{fewCombinations, hasReadings}
 use Rattle.model.specs.Failure.{Found, nothing, found, first, failureIn}
 use Rattle.condition.specs.declared.Counts.{Counts}
-use Rattle.condition.specs.Answers.{ConditionIsRead, typesOf, conjunctsOf}
-use Rattle.input.specs.Answers.{InputIsRead}
+use Rattle.condition.specs.Answers.{ConditionIsRead, fieldsOf, conjunctsOf}
 use Rattle.plan.specs.Readings.{Lent, NoneBlank, Decoded}
 use Rattle.evaluator.specs.declared.Answer.{Answer}
 use Rattle.evaluator.specs.Answer.{answerOf}
@@ -62,7 +61,7 @@ FirstFails r condition counts mags negs = (I : Input) → Decoded I counts mags 
 -- a condition and an input that are read
 pub record BothRead (condition : List ℕ) (sizes : Counts) (input : List ℕ) : Type 0 where
   pub of-condition : ConditionIsRead condition sizes
-  pub of-input : InputIsRead (typesOf condition) input
+  pub of-input : mapped (λ I. tt {0}) (readInput (fieldsOf condition) input) ≡ ok tt
 
 -- with places for the readings
 pub record Judgeable (condition : List ℕ) (sizes : Counts) (input counts mags : List ℕ) (negs : List Bool) : Type 0 where
@@ -73,4 +72,4 @@ pub record Judgeable (condition : List ℕ) (sizes : Counts) (input counts mags 
 
 -- the verdict on them
 abbrev pub Judges : Verdict → List ℕ → List ℕ → Type 0
-Judges r condition input = verdictOf r ≡ judged (inputIn (typesOf condition) input) (conjunctsOf condition)
+Judges r condition input = verdictOf r ≡ judged (inputIn (fieldsOf condition) input) (conjunctsOf condition)

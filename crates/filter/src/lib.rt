@@ -8,6 +8,7 @@ ghost use Prim.Native.Nat.{ℕ, _*_, _≤_, _<_};
 ghost use lib.ListN.{length};
 ghost use Rattle.arith.specs.Types.{Row};
 ghost use Rattle.model.specs.Sizes.{mostFields};
+ghost use Rattle.model.specs.Fields.{fieldsIn};
 ghost use Rattle.model.specs.Input.{Input, width, readingAt};
 ghost use Rattle.model.specs.Failure.{verdict};
 ghost use Rattle.condition.specs.Answers.{ConditionIsRead, conjunctsOf};
@@ -36,6 +37,8 @@ enum Combinations {
     Within,
 }
 
+// The bytes of the entry of a field.
+const FIELD_SIZE: usize = fields::SIZE;
 // The most fields of a condition.
 const FIELDS: usize = 32;
 // The most fields of a small one.
@@ -74,29 +77,29 @@ fn put_readings(ty: u8, part: &[u8], n: usize, from: usize, mags: &mut [u64], ne
 
 // The readings of a field, put to the places from READINGS * f on, and how many they are; none of a field
 // that is not listed. There is room for those that are.
-fn put_field(types: &[u8], input: &[u8], f: usize, mags: &mut [u64], negs: &mut [bool]) -> usize
-    requires { ⌜ Decodable (now types) (now input) (now mags) (now negs) × (f < mostFields) ⌝ }
-    ensures { λ r. ⌜ FieldPut r (inputIn (now (types .entry)) (now (input .entry)) f) f (signedAt (now (mags .entry)) (now (negs .entry)))
+fn put_field(fields: &[u8], input: &[u8], f: usize, mags: &mut [u64], negs: &mut [bool]) -> usize
+    requires { ⌜ Decodable (now fields) (now input) (now mags) (now negs) × (f < mostFields) ⌝ }
+    ensures { λ r. ⌜ FieldPut r (inputIn (fieldsIn (now (fields .entry))) (now (input .entry)) f) f (signedAt (now (mags .entry)) (now (negs .entry)))
         (signedAt (now (mags .exit)) (now (negs .exit))) ⌝ }
 {
-    if types.len() <= f {
+    if fields.len() / FIELD_SIZE <= f {
         return 0;
     }
-    let part = input::readings(types, input, f);
-    let n = input::count(types, input, f);
-    put_readings(types[f], part, n, READINGS * f, mags, negs);
+    let part = input::readings(fields, input, f);
+    let n = input::count(fields, input, f);
+    put_readings(fields[FIELD_SIZE * f], part, n, READINGS * f, mags, negs);
     n
 }
 
 // The readings of all fields, where there is room for those that are listed.
-fn decode(types: &[u8], input: &[u8], counts: &mut [usize], mags: &mut [u64], negs: &mut [bool])
-    requires { ⌜ Decodable (now types) (now input) (now mags) (now negs) × (length (now counts) ≡ mostFields) ⌝ }
+fn decode(fields: &[u8], input: &[u8], counts: &mut [usize], mags: &mut [u64], negs: &mut [bool])
+    requires { ⌜ Decodable (now fields) (now input) (now mags) (now negs) × (length (now counts) ≡ mostFields) ⌝ }
     ensures { λ _. ⌜ Lent (now (counts .exit)) (now (mags .exit)) (now (negs .exit))
-        × Decoded (inputIn (now (types .entry)) (now (input .entry))) (now (counts .exit)) (now (mags .exit)) (now (negs .exit)) ⌝ }
+        × Decoded (inputIn (fieldsIn (now (fields .entry))) (now (input .entry))) (now (counts .exit)) (now (mags .exit)) (now (negs .exit)) ⌝ }
 {
     let mut f: usize = 0;
     while f < FIELDS {
-        counts[f] = put_field(types, input, f, mags, negs);
+        counts[f] = put_field(fields, input, f, mags, negs);
         f += 1;
     }
 }
@@ -178,8 +181,8 @@ fn judge_in(
     requires { ⌜ Judgeable (now condition) sizes (now input) (now counts) (now mags) (now negs) ⌝ }
     ensures { λ r. ⌜ Judges r (now (condition .entry)) (now (input .entry)) ⌝ }
 {
-    let types = condition::types(condition, sizes);
-    decode(types, input, counts, mags, negs);
+    let fields = condition::fields(condition, sizes);
+    decode(fields, input, counts, mags, negs);
     judge(condition, sizes, counts, mags, negs)
 }
 
@@ -221,8 +224,8 @@ fn check_input(condition: &[u8], sizes: Counts, input: &[u8]) -> Verdict
     requires { ⌜ ConditionIsRead (now condition) sizes ⌝ }
     ensures { λ r. ⌜ verdictOf r ≡ verdict (now (condition .entry)) (now (input .entry)) ⌝ }
 {
-    let types = condition::types(condition, sizes);
-    let r = input::read(types, input);
+    let fields = condition::fields(condition, sizes);
+    let r = input::read(fields, input);
     match r {
         InputRead::Refused(n) => Verdict::Refused(n),
         InputRead::Yes => judge_input(condition, sizes, input),

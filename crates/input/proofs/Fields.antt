@@ -1,9 +1,9 @@
 -- The fields of an input that is read: how wide their readings are, where their parts stand, and which readings they hold.
-use mathlib.Core.Path.{_≡_, refl, sym, _∙_, ap}
+use mathlib.Core.Path.{_≡_, refl, sym, _∙_, ap, subst}
 use mathlib.Core.Bool.{_&&_, cond}
 use mathlib.Core.List.{List, [], _∷_}
 use Prim.Native.Nat.{ℕ, zero, suc, _+_, _*_, _/_, _%_, _^_, _-_, _≤_, _<_}
-use native.Mathlib.Nat.{mul-comm, div-mul-le-self, add-zero, div-le-of-le-mul}
+use native.Mathlib.Nat.{mul-comm, mul-le-mul-right, div-mul-le-self, add-zero, div-le-of-le-mul}
 use native.Mathlib.Omega.{arith}
 use lib.Dec.{ltb}
 use lib.IntN.{pos}
@@ -13,13 +13,17 @@ use Rattle.arith.specs.declared.Range.{Range}
 use Rattle.arith.specs.Types.{bits, Row}
 use Rattle.arith.specs.Step.{wrap}
 use Rattle.model.specs.Refusals.{ok, mapped, wrongInput}
-use Rattle.model.specs.Bytes.{u16At, part, pairAt, entries, pairsAt, chained}
-use Rattle.model.specs.Input.{Input, width, bitsAt, readingAt, readingsOf, lengthsRight, readInput}
+use Rattle.model.specs.Bytes.{u16At, part, Pair, pairAt, entries, pairsAt, chained}
+use Rattle.model.specs.Fields.{typesIn, fieldsIn}
+use Rattle.model.specs.Input.{Input, width, bitsAt, readingAt, readingsOf, lengthsRight, bitsRight, readInput}
+use Rattle.model.proofs.basics.Tests.{and-left}
 use Rattle.model.proofs.basics.Results.{check-ok}
+use Rattle.model.proofs.files.FieldTables.{fields-length, types-length, type-in}
 use Rattle.model.proofs.files.Parts.{length-entries, length-part, Narrow, byte-narrow, u16-narrow, u32-narrow, u64-narrow, entries-part}
-use Rattle.input.specs.Answers.{InputIsRead, fieldPart, fieldReadings}
+use Rattle.input.specs.Answers.{InputIsRead, PartInside, fieldPart, fieldType, fieldReadings}
+use Rattle.input.specs.Bits.{partReadings}
 use Rattle.input.specs.FirstWrong.{RightBefore}
-use Rattle.input.proofs.Pass.{inputRight, read-check, all-right}
+use Rattle.input.proofs.Pass.{pairsRight, readingsRight, read-check, all-right}
 
 -- ---- one reading
 
@@ -104,76 +108,89 @@ module _ (t : ℕ) (r : Range) (row : Row t r) where
   bits-64 f g h =
       by-width t (t % 4 ≡ 3) (λ e. absurd (f (row-bits 0 e))) (λ e. absurd (g (row-bits 1 e))) (λ e. absurd (h (row-bits 2 e))) (λ e. e)
 
--- ---- an input that is read
+-- ---- a part
 
--- every pair of it is right
-pairs-right : (types s : List ℕ) → InputIsRead types s → RightBefore types s (length types)
-pairs-right types s read = all-right types s (check-ok (inputRight types s) wrongInput (ok (tt {0})) (tt {0}) (sym (read-check types s) ∙ read) .0)
-
-pub record Placed (types s : List ℕ) (f : ℕ) : Type 0 where
-  pub pair : 8 * f + 8 ≤ length s
-  pub inside : pairAt s (8 * f) .offset + pairAt s (8 * f) .len ≤ length s
-  pub few : pairAt s (8 * f) .len / width (getD types f 0) ≤ 128
-
--- where a field's part stands
-pub placed : (types s : List ℕ) (f : ℕ) → InputIsRead types s → f < length types → Placed types s f
-placed types s f read h =
-    let r = pairs-right types s read in
-    let w = width (getD types f 0) in
-    record {
-      pair = omega (arith, r 0 (omega arith) .begins, r 0 (omega arith) .inside);
-      inside = r f h .inside;
-      few = div-le-of-le-mul w (omega (arith, r f h .few, mul-comm 128 w));
-    }
-
--- ---- its readings
-
-pub count-readings : (types s : List ℕ) (f : ℕ) → length (fieldReadings types s f) ≡ pairAt s (8 * f) .len / width (getD types f 0)
+-- the readings of a pair are those of its part
+pub readings-part : (t : ℕ) (s : List ℕ) (p : Pair) → p .offset + p .len ≤ length s → readingsOf t s p ≡ partReadings t (part s (p .offset) (p .len))
 unfolding readingsOf
-count-readings types s f =
-    let t = getD types f 0 in
-    length-entries (readingAt t) (width t) s (pairAt s (8 * f) .len / width t) (pairAt s (8 * f) .offset)
-
--- the model's list of a field's readings
-pub field-readings : (types s : List ℕ) (I : Input) (f : ℕ) → readInput types s ≡ ok I → f < length types → I f ≡ fieldReadings types s f
-unfolding readInput
-field-readings types s I f e h =
-    let ps = pairsAt s 0 (length types) in
-    let J : Input = λ g. cond (ltb g (length types)) (readingsOf (getD types g 0) s (pairAt s (8 * g))) [] in
-    let same : J ≡ I = cc (check-ok (chained (8 * length types) ps (length s) && lengthsRight types ps) wrongInput (ok J) I e .1) in
-    sym (ap (λ (K : Input). K f) same) ∙ rw (lt-ltb f (length types) h)
-
--- a field's part holds its readings
-pub part-readings : (types s : List ℕ) (f : ℕ) → InputIsRead types s → f < length types
-    → fieldReadings types s f
-    ≡ entries (readingAt (getD types f 0)) (width (getD types f 0)) (fieldPart s f) 0 (length (fieldPart s f) / width (getD types f 0))
-unfolding readingsOf
-part-readings types s f read h =
-    let t = getD types f 0 in
-    let p = pairAt s (8 * f) in
-    let n : length (fieldPart s f) ≡ p .len = length-part s (p .offset) (p .len) (placed types s f read h .inside) in
+readings-part t s p h =
+    let n : length (part s (p .offset) (p .len)) ≡ p .len = length-part s (p .offset) (p .len) h in
     let fit : 0 + width t * (p .len / width t) ≤ p .len = omega (arith, div-mul-le-self (p .len) (width t), mul-comm (width t) (p .len / width t)) in
-    sym (ap (λ (k : ℕ). entries (readingAt t) (width t) (fieldPart s f) 0 (k / width t)) n
+    sym (ap (λ (k : ℕ). entries (readingAt t) (width t) (part s (p .offset) (p .len)) 0 (k / width t)) n
     ∙ entries-part (readingAt t) (width t) (reading-narrow t) s (p .offset) (p .len) (p .len / width t) 0 fit
     ∙ ap (λ (a : ℕ). entries (readingAt t) (width t) s a (p .len / width t)) (add-zero (p .offset)))
 
+-- the next of n readings of a width lies in the part
+pub next-inside : (k n w l : ℕ) → k < n → n * w ≤ l → (k + 1) * w ≤ l
+next-inside k n w l h m = let q : (k + 1) * w ≤ n * w = mul-le-mul-right w (omega arith) in omega arith
+
+-- ---- an input that is read
+
+-- every pair of it is right
+pairs-right : (table s : List ℕ) → InputIsRead table s → RightBefore (typesIn (fieldsIn table)) s (length table / 2)
+pairs-right table s read =
+    let fields = fieldsIn table in
+    let types = typesIn fields in
+    let right = check-ok (pairsRight types s && readingsRight fields s) wrongInput (ok (tt {0})) (tt {0}) (sym (read-check fields s) ∙ read) .0 in
+    subst (RightBefore types s) (types-length table) (all-right types s (and-left (pairsRight types s) (readingsRight fields s) right))
+
+-- so the pair and the part of each field lie in the file
+pub right-inside : (table s : List ℕ) (f : ℕ) → RightBefore (typesIn (fieldsIn table)) s (length table / 2) → f < length table / 2 → PartInside s f
+right-inside table s f r h = record {
+  pair = omega (arith, types-length table, r 0 (omega arith) .begins, r 0 (omega arith) .inside);
+  inside = r f h .inside;
+}
+
+pub part-inside : (table s : List ℕ) (f : ℕ) → InputIsRead table s → f < length table / 2 → PartInside s f
+part-inside table s f read h = right-inside table s f (pairs-right table s read) h
+
+-- and its readings are at most 128
+readings-few : (table s : List ℕ) (f : ℕ) → InputIsRead table s → f < length table / 2 → pairAt s (8 * f) .len / width (fieldType table f) ≤ 128
+readings-few table s f read h =
+    let w = width (fieldType table f) in
+    div-le-of-le-mul w (omega (arith, pairs-right table s read f h .few, mul-comm 128 w))
+
+-- ---- its readings
+
+pub count-readings : (table s : List ℕ) (f : ℕ) → length (fieldReadings table s f) ≡ pairAt s (8 * f) .len / width (fieldType table f)
+unfolding readingsOf
+count-readings table s f =
+    let t = fieldType table f in
+    length-entries (readingAt t) (width t) s (pairAt s (8 * f) .len / width t) (pairAt s (8 * f) .offset)
+
+-- the model's list of a field's readings
+pub field-readings : (table s : List ℕ) (I : Input) (f : ℕ) → readInput (fieldsIn table) s ≡ ok I → f < length table / 2 → I f ≡ fieldReadings table s f
+unfolding readInput
+field-readings table s I f e h =
+    let fields = fieldsIn table in
+    let types = typesIn fields in
+    let ps = pairsAt s 0 (length fields) in
+    let J : Input = λ g. cond (ltb g (length fields)) (readingsOf (getD types g 0) s (pairAt s (8 * g))) [] in
+    let right = chained (8 * length fields) ps (length s) && lengthsRight types ps && bitsRight fields s ps in
+    let same : J ≡ I = cc (check-ok right wrongInput (ok J) I e .1) in
+    sym (ap (λ (K : Input). K f) same) ∙ rw (lt-ltb f (length fields) (omega (arith, fields-length table)))
+
+-- a field's part holds its readings
+pub part-readings : (table s : List ℕ) (f : ℕ) → InputIsRead table s → f < length table / 2
+    → fieldReadings table s f ≡ partReadings (fieldType table f) (fieldPart s f)
+part-readings table s f read h = readings-part (fieldType table f) s (pairAt s (8 * f)) (part-inside table s f read h .inside)
+
 -- so it is the model's list that a field's part holds
-pub input-part : (types s : List ℕ) (I : Input) (f : ℕ) → readInput types s ≡ ok I → f < length types
-    → I f ≡ entries (readingAt (getD types f 0)) (width (getD types f 0)) (fieldPart s f) 0 (length (fieldPart s f) / width (getD types f 0))
-input-part types s I f e h = field-readings types s I f e h ∙ part-readings types s f (ap (mapped (λ (J : Input). tt {0})) e) h
+pub input-part : (table s : List ℕ) (I : Input) (f : ℕ) → readInput (fieldsIn table) s ≡ ok I → f < length table / 2
+    → I f ≡ partReadings (fieldType table f) (fieldPart s f)
+input-part table s I f e h = field-readings table s I f e h ∙ part-readings table s f (ap (mapped (λ (J : Input). tt {0})) e) h
 
 -- ---- by what was read of a field's pair
 
-module _ (types s : List ℕ) (f : ℕ) where
-  pub counted : (l w : ℕ) → InputIsRead types s → f < length types → l ≡ pairAt s (8 * f) .len → w ≡ width (getD types f 0)
-      → (l / w ≡ length (fieldReadings types s f)) × (l / w ≤ 128)
-  counted l w read h el ew = (rw (el, ew) (sym (count-readings types s f)), rw (el, ew) (placed types s f read h .few))
+pub taken : (s : List ℕ) (f a l : ℕ) → a ≡ pairAt s (8 * f) .offset → l ≡ pairAt s (8 * f) .len → take (a + l - a) (drop a s) ≡ fieldPart s f
+taken s f a l ea el = let e : a + l - a ≡ l = omega arith in rw (e, ea, el)
 
-  pub taken : (a l : ℕ) → a ≡ pairAt s (8 * f) .offset → l ≡ pairAt s (8 * f) .len → take (a + l - a) (drop a s) ≡ fieldPart s f
-  taken a l ea el = let e : a + l - a ≡ l = omega arith in rw (e, ea, el)
-
-  pub ends-inside : (a l : ℕ) → InputIsRead types s → f < length types → a ≡ pairAt s (8 * f) .offset → l ≡ pairAt s (8 * f) .len → a + l ≤ length s
-  ends-inside a l read h ea el = rw (ea, el) (placed types s f read h .inside)
+module _ (table s : List ℕ) (f : ℕ) where
+  pub counted : (l w : ℕ) → InputIsRead table s → f < length table / 2 → l ≡ pairAt s (8 * f) .len → w ≡ width (getD table (2 * f) 0)
+      → (l / w ≡ length (fieldReadings table s f)) × (l / w ≤ 128)
+  counted l w read h el ew =
+      let same : w ≡ width (fieldType table f) = ew ∙ ap width (sym (type-in table f h)) in
+      (rw (el, same) (sym (count-readings table s f)), rw (el, same) (readings-few table s f read h))
 
 -- ---- the reading with a number
 

@@ -1,4 +1,5 @@
 pub mod Pass
 pub mod Search
 pub mod Fields
+pub mod Narrow
 mod Examples

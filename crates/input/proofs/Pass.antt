@@ -1,6 +1,7 @@
--- The model's test of an input, pair by pair: it is passed if and only if every pair is right and the last one ends the file.
+-- The model's test of an input: it is passed if and only if every pair is right, the last one ends the file, and the bits of each
+-- field hold its readings. The test of the pairs goes pair by pair.
 use mathlib.Core.Path.{_≡_, refl, sym, _∙_, ap}
-use mathlib.Core.Bool.{Bool, true, _&&_}
+use mathlib.Core.Bool.{Bool, true, false, _&&_}
 use mathlib.Core.List.{List, _∷_}
 use Prim.Native.Nat.{ℕ, zero, suc, _+_, _*_, _%_, _≤_, _<_}
 use native.Mathlib.Omega.{arith}
@@ -8,11 +9,13 @@ use lib.Dec.{leb, eqb}
 use lib.ListN.{length, getD, drop}
 use lib.Seq.{drop-cons, drop-length}
 use borrow.Author.Tests.{eq-eqb, ne-eqb, eqb-true, le-leb, leb-true}
-use Rattle.model.specs.Refusals.{ok, refused, mapped, check, wrongInput}
+use Rattle.model.specs.Refusals.{Out, ok, refused, mapped, check, wrongInput}
 use Rattle.model.specs.Bytes.{Pair, pairAt, entries, pairsAt, chained}
-use Rattle.model.specs.Input.{width, lengthsRight, readInput}
+use Rattle.model.specs.Fields.{Field, typesIn}
+use Rattle.model.specs.Input.{width, lengthsRight, bitsRight, readInput}
 use Rattle.model.proofs.basics.Tests.{case, and-left, and-right}
 use Rattle.model.proofs.files.Parts.{chained-le}
+use Rattle.model.proofs.files.FieldTables.{length-types}
 use Rattle.model.proofs.basics.Results.{mapped-check}
 use Rattle.input.specs.FirstWrong.{endOf, PairRight, startOf, RightAt, RightBefore, PairsAre}
 use Rattle.input.specs.declared.Pairs.the-variants.{AllRight, FirstWrong}
@@ -22,12 +25,22 @@ use Rattle.input.specs.declared.Pairs.the-variants.{AllRight, FirstWrong
 abbrev test : ℕ → List ℕ → List Pair → ℕ → Bool
 test start types pairs size = chained start pairs size && lengthsRight types pairs
 
-unfoldable pub inputRight : List ℕ → List ℕ → Bool
-inputRight types s = test (8 * length types) types (pairsAt s 0 (length types)) (length s)
+unfoldable pub pairsRight : List ℕ → List ℕ → Bool
+pairsRight types s = test (8 * length types) types (pairsAt s 0 (length types)) (length s)
 
-pub read-check : (types s : List ℕ) → mapped (λ I. tt {0}) (readInput types s) ≡ check (inputRight types s) wrongInput (ok tt)
-unfolding readInput inputRight
-read-check types s = mapped-check (λ I. tt {0}) (test (8 * length types) types (pairsAt s 0 (length types)) (length s)) wrongInput _
+unfoldable pub readingsRight : List Field → List ℕ → Bool
+readingsRight fields s = bitsRight fields s (pairsAt s 0 (length fields))
+
+pub readings-are : (fields : List Field) (s : List ℕ) → readingsRight fields s ≡ bitsRight fields s (pairsAt s 0 (length fields))
+unfolding readingsRight
+readings-are fields s = refl
+
+pub read-check : (fields : List Field) (s : List ℕ)
+    → mapped (λ I. tt {0}) (readInput fields s) ≡ check (pairsRight (typesIn fields) s && readingsRight fields s) wrongInput (ok tt)
+unfolding readInput pairsRight readingsRight
+read-check fields s =
+    rw (length-types fields)
+    (mapped-check (λ I. tt {0}) (test (8 * length fields) (typesIn fields) (pairsAt s 0 (length fields)) (length s) && readingsRight fields s) wrongInput _)
 
 -- ---- one pair, and those behind it
 
@@ -95,8 +108,8 @@ module _ (types s : List ℕ) where
   passed e zero h = e
   passed e (suc k) h = right-here k (omega arith) (passed e k (omega arith)) .1
 
-  rest-whole : inputRight types s ≡ rest 0
-  unfolding inputRight rest
+  rest-whole : pairsRight types s ≡ rest 0
+  unfolding pairsRight rest
   rest-whole = refl
 
   rest-none : rest (length types) ≡ eqb (startOf (length types) s (length types)) (length s)
@@ -104,19 +117,13 @@ module _ (types s : List ℕ) where
   rest-none =
       rw drop-length (case (eqb (startOf (length types) s (length types)) (length s)) (λ z. (z && true) ≡ z) (λ e. refl) (λ e. refl))
 
-  -- every pair of an input that is read is right
-  pub all-right : inputRight types s ≡ true → RightBefore types s (length types)
+  -- where the pairs pass, every one is right
+  pub all-right : pairsRight types s ≡ true → RightBefore types s (length types)
   all-right e k h = right-here k h (passed (sym rest-whole ∙ e) k (omega arith)) .0
 
   -- where every pair is right, where the last one ends decides
-  pub end-decides : RightBefore types s (length types) → inputRight types s ≡ eqb (startOf (length types) s (length types)) (length s)
+  pub end-decides : RightBefore types s (length types) → pairsRight types s ≡ eqb (startOf (length types) s (length types)) (length s)
   end-decides r = rest-whole ∙ rest-before (length types) (omega arith) r ∙ rest-none
-
-  -- so what is found of the pairs gives the answer
-  pub one-wrong : (f : ℕ) → PairsAre types s (FirstWrong f) → mapped (λ I. tt {0}) (readInput types s) ≡ refused wrongInput
-  one-wrong f w =
-      read-check types s
-      ∙ case (inputRight types s) (λ z. check z wrongInput (ok tt) ≡ refused wrongInput) (λ e. absurd (w .1 (all-right e f (w .0)))) (λ e. refl)
 
   -- where all before a field are right, the next one is to begin inside the file
   start-inside : (n : ℕ) → RightBefore types s n → startOf n s n ≤ length s
@@ -127,11 +134,26 @@ module _ (types s : List ℕ) where
     pub ends-inside : e ≤ length s
     ends-inside = omega (arith, r .1, start-inside (length types) (r .0))
 
-    by-end : mapped (λ I. tt {0}) (readInput types s) ≡ check (eqb e (length s)) wrongInput (ok tt)
-    by-end = read-check types s ∙ ap (λ z. check z wrongInput (ok tt)) (end-decides (r .0) ∙ ap (λ a. eqb a (length s)) (sym (r .1)))
+    by-end : pairsRight types s ≡ eqb e (length s)
+    by-end = end-decides (r .0) ∙ ap (λ a. eqb a (length s)) (sym (r .1))
 
-    pub ends-elsewhere : (e ≡ length s → ⊥) → mapped (λ I. tt {0}) (readInput types s) ≡ refused wrongInput
-    ends-elsewhere h = by-end ∙ rw (ne-eqb e (length s) h)
+-- ---- the answer, by what is found of the pairs and the readings
 
-    pub ends-the-file : e ≡ length s → mapped (λ I. tt {0}) (readInput types s) ≡ ok tt
-    ends-the-file h = by-end ∙ rw (eq-eqb e (length s) h)
+module _ (fields : List Field) (s : List ℕ) where
+  abbrev Answers : Out (Unit {0}) → Type 0
+  Answers o = mapped (λ I. tt {0}) (readInput fields s) ≡ o
+
+  pairs-wrong : pairsRight (typesIn fields) s ≡ false → Answers (refused wrongInput)
+  pairs-wrong e = read-check fields s ∙ rw e
+
+  pub one-wrong : (f : ℕ) → PairsAre (typesIn fields) s (FirstWrong f) → Answers (refused wrongInput)
+  one-wrong f w =
+      case (pairsRight (typesIn fields) s) (λ z. pairsRight (typesIn fields) s ≡ z → Answers (refused wrongInput))
+      (λ e q. absurd (w .1 (all-right (typesIn fields) s e f (w .0)))) (λ e q. pairs-wrong q) refl
+
+  module _ (e : ℕ) (r : PairsAre (typesIn fields) s (AllRight e)) where
+    pub ends-elsewhere : (e ≡ length s → ⊥) → Answers (refused wrongInput)
+    ends-elsewhere h = pairs-wrong (by-end (typesIn fields) s e r ∙ ne-eqb e (length s) h)
+
+    pub readings-decide : e ≡ length s → Answers (check (readingsRight fields s) wrongInput (ok tt))
+    readings-decide h = read-check fields s ∙ rw (by-end (typesIn fields) s e r ∙ eq-eqb e (length s) h)

@@ -20,7 +20,7 @@ use Rattle.model.specs.Refusals.{Out, ok, refused, mapped}
 use Rattle.model.specs.Values.{Operation, add, sub, mul, div}
 use Rattle.model.proofs.files.Parts.{length-entries}
 use Rattle.model.proofs.basics.Results.{mapped-ok}
-use Rattle.condition.specs.Answers.{partNodes, pairPart, sizes, ConditionIsRead, conjunctsOf}
+use Rattle.condition.specs.Answers.{partNodes, pairPart, pairPlace, sizes, ConditionIsRead, conjunctsOf}
 use Rattle.condition.specs.declared.Counts.{Counts}
 use Rattle.condition.proofs.Table.{formBy, form-many, counted-read, conjuncts-count, conjunct-nodes, conjunct-short, condition-read}
 use Rattle.listing.specs.Text.{Room, textMost}
@@ -124,7 +124,7 @@ module _ (s : List ℕ) (k : Counts) (read : ConditionIsRead s k) where
   conjunct-most : (j : ℕ) → j < length (conjunctsOf s) → length (getD (conjunctsOf s) j []) ≤ 120
   conjunct-most j h =
       let l : j < k .conjuncts = omega (arith, conjuncts-are) in
-      let p = pairPart s (8 + k .fields + 8 * j) in
+      let p = pairPart s (pairPlace (k .fields) j) in
       omega (arith, ap length (conjunct-nodes s k read j l), length-entries nodeAt 8 p (length p / 8) 0, conjunct-short s k read j l)
 
   -- there is room for its listing

@@ -36,10 +36,10 @@ filter-gives c i =
     let answer : Condition → Input → ℕ = λ C I. cond (every (holds I) (C .conjuncts)) passNumber heldNumber in
     let counted : Condition → Input → Out ℕ = λ C I. check (every (fewCombinations I) (C .conjuncts)) tooManyCombinations (ok (answer C I)) in
     let judged : Condition → Input → Out ℕ = λ C I. check (every (hasReadings I) (C .conjuncts)) blankField (counted C I) in
-    gives-bind (λ C. Unit {0}) IsVerdict (readCondition c) (λ C. readInput (C .types) i >>= judged C) (gives-any (readCondition c))
+    gives-bind (λ C. Unit {0}) IsVerdict (readCondition c) (λ C. readInput (C .fields) i >>= judged C) (gives-any (readCondition c))
     (
     λ C u.
-    gives-bind (λ I. Unit {0}) IsVerdict (readInput (C .types) i) (judged C) (gives-any (readInput (C .types) i))
+    gives-bind (λ I. Unit {0}) IsVerdict (readInput (C .fields) i) (judged C) (gives-any (readInput (C .fields) i))
     (
     λ I u.
     gives-check IsVerdict (every (hasReadings I) (C .conjuncts)) blankField (counted C I)

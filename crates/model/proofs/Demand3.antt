@@ -18,7 +18,7 @@ use Rattle.model.specs.Run.{zeros, Line, markByte, choicesOf, Ran, origi
 use Rattle.model.specs.Exact.{Note}
 use Rattle.model.specs.Demands.{Record, Matches, Marks, Demand3}
 use Rattle.model.specs.Sizes.{mostFields, mostVariables, mostArrays, mostStatements}
-use Rattle.model.proofs.files.Checked.{fields-known, program-checked}
+use Rattle.model.proofs.files.Checked.{few-fields, fields-known, program-checked}
 use Rattle.model.proofs.filters.Choosing.{read-of-fields, holds-safe}
 use Rattle.model.proofs.walks.Derives.{derived-formed}
 use Rattle.model.proofs.basics.Every.{every-all}
@@ -51,22 +51,14 @@ analysis-accepts program condition e =
     let q = bind-ok (derived (p .0 .code)) (write (p .0)) condition (p .2) in
     record { P = p .0; S = q .0; reads = p .1; derives = q .1; writes = ok-eq (encode (p .0 .tables .fields) (q .0)) condition (q .2) }
 
-few-fields : (T : Tables) → countsRight T ≡ true → length (T .fields) ≤ mostFields
-unfolding countsRight
-few-fields T e =
-    let f = leb (length (T .fields)) mostFields in
-    let v = leb (length (T .variables)) mostVariables in
-    let r = leb (length (T .arrays)) mostArrays in
-    leb-true (length (T .fields)) mostFields (and-left f v (and-left (f && v) r (and-left (f && v && r) (leb (length (T .statements)) mostStatements) e)))
-
 module _ (program condition : List ℕ) (a : Accepted program condition) where
-  -- the condition reader gives back the derived set and the types of the program's fields
-  pub derived-reads-back : readCondition condition ≡ ok (record { types = a .P .tables .fields; conjuncts = a .S })
+  -- the condition reader gives back the derived set and the program's fields
+  pub derived-reads-back : readCondition condition ≡ ok (record { fields = a .P .tables .fields; conjuncts = a .S })
   derived-reads-back =
       let T = a .P .tables in
       let c = program-checked program (a .P) (a .reads) .outlined in
       ap readCondition (sym (a .writes))
-      ∙ encode-reads (T .fields) (a .S) (few-fields T (c .counts)) (all-imp (λ t. ltb-true t 8) (T .fields) (fields-known T (c .types)))
+      ∙ encode-reads (T .fields) (a .S) (few-fields T (c .counts)) (fields-known T (c .types))
       (derived-tidy (a .P .code) (a .S) (a .derives)) (derived-formed program (a .P) (a .S) (a .reads) (a .derives))
 
   -- an input that passes under it: the zero state meets every conjunct
@@ -74,7 +66,7 @@ module _ (program condition : List ℕ) (a : Accepted program condition) where
       → All (Meets I zeros) (a .S)
   unfolding filterInput
   passes-meets input I i e =
-      let C : Condition = record { types = a .P .tables .fields; conjuncts = a .S } in
+      let C : Condition = record { fields = a .P .tables .fields; conjuncts = a .S } in
       let all = every (holds I) (a .S) in
       let answer = cond all passNumber heldNumber in
       let counted = check (every (fewCombinations I) (a .S)) tooManyCombinations (ok answer) in

@@ -17,4 +17,5 @@ pub mod RefusalNumbers
 pub mod Demand1
 pub mod Demand3
 pub mod Guarding
+pub mod Conversions
 pub mod WorkedExamples

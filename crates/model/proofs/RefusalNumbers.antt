@@ -8,19 +8,20 @@ use lib.Dec.{leb, ltb}
 use lib.ListN.{length}
 use Rattle.model.specs.Sizes.{mostNested, mostRows}
 use Rattle.model.specs.Lists.{All, every}
-use Rattle.model.specs.Refusals.{ok, refused, _>>=_, instead, wrongSections, wrongBlocks, wrongInput, wrongProcedures}
+use Rattle.model.specs.Refusals.{ok, refused, _>>=_, check, instead, wrongSections, wrongBlocks, wrongInput, wrongProcedures}
 use Rattle.model.specs.Code.{Instr, Code, plain, if, else, end, while, treeOf}
 use Rattle.model.specs.Procedures.{Item, own, procedure, call, Block, ifBlock, elseBlock, whileBlock, procedureBlock, nesting, turning, closing, passing, openAfter, allClosed}
 use Rattle.model.specs.Procedures.{Procedure, Stage, beginsNone, partsFrom}
 use Rattle.model.specs.Inlined.{Row, stmtsIn}
-use Rattle.model.specs.Program.{Program, Tables, Outline, inlinedRows, programOf, readOutline, readProgram}
+use Rattle.model.specs.Program.{Program, Tables, layoutOf, tablesAt, sectionsIn, sectionsRight, Outline, outlineOf, inlinedRows, programOf, inlinedProgram, readOutline, readProgram}
+use Rattle.model.specs.OldForm.{mostOld, oldFieldSize, oldTables, readOld, newForm, convert}
 use Rattle.model.specs.Conjunct.{Conjuncts, unionOf, limits}
 use Rattle.model.specs.Walk.{before, gather, back, sites, start, derived}
 use Rattle.model.specs.Condition.{Condition, encode, readCondition, analysis}
 use Rattle.model.specs.Input.{readInput}
 use Rattle.model.specs.Filter.{filterInput}
 use Rattle.model.specs.Run.{run}
-use Rattle.model.specs.Demands.{FromTo, AnalysisRefusal, FilterRefusal, RunRefusal}
+use Rattle.model.specs.Demands.{FromTo, AnalysisRefusal, FilterRefusal, RunRefusal, OldRefusal}
 use Rattle.model.proofs.walks.Invariant.{sites-keep, join-keeps}
 use Rattle.model.proofs.conjuncts.Limits.{limits-cases}
 use Rattle.model.proofs.basics.Lists.{all-imp}
@@ -85,19 +86,40 @@ module _ (P : ℕ → Type 0) (procedures : P wrongProcedures) where
       refuses-check P (leb (length rows) mostRows) wrongProcedures _ procedures
       (refuses-bind P (instead wrongProcedures (treeOf (stmtsIn rows))) _ (refuses-instead P wrongProcedures (treeOf (stmtsIn rows)) procedures) (λ c. tt))
 
-readOutline-refuses : (s : List ℕ) → Refuses ReadRefusal (readOutline s)
-unfolding readOutline
-readOutline-refuses s =
+outlineOf-refuses : (T : Tables) → Refuses ReadRefusal (outlineOf T)
+outlineOf-refuses T =
     let ns : List ℕ = 2 ∷ 3 ∷ 4 ∷ 5 ∷ 6 ∷ 7 ∷ 8 ∷ [] in
     let low : All (FromTo 2 8) (2 ∷ 3 ∷ 4 ∷ 5 ∷ 6 ∷ 7 ∷ 8 ∷ []) = omega arith in
     let causes : All ReadRefusal (2 ∷ 3 ∷ 4 ∷ 5 ∷ 6 ∷ 7 ∷ 8 ∷ []) = all-imp {P = FromTo 2 8} {Q = ReadRefusal} (λ n. inl) ns low in
     let sixteen : ReadRefusal 16 = inr refl in
     search (refuses-check, refuses-bind, openAfter-refuses, allClosed-refuses, parts-refuses) depth 12
 
+two : ReadRefusal wrongSections
+two = inl (omega arith)
+
+readOutline-refuses : (s : List ℕ) → Refuses ReadRefusal (readOutline s)
+unfolding readOutline
+readOutline-refuses s = refuses-check ReadRefusal (sectionsRight s) wrongSections (outlineOf (tablesAt s (layoutOf s))) two (outlineOf-refuses (tablesAt s (layoutOf s)))
+
+inlined-refuses : (O : Outline) → Refuses ReadRefusal (inlinedProgram O)
+inlined-refuses O = program-refuses ReadRefusal (inr refl) (O .tables) (inlinedRows (O .tables) (O .parts))
+
 readProgram-refuses : (s : List ℕ) → Refuses ReadRefusal (readProgram s)
 unfolding readProgram
 readProgram-refuses s =
-    refuses-bind ReadRefusal (readOutline s) _ (readOutline-refuses s) (λ O. program-refuses ReadRefusal (inr refl) (O .tables) (inlinedRows (O .tables) (O .parts)))
+    refuses-bind ReadRefusal (readOutline s) inlinedProgram (readOutline-refuses s) inlined-refuses
+
+-- of a file of the old form
+pub refusals-conversion : (s : List ℕ) (n : ℕ) → convert s ≡ refused n → OldRefusal n
+unfolding convert readOld
+refusals-conversion s n e =
+    let right = sectionsIn mostOld oldFieldSize s in
+    let T = oldTables s in
+    let outline = check right wrongSections (outlineOf T) in
+    refuses-by OldRefusal (convert s) n e
+    (refuses-bind OldRefusal (outline >>= inlinedProgram) (λ P. ok (newForm s))
+    (refuses-bind OldRefusal outline inlinedProgram (refuses-check OldRefusal right wrongSections (outlineOf T) two (outlineOf-refuses T)) inlined-refuses)
+    (λ P. tt))
 
 -- ---- the derivation: 9 to 11
 

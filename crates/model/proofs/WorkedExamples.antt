@@ -12,6 +12,7 @@ use Rattle.arith.specs.Types
 use Rattle.arith.specs.Words
 use Rattle.model.specs.Refusals.{Out, ok, refused, _>>=_, mapped, wrongBlocks, tooManyConjuncts, neverSettles, tooManyCombinations, blankField, wrongProcedures}
 use Rattle.model.specs.Bytes.{bytes4}
+use Rattle.model.specs.Fields.{Field, fieldBytes, wholeField}
 use Rattle.model.specs.Values.{Operation, add, sub, mul, div}
 use Rattle.model.specs.Code.{plain, site, assign, copy, Code, done, step, branch, loop, if, else, end, while, treeOf}
 use Rattle.model.specs.Conjunct.{field, Node, const, atom, var, op, conv, Conjuncts, atoms}
@@ -27,12 +28,14 @@ use Rattle.model.specs.Condition
 use Rattle.model.specs.Conjunct
 use Rattle.model.specs.Decimal
 use Rattle.model.specs.Failure
+use Rattle.model.specs.Fields
 use Rattle.model.specs.Filter
 use Rattle.model.specs.Inlined
 use Rattle.model.specs.Input
 use Rattle.model.specs.Kinds
 use Rattle.model.specs.Listing
 use Rattle.model.specs.Lists
+use Rattle.model.specs.OldForm
 use Rattle.model.specs.Procedures
 use Rattle.model.specs.Program
 use Rattle.model.specs.Run
@@ -50,9 +53,10 @@ unfolding Bytes.bytes2 Bytes.bytes4 Bytes.bytes8 Bytes.entries Bytes.chained Cod
     Conjunct.sameAtom Conjunct.without Conjunct.atoms Conjunct.rank Conjunct.renamed Conjunct.renumber Decimal.digits Decimal.places
     Decimal.decimal Decimal.number Filter.evaluate Filter.combinations Filter.valueIn Filter.combinationsOf Filter.holds Filter.productOf
     Filter.fewCombinations Filter.hasReadings Failure.first Failure.failureIn Failure.verdict Input.width Input.bitsAt Input.readingAt
-    Input.readingsOf Input.lengthsRight Input.readInput Listing.typeText Listing.operationText Listing.atomText Listing.nodeName
+    Input.readingsOf Input.lengthsRight Input.inBits Input.bitsRight Input.readInput Listing.typeText Listing.operationText Listing.atomText Listing.nodeName
     Listing.nodeType Listing.nodeText Listing.lineText Listing.linesFrom Listing.listingText Listing.refusalText Listing.listing Kinds.kindOf
-    Lists.every Program.layoutOf Program.tablesAt Program.sectionsRight Program.countsRight Program.typesRight Program.formRight
+    Lists.every Fields.fieldRight Program.layoutOf Program.tablesWith Program.tablesAt Program.sectionsIn Program.countsRight Program.typesRight Program.formRight
+    OldForm.oldTables OldForm.readOld OldForm.newTable OldForm.newForm OldForm.convert
     Program.procedureForm Program.callForm Program.allAlike Program.callAlike Program.typesAgree Program.immediateRight Program.stmtOf
     Program.itemOf Program.programOf Program.readOutline Program.readProgram Procedures.passing Procedures.openAfter Procedures.partsFrom
     Procedures.procedureRight Procedures.proceduresRight Procedures.allApart Procedures.partsRight Inlined.inlined Inlined.entering
@@ -68,10 +72,10 @@ derive : List ℕ → Out (List ℕ)
 unfolding definitions
 derive program = analysis program
 
--- the condition file of a set
+-- the condition file of a set, with fields of these types that have all their bits
 file : List ℕ → Conjuncts → List ℕ
 unfolding definitions
-file types S = encode types S
+file types S = encode (map wholeField types) S
 
 -- the listing of a condition file
 text : List ℕ → List ℕ
@@ -92,7 +96,7 @@ ran program input limit choices log = Run.run program input limit choices log
 values : List ℕ → List ℕ → Out (List (List Outcome))
 unfolding definitions
 values condition input =
-    readCondition condition >>= λ C. readInput (C .types) input >>= λ I.
+    readCondition condition >>= λ C. readInput (C .fields) input >>= λ I.
     ok (map (λ e. map (λ zs. evaluate (valueIn (atoms e) zs) e []) (combinationsOf I e)) (C .conjuncts))
 
 -- ---- files
@@ -115,15 +119,20 @@ one a = bytes4 8 ++ bytes4 4 ++ bytes4 a
 abbrev statement : ℕ → ℕ → ℕ → ℕ → ℕ → List ℕ
 statement k a b c i = k ∷ a ∷ b ∷ c ∷ i ∷ 0 ∷ 0 ∷ 0 ∷ []
 
--- a program file: types of fields and variables, 4 bytes for each array, statements
-program : List ℕ → List ℕ → List ℕ → List (List ℕ) → List ℕ
+-- a program file: fields and types of variables, 4 bytes for each array, statements
+programOf : List Field → List ℕ → List ℕ → List (List ℕ) → List ℕ
 unfolding Bytes.bytes4 mathlib.Core.List.flatMap
-program fields variables arrays statements =
-    let a = 32 + length fields in
+programOf fields variables arrays statements =
+    let a = 32 + 2 * length fields in
     let b = a + length variables in
     let c = b + length arrays in
-    bytes4 32 ++ bytes4 (length fields) ++ bytes4 a ++ bytes4 (length variables) ++ bytes4 b ++ bytes4 (length arrays)
-    ++ bytes4 c ++ bytes4 (8 * length statements) ++ fields ++ variables ++ arrays ++ flatMap (λ s. s) statements
+    bytes4 32 ++ bytes4 (2 * length fields) ++ bytes4 a ++ bytes4 (length variables) ++ bytes4 b ++ bytes4 (length arrays)
+    ++ bytes4 c ++ bytes4 (8 * length statements) ++ flatMap fieldBytes fields ++ variables ++ arrays ++ flatMap (λ s. s) statements
+
+-- with fields of these types that have all their bits
+program : List ℕ → List ℕ → List ℕ → List (List ℕ) → List ℕ
+unfolding programOf
+program types variables arrays statements = programOf (map wholeField types) variables arrays statements
 
 -- ---- A to L
 
@@ -439,3 +448,71 @@ run-two-calls = refl
 run-to-the-end : ran two-calls [] 8 [] (zeros 36) ≡ ok (record { end = 0; steps = 8; records = 3; log = two-calls-log })
 unfolding ran two-calls two-calls-log zeros program ending
 run-to-the-end = refl
+
+-- ---- fields narrower than their type (document 02, card 5)
+
+-- a field of a type with so many bits
+abbrev narrow : ℕ → ℕ → Field
+narrow ty n = record { ty = ty; size = 128 + n }
+
+-- a condition that says nothing of one field
+nothingOf : Field → List ℕ
+unfolding definitions
+nothingOf F = encode (F ∷ []) []
+
+-- a sheet of one field with one reading of one byte, and of two
+byteSheet : ℕ → List ℕ
+unfolding Bytes.bytes4
+byteSheet b = bytes4 8 ++ bytes4 1 ++ (b ∷ [])
+
+pairSheet : ℕ → ℕ → List ℕ
+unfolding Bytes.bytes4
+pairSheet b c = bytes4 8 ++ bytes4 2 ++ (b ∷ c ∷ [])
+
+-- 15 and 16 in u8 of 4 bits; -1, 0 and 1 in i8 of 1 bit; 7, 8, -8 and -9 in i16 of 4 bits
+narrow-readings :
+    check (nothingOf (narrow 0 4)) (byteSheet 15) ∷ check (nothingOf (narrow 0 4)) (byteSheet 16)
+    ∷ check (nothingOf (narrow 4 1)) (byteSheet 255) ∷ check (nothingOf (narrow 4 1)) (byteSheet 0) ∷ check (nothingOf (narrow 4 1)) (byteSheet 1)
+    ∷ check (nothingOf (narrow 5 4)) (pairSheet 7 0) ∷ check (nothingOf (narrow 5 4)) (pairSheet 8 0)
+    ∷ check (nothingOf (narrow 5 4)) (pairSheet 248 255) ∷ check (nothingOf (narrow 5 4)) (pairSheet 247 255) ∷ []
+    ≡ ok nothing ∷ refused 13 ∷ ok nothing ∷ ok nothing ∷ refused 13 ∷ ok nothing ∷ refused 13 ∷ ok nothing ∷ refused 13 ∷ []
+unfolding check nothingOf byteSheet pairSheet
+narrow-readings = refl
+
+-- no bits, a bit too many, and a second byte of the old form: 4 in a program, 12 in a condition
+wrong-bits :
+    map (λ F. derive (programOf (F ∷ []) [] [] [])) (narrow 0 0 ∷ narrow 0 9 ∷ record { ty = 0; size = 127 } ∷ record { ty = 0; size = 0 } ∷ [])
+    ++ map (λ F. mapped (λ v. []) (check (nothingOf F) (byteSheet 0))) (narrow 0 0 ∷ narrow 0 9 ∷ record { ty = 0; size = 127 } ∷ [])
+    ≡ refused 4 ∷ refused 4 ∷ refused 4 ∷ refused 4 ∷ refused 12 ∷ refused 12 ∷ refused 12 ∷ []
+unfolding derive programOf check nothingOf byteSheet
+wrong-bits = refl
+
+-- ---- the converter
+
+-- the new file of an old one
+renew : List ℕ → Out (List ℕ)
+unfolding definitions
+renew old = OldForm.convert old
+
+-- a file of the old form: types of fields and variables, statements
+oldProgram : List ℕ → List ℕ → List (List ℕ) → List ℕ
+unfolding Bytes.bytes4 mathlib.Core.List.flatMap
+oldProgram fields variables statements =
+    let a = 32 + length fields in
+    let b = a + length variables in
+    bytes4 32 ++ bytes4 (length fields) ++ bytes4 a ++ bytes4 (length variables) ++ bytes4 b ++ bytes4 0
+    ++ bytes4 b ++ bytes4 (8 * length statements) ++ fields ++ variables ++ flatMap (λ s. s) statements
+
+-- the program of the listing's example: its field gets all its bits, and what stands behind it comes a byte later
+example-converted :
+    renew (oldProgram (1 ∷ []) (1 ∷ 1 ∷ 2 ∷ 2 ∷ 2 ∷ []) (statement 7 0 0 0 0 ∷ []))
+    ≡ ok (program (1 ∷ []) (1 ∷ 1 ∷ 2 ∷ 2 ∷ 2 ∷ []) [] (statement 7 0 0 0 0 ∷ []))
+unfolding renew oldProgram program programOf
+example-converted = refl
+
+-- without fields nothing changes; 33 fields are too many, and 8 is no type
+others-converted :
+    renew (oldProgram [] (0 ∷ []) []) ∷ renew (oldProgram (zeros 33) [] []) ∷ renew (oldProgram (8 ∷ []) [] []) ∷ []
+    ≡ ok (oldProgram [] (0 ∷ []) []) ∷ refused 3 ∷ refused 4 ∷ []
+unfolding renew oldProgram zeros
+others-converted = refl

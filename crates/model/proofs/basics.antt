@@ -3,3 +3,4 @@ pub mod Lists
 pub mod Every
 pub mod Results
 pub mod LittleEndian
+pub mod Passes

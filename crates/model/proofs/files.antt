@@ -6,3 +6,5 @@ pub mod NodeBytes
 pub mod FileBytes
 pub mod ReadBack
 pub mod Lent
+pub mod OldForms
+pub mod FieldTables

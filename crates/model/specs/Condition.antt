@@ -11,7 +11,8 @@ use Rattle.model.specs.Lists.{every}
 use Rattle.model.specs.Refusals.{Out, ok, refused, _>>=_, check, wrongCondition}
 use Rattle.model.specs.Bytes.{byteAt, u16At, u32At, bytes4, part, Pair, entries, pairsAt, chained}
 use Rattle.model.specs.Values.{add, sub, mul, div}
-use Rattle.model.specs.Program.{Program, Tables, typeRight, readProgram}
+use Rattle.model.specs.Fields.{Field, fieldAt, fieldBytes, fieldRight, typesIn}
+use Rattle.model.specs.Program.{Program, typeRight, readProgram}
 use Rattle.model.specs.Conjunct.{Source, field, cell, Atom, Node, const, atom, var, op, conv, Conj, Conjuncts, bytes, order, orderNodes, renumber}
 use Rattle.model.specs.Walk.{derived}
 
@@ -26,18 +27,18 @@ unfoldable pub pairBytes : ℕ → Conjuncts → List ℕ
 pairBytes at [] = []
 pairBytes at (e ∷ S) = bytes4 at ++ bytes4 (nodeSize * length e) ++ pairBytes (at + nodeSize * length e) S
 
--- where the conjuncts begin: after two counts, f types and c pairs
+-- where the conjuncts begin: after two counts, f fields and c pairs
 abbrev pub conjunctsAt : ℕ → ℕ → ℕ
-conjunctsAt f c = countsSize + f + pairSize * c
+conjunctsAt f c = countsSize + fieldSize * f + pairSize * c
 
--- the condition file of a set, with the types of the program's fields
-unfoldable pub encode : List ℕ → Conjuncts → List ℕ
-encode types S =
-    bytes4 (length S) ++ bytes4 (length types) ++ types
-    ++ pairBytes (conjunctsAt (length types) (length S)) S
+-- the condition file of a set, with the program's fields
+unfoldable pub encode : List Field → Conjuncts → List ℕ
+encode fields S =
+    bytes4 (length S) ++ bytes4 (length fields) ++ flatMap fieldBytes fields
+    ++ pairBytes (conjunctsAt (length fields) (length S)) S
     ++ flatMap conjunctBytes S
 
--- the length of the longest one: two counts, 32 types, 64 pairs, and 64 conjuncts of 120 nodes
+-- the length of the longest one: two counts, 32 fields, 64 pairs, and 64 conjuncts of 120 nodes
 abbrev pub conditionBytes : ℕ
 conditionBytes = countsSize + fieldSize * mostFields + mostConjuncts * (pairSize + nodeSize * mostNodes)
 
@@ -47,9 +48,9 @@ analysis s = readProgram s >>= λ P. derived (P .code) >>= λ S. ok (encode (P .
 
 -- ---- read
 
--- the types of the fields, and the conjuncts
+-- the fields and the conjuncts
 pub record Condition : Type 0 where
-  pub types : List ℕ
+  pub fields : List Field
   pub conjuncts : Conjuncts
 
 -- the node at a place, by its kind
@@ -147,17 +148,17 @@ unfoldable pub readCondition : List ℕ → Out Condition
 readCondition s =
     let c = u32At s 0 in
     let f = u32At s 4 in
-    let types = part s countsSize f in
-    let pairs = pairsAt s (countsSize + f) c in
+    let fields = entries fieldAt fieldSize s countsSize f in
+    let pairs = pairsAt s (countsSize + fieldSize * f) c in
     let conjuncts = map (conjunctAt s) pairs in
     check
     (leb countsSize (length s) && leb c mostConjuncts && leb f mostFields
     && chained (conjunctsAt f c) pairs (length s)
-    && every typeRight types
+    && every fieldRight fields
     && every lengthRight pairs
-    && every (nodesRight types s) pairs
+    && every (nodesRight (typesIn fields) s) pairs
     && every whole conjuncts
     && every numbered conjuncts
     && rising conjuncts)
     wrongCondition
-    (ok (record { types = types; conjuncts = conjuncts }))
+    (ok (record { fields = fields; conjuncts = conjuncts }))

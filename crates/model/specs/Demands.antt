@@ -12,11 +12,13 @@ use Rattle.arith.specs.declared.Cause.the-variants.{Above, Below, NoDivisor}
 use Rattle.arith.specs.Types.{lowest, highest}
 use Rattle.arith.specs.Step.{overflow, passes, exactOf, lacksDivisor, stepOf}
 use Rattle.arith.specs.Words.{valueAt}
-use Rattle.model.specs.Sizes.{recordSize}
+use Rattle.model.specs.Sizes.{mostProgram, recordSize}
 use Rattle.model.specs.Lists.{All, every}
 use Rattle.model.specs.Refusals.{Out, ok, refused, _>>=_, mapped, check, lentTooShort, wrongSections, wrongBlocks}
 use Rattle.model.specs.Refusals.{neverSettles, wrongCondition, wrongInput, tooManyCombinations, blankField, wrongProcedures}
 use Rattle.model.specs.Bytes.{byteAt, u16At, u64At}
+use Rattle.model.specs.Program.{readProgram}
+use Rattle.model.specs.OldForm.{readOld, convert}
 use Rattle.model.specs.Conjunct.{Source, field, cell, Atom, Conj, Conjuncts, atoms}
 use Rattle.model.specs.Condition.{Condition, readCondition, analysis}
 use Rattle.model.specs.Input.{Input, readInput}
@@ -92,7 +94,7 @@ Some P (x ∷ xs) = P x ⊎ Some P xs
 abbrev pub Demand2 : Type 0
 Demand2 =
     (condition input : List ℕ) (C : Condition) (I : Input)
-    → readCondition condition ≡ ok C → readInput (C .types) input ≡ ok I
+    → readCondition condition ≡ ok C → readInput (C .fields) input ≡ ok I
     → every (hasReadings I) (C .conjuncts) ≡ true → every (fewCombinations I) (C .conjuncts) ≡ true
     → ((filterInput condition input ≡ ok passNumber) ↔ All (Safe I) (C .conjuncts))
     × ((filterInput condition input ≡ ok heldNumber) ↔ Some (Overflows I) (C .conjuncts))
@@ -107,14 +109,14 @@ IsBlank I (cell l r k ty) = ⊥
 -- document 01's own filter, in which a conjunct that reads a blank field holds
 unfoldable pub filterAllowingBlanks : List ℕ → List ℕ → Out ℕ
 filterAllowingBlanks condition input =
-    readCondition condition >>= λ C. readInput (C .types) input >>= λ I.
+    readCondition condition >>= λ C. readInput (C .fields) input >>= λ I.
     check (every (fewCombinations I) (C .conjuncts)) tooManyCombinations
     (ok (cond (every (holds I) (C .conjuncts)) passNumber heldNumber))
 
 -- of a condition and an input that are read, 15 is given if and only if a field that some conjunct reads has no readings; and where
 -- it is not given, any bytes are answered as before
 pub record BlankFields : Type 0 where
-  pub blank : (condition input : List ℕ) (C : Condition) (I : Input) → readCondition condition ≡ ok C → readInput (C .types) input ≡ ok I
+  pub blank : (condition input : List ℕ) (C : Condition) (I : Input) → readCondition condition ≡ ok C → readInput (C .fields) input ≡ ok I
       → (filterInput condition input ≡ refused blankField) ↔ Some (λ e. Some (λ a. IsBlank I (a .src)) (atoms e)) (C .conjuncts)
   pub others : (condition input : List ℕ)
       → (filterInput condition input ≡ refused blankField) ⊎ (filterInput condition input ≡ filterAllowingBlanks condition input)
@@ -129,6 +131,18 @@ pub record Causes : Type 0 where
   pub no-divisor : (o : Op) (t : ℕ) (a b : ℤ) → (stepOf o t a b ≡ overflow NoDivisor) ↔ (lacksDivisor o b ≡ true)
   pub answered : (condition input : List ℕ) → ResultOrRefusal FilterRefusal (verdict condition input)
   pub unmoved : (condition input : List ℕ) → mapped answerNumber (verdict condition input) ≡ filterInput condition input
+
+-- ---- what the converter gives (document 02, card 5)
+
+-- the numbers of a file of the old form
+abbrev pub OldRefusal : ℕ → Type 0
+OldRefusal n = FromTo wrongSections wrongBlocks n ⊎ (n ≡ wrongProcedures)
+
+-- whatever bytes are handed in, there is an answer; a new file is read as the program that the old one was
+pub record Conversion : Type 0 where
+  pub answered : (old : List ℕ) → ResultOrRefusal OldRefusal (convert old)
+  pub same : (old new : List ℕ) → convert old ≡ ok new → readProgram new ≡ readOld old
+  pub short : (old new : List ℕ) → convert old ≡ ok new → length new ≤ mostProgram
 
 -- ---- demand 3
 

@@ -43,7 +43,7 @@ failureIn I e = first (λ zs. causeIn (evaluate (valueIn (atoms e) zs) e [])) (c
 -- of two files, after the filter's refusals: nothing where the input passes, the cause where it is held
 unfoldable pub verdict : List ℕ → List ℕ → Out (Found Cause)
 verdict condition input =
-    readCondition condition >>= λ C. readInput (C .types) input >>= λ I.
+    readCondition condition >>= λ C. readInput (C .fields) input >>= λ I.
     check (every (hasReadings I) (C .conjuncts)) blankField
     (check (every (fewCombinations I) (C .conjuncts)) tooManyCombinations
     (ok (first (failureIn I) (C .conjuncts))))

@@ -7,7 +7,9 @@ pub mod Code
 pub mod Kinds
 pub mod Procedures
 pub mod Inlined
+pub mod Fields
 pub mod Program
+pub mod OldForm
 pub mod Conjunct
 pub mod Walk
 pub mod Condition

@@ -7,10 +7,11 @@ use lib.ListN.{length, getD, take, drop}
 use Rattle.arith.specs.Types.{signed}
 use Rattle.arith.specs.Step.{fits}
 use Rattle.arith.specs.Words.{immediate}
-use Rattle.model.specs.Sizes.{sectionTable, mostProgram, arraySize, statementSize, mostFields, mostVariables, mostArrays, mostStatements, mostCells, mostParameters, mostRows}
+use Rattle.model.specs.Sizes.{sectionTable, mostProgram, fieldSize, arraySize, statementSize, mostFields, mostVariables, mostArrays, mostStatements, mostCells, mostParameters, mostRows}
 use Rattle.model.specs.Lists.{every}
 use Rattle.model.specs.Refusals.{Out, ok, _>>=_, check, instead, wrongSections, tooManyEntries, wrongTypes, wrongStatement, typesDisagree, wrongImmediate, wrongProcedures}
 use Rattle.model.specs.Bytes.{byteAt, u16At, u32At, bytes4, part, entries, pairsAt, chained}
+use Rattle.model.specs.Fields.{Field, fieldAt, fieldRight, typesIn}
 use Rattle.model.specs.Kinds.{Kind, aNumber, aCopy, anOperation, aConversion, aRead, aLoad, aStore, aSite, anIf, anElse, anEnd, aWhile, aProcedure, aCall, noKind, kindOf, begins}
 use Rattle.model.specs.Code.{Instr, assign, store, site, number, copy, calc, change, read, load, Stmt, plain, if, else, end, while, Code, treeOf}
 use Rattle.model.specs.Procedures.{Item, own, procedure, call, openAfter, allClosed, between, Parts, partsFrom, partsRight}
@@ -32,9 +33,9 @@ pub record Statement : Type 0 where
   pub c : ℕ
   pub imm : ℕ
 
--- the types of the fields and variables, the arrays and the statements
+-- the fields, the types of the variables, the arrays and the statements
 pub record Tables : Type 0 where
-  pub fields : List ℕ
+  pub fields : List Field
   pub variables : List ℕ
   pub arrays : List Array
   pub statements : List Statement
@@ -62,7 +63,7 @@ pub record Layout : Type 0 where
 unfoldable pub layoutOf : List ℕ → Layout
 layoutOf s = record {
   fieldsAt = u32At s 0;
-  fields = u32At s 4;
+  fields = u32At s 4 / fieldSize;
   variablesAt = u32At s 8;
   variables = u32At s 12;
   arraysAt = u32At s 16;
@@ -71,23 +72,32 @@ layoutOf s = record {
   statements = u32At s 28 / statementSize;
 }
 
--- the tables at a layout
-unfoldable pub tablesAt : List ℕ → Layout → Tables
-tablesAt s L = record {
-  fields = part s (L .fieldsAt) (L .fields);
+-- the tables at a layout, with these fields
+unfoldable pub tablesWith : List Field → List ℕ → Layout → Tables
+tablesWith fields s L = record {
+  fields = fields;
   variables = part s (L .variablesAt) (L .variables);
   arrays = entries arrayAt arraySize s (L .arraysAt) (L .arrays);
   statements = entries statementAt statementSize s (L .statementsAt) (L .statements);
 }
 
+-- the tables at a layout
+unfoldable pub tablesAt : List ℕ → Layout → Tables
+tablesAt s L = tablesWith (entries fieldAt fieldSize s (L .fieldsAt) (L .fields)) s L
+
 -- ---- check 2: the length and the section table
 
--- at least the table and at most 8,384 bytes; the sections one after the other from 32 to the end; whole entries
-unfoldable pub sectionsRight : List ℕ → Bool
-sectionsRight s =
-    leb sectionTable (length s) && leb (length s) mostProgram
+-- at least the table and at most so many bytes; the sections one after the other from 32 to the end; whole entries, a field's of
+-- this size
+unfoldable pub sectionsIn : (most entry : ℕ) → List ℕ → Bool
+sectionsIn most entry s =
+    leb sectionTable (length s) && leb (length s) most
     && chained sectionTable (pairsAt s 0 4) (length s)
-    && eqb (u32At s 20 % arraySize) 0 && eqb (u32At s 28 % statementSize) 0
+    && eqb (u32At s 4 % entry) 0 && eqb (u32At s 20 % arraySize) 0 && eqb (u32At s 28 % statementSize) 0
+
+-- at most 8,416 bytes, and 2 for each field
+abbrev pub sectionsRight : List ℕ → Bool
+sectionsRight s = sectionsIn mostProgram fieldSize s
 
 -- ---- check 3: the numbers of entries
 
@@ -109,7 +119,7 @@ arrayRight r = typeRight (r .ty) && eqb (r .pad) 0 && leb 1 (r .len) && leb (r .
 
 -- of every field, variable and array
 unfoldable pub typesRight : Tables → Bool
-typesRight T = every typeRight (T .fields) && every typeRight (T .variables) && every arrayRight (T .arrays)
+typesRight T = every fieldRight (T .fields) && every typeRight (T .variables) && every arrayRight (T .arrays)
 
 -- ---- procedures and calls
 
@@ -182,7 +192,7 @@ variableType T x = getD (T .variables) x 0
 
 -- the type of a field
 abbrev pub fieldType : Tables → ℕ → ℕ
-fieldType T x = getD (T .fields) x 0
+fieldType T x = getD (typesIn (T .fields)) x 0
 
 -- the entry of an array
 abbrev pub arrayOf : Tables → ℕ → Array
@@ -323,20 +333,26 @@ pub record Outline : Type 0 where
   pub tables : Tables
   pub parts : Parts
 
--- the outline of a byte string, or the first of checks 2 to 8, and 16 of the procedures, that it fails
-unfoldable pub readOutline : List ℕ → Out Outline
-readOutline s =
-    let T = tablesAt s (layoutOf s) in
-    check (sectionsRight s) wrongSections
-    (check (countsRight T) tooManyEntries
+-- the outline of tables, or the first of checks 3 to 8, and 16 of the procedures, that they fail
+abbrev pub outlineOf : Tables → Out Outline
+outlineOf T =
+    check (countsRight T) tooManyEntries
     (check (typesRight T) wrongTypes
     (check (every (formRight T) (T .statements)) wrongStatement
     (check (every (typesAgree T) (T .statements)) typesDisagree
     (check (every (immediateRight T) (T .statements)) wrongImmediate
     (openAfter [] (itemsOf T) >>= allClosed >>= λ none.
     partsFrom 0 [] between (itemsOf T) >>= λ P.
-    check (partsRight P) wrongProcedures (ok (record { tables = T; parts = P }))))))))
+    check (partsRight P) wrongProcedures (ok (record { tables = T; parts = P })))))))
+
+-- the outline of a byte string, or the first of checks 2 to 8, and 16 of the procedures, that it fails
+unfoldable pub readOutline : List ℕ → Out Outline
+readOutline s = check (sectionsRight s) wrongSections (outlineOf (tablesAt s (layoutOf s)))
+
+-- the program of an outline, or 16
+abbrev pub inlinedProgram : Outline → Out Program
+inlinedProgram O = programOf (O .tables) (inlinedRows (O .tables) (O .parts))
 
 -- the program of a byte string, or the first of checks 2 to 8 and 16 that it fails
 unfoldable pub readProgram : List ℕ → Out Program
-readProgram s = readOutline s >>= λ O. programOf (O .tables) (inlinedRows (O .tables) (O .parts))
+readProgram s = readOutline s >>= inlinedProgram

@@ -9,11 +9,15 @@ sectionTable = 32
 
 -- the bytes of the longest program
 abbrev pub mostProgram : ℕ
-mostProgram = 8384
+mostProgram = 8416
 
 -- the bytes of the entry of a field
 abbrev pub fieldSize : ℕ
-fieldSize = 1
+fieldSize = 2
+
+-- how much more than the number of a field's bits its second byte is
+abbrev pub overBits : ℕ
+overBits = 128
 
 -- the bytes of the entry of a variable
 abbrev pub variableSize : ℕ

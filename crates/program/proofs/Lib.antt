@@ -1,6 +1,5 @@
 pub mod Tables
 pub mod Items
-pub mod Passes
 pub mod Answers
 pub mod Known
 pub mod Listing

@@ -7,12 +7,13 @@ use native.Mathlib.Omega.{arith}
 use borrow.Author.Tests.{leb-true, leb-false, ltb-true}
 use lib.Dec.{leb}
 use lib.ListN.{length, getD, List·getD-eq-default, List·getD-map}
-use Rattle.model.specs.Sizes.{arraySize, statementSize}
+use Rattle.model.specs.Sizes.{fieldSize, arraySize, statementSize}
+use Rattle.model.specs.Fields.{fieldAt, fieldRight}
 use Rattle.model.specs.Lists.{every}
 use Rattle.model.specs.Bytes.{part, entries}
 use Rattle.model.specs.Code.{end}
 use Rattle.model.specs.Kinds.{kindOf}
-use Rattle.model.specs.Program.{Tables, arrayAt, statementAt, tablesAt, typeRight, arrayRight, typesRight, variableType, arrayOf, stmtOf}
+use Rattle.model.specs.Program.{Tables, arrayAt, statementAt, tablesWith, tablesAt, typeRight, arrayRight, typesRight, variableType, arrayOf, stmtOf}
 use Rattle.model.proofs.basics.Tests.{and-left, and-right}
 use Rattle.model.proofs.basics.Every.{every-at}
 use Rattle.model.proofs.files.Parts.{length-entries, entries-getD, length-part}
@@ -31,25 +32,25 @@ entry-past at size s a n i d h = List·getD-eq-default (entries at size s a n) d
 -- ---- which entries they have
 
 module _ (s : List ℕ) (L : Layout) (h : Placed s L) where
-  pub fields-are : tablesOf s .fields ≡ part s (L .«fields_at») (L .fields)
-  unfolding tablesAt
+  pub fields-are : tablesOf s .fields ≡ entries fieldAt fieldSize s (L .«fields_at») (L .fields)
+  unfolding tablesAt tablesWith
   fields-are = rw (← h .layout)
 
   pub variables-are : tablesOf s .variables ≡ part s (L .«variables_at») (L .variables)
-  unfolding tablesAt
+  unfolding tablesAt tablesWith
   variables-are = rw (← h .layout)
 
   pub arrays-are : tablesOf s .arrays ≡ entries arrayAt arraySize s (L .«arrays_at») (L .arrays)
-  unfolding tablesAt
+  unfolding tablesAt tablesWith
   arrays-are = rw (← h .layout)
 
   pub statements-are : tablesOf s .statements ≡ entries statementAt statementSize s (L .«statements_at») (L .statements)
-  unfolding tablesAt
+  unfolding tablesAt tablesWith
   statements-are = rw (← h .layout)
 
   pub sized : Sized (tablesOf s) L
   sized = record {
-    fields = rw fields-are (length-part s (L .«fields_at») (L .fields) (h .fields));
+    fields = rw fields-are (length-entries fieldAt fieldSize s (L .fields) (L .«fields_at»));
     variables = rw variables-are (length-part s (L .«variables_at») (L .variables) (h .variables));
     arrays = rw arrays-are (length-entries arrayAt arraySize s (L .arrays) (L .«arrays_at»));
     statements = rw statements-are (length-entries statementAt statementSize s (L .statements) (L .«statements_at»));
@@ -76,7 +77,7 @@ type-small T h x = go (leb (length vs) x) refl
 
     known : every typeRight vs ≡ true
     known =
-        let fields = every typeRight (T .fields) in
+        let fields = every fieldRight (T .fields) in
         and-right fields (every typeRight vs) (and-left (fields && every typeRight vs) (every arrayRight (T .arrays)) h)
 
     go : (b : Bool) → leb (length vs) x ≡ b → getD vs x 0 < typeCodes

@@ -7,13 +7,13 @@ use lib.Dec.{eqb}
 use lib.ListN.{length, getD}
 use Rattle.model.specs.Lists.{every}
 use Rattle.model.specs.Refusals.{Out, ok, refused, _>>=_, check, tooManyEntries, wrongTypes, wrongStatement, typesDisagree, wrongImmediate, wrongProcedures}
-use Rattle.model.specs.Sizes.{mostProgram, arraySize, statementSize}
+use Rattle.model.specs.Sizes.{mostProgram, fieldSize, arraySize, statementSize}
 use Rattle.model.specs.Bytes.{u32At, Pair as ModelPair}
 use Rattle.model.specs.Code.{Stmt, end}
 use Rattle.model.specs.Program.{Statement, Tables, Layout as Sections, tablesAt, layoutOf, stmtOf, itemsOf, Outline, readOutline}
 use Rattle.model.specs.Program.{countsRight, typesRight, formRight, typesAgree, immediateRight}
 use Rattle.model.specs.Procedures.{openAfter, allClosed, between, partsFrom, partsRight}
-use Rattle.program.specs.Numbers.{arraysPair, statementsPair, endKind}
+use Rattle.program.specs.Numbers.{fieldsPair, arraysPair, statementsPair, endKind}
 use Rattle.program.specs.declared.Layout.{Layout}
 use Rattle.program.specs.declared.Entry.{Entry}
 use Rattle.program.specs.declared.ProgramRead.{ProgramRead}
@@ -59,9 +59,11 @@ abbrev pub InFourBytes : SectionRead → Type 0
 InFourBytes (Section p) = (p .at < 2 ^ 32) × (p .len < 2 ^ 32)
 InFourBytes (NoSection n) = Unit {0}
 
--- the sections of arrays and of statements are whole entries
-abbrev pub wholeEntries : List ℕ → Bool
-wholeEntries s = eqb (u32At s (arraysPair + 4) % arraySize) 0 && eqb (u32At s (statementsPair + 4) % statementSize) 0
+-- the sections of fields, of this size, of arrays and of statements are whole entries
+abbrev pub wholeEntries : ℕ → List ℕ → Bool
+wholeEntries entry s =
+    eqb (u32At s (fieldsPair + 4) % entry) 0
+    && eqb (u32At s (arraysPair + 4) % arraySize) 0 && eqb (u32At s (statementsPair + 4) % statementSize) 0
 
 -- the model's entry that the code's is
 abbrev pub entryOf : Entry → Statement
@@ -128,7 +130,7 @@ pub record Sized (T : Tables) (L : Layout) : Type 0 where
 -- the layout is the byte string's own, and each section lies in it
 pub record Placed (s : List ℕ) (L : Layout) : Type 0 where
   pub layout : layoutFrom L ≡ layoutOf s
-  pub fields : L .«fields_at» + L .fields ≤ length s
+  pub fields : L .«fields_at» + fieldSize * L .fields ≤ length s
   pub variables : L .«variables_at» + L .variables ≤ length s
   pub arrays : L .«arrays_at» + arraySize * L .arrays ≤ length s
   pub statements : L .«statements_at» + statementSize * L .statements ≤ length s

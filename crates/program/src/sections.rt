@@ -1,15 +1,17 @@
 // The section table and the tables of types: checks 2 to 4 of a program file.
 ghost use mathlib.Core.Path.{_≡_};
-ghost use Prim.Native.Nat.{ℕ, _+_, _*_, _≤_};
+ghost use Prim.Native.Nat.{ℕ, _+_, _*_, _≤_, _<_};
 ghost use lib.Dec.{eqb};
 ghost use lib.ListN.{length};
 ghost use Rattle.model.specs.Sizes.{sectionTable, pairSize, arraySize};
 ghost use Rattle.model.specs.Refusals.{ok, refused, check, wrongSections};
 ghost use Rattle.model.specs.Bytes.{u32At, pairAt, part, entries};
 ghost use Rattle.model.specs.Lists.{every};
-ghost use Rattle.model.specs.Program.{Tables, arrayAt, layoutOf, sectionsRight, countsRight, typeRight, arrayRight, typesRight};
+ghost use Rattle.model.specs.Program.{Tables, arrayAt, layoutOf, sectionsIn, sectionsRight, countsRight, typeRight, arrayRight, typesRight};
+ghost use Rattle.model.specs.OldForm.{mostOld, oldFieldSize};
 ghost use Rattle.program.specs.Reading.{programAnswer, PairIs, sectionOf, InFourBytes, wholeEntries, tablesOf, Placed, Sized};
 use super::ARRAY_SIZE;
+use super::FIELD_SIZE;
 use super::Layout;
 use super::MOST_STATEMENTS;
 use super::ProgramRead;
@@ -32,7 +34,12 @@ const ARRAYS_PAIR: usize = 16;
 const STATEMENTS_PAIR: usize = 24;
 
 // the bytes of the longest program
-const MOST_PROGRAM: usize = 8384;
+const MOST_PROGRAM: usize = 8416;
+
+// the bytes of the longest program of the old form, and of a field's entry in it
+const MOST_OLD: usize = 8384;
+
+const OLD_FIELD_SIZE: usize = 1;
 
 const MOST_FIELDS: usize = 32;
 
@@ -97,15 +104,18 @@ fn section_refusal(read: SectionRead) -> u8
     }
 }
 
-// The layout that the section table gives, if the arrays and the statements are whole entries.
-fn read_layout(program: &[u8]) -> ProgramRead
-    requires { ⌜ sectionTable ≤ length (now program) ⌝ }
-    ensures { λ r. ⌜ programAnswer r ≡ check (wholeEntries (now (program .entry))) wrongSections (ok (layoutOf (now (program .entry)))) ⌝ }
+// The layout that the section table gives, if the sections are whole entries, a field's of this size.
+fn read_layout(program: &[u8], entry: usize) -> ProgramRead
+    requires { ⌜ (sectionTable ≤ length (now program)) × (0 < entry) ⌝ }
+    ensures { λ r. ⌜ programAnswer r ≡ check (wholeEntries entry (now (program .entry))) wrongSections (ok (layoutOf (now (program .entry)))) ⌝ }
 {
     let fields = pair_at(program, FIELDS_PAIR);
     let variables = pair_at(program, VARIABLES_PAIR);
     let arrays = pair_at(program, ARRAYS_PAIR);
     let statements = pair_at(program, STATEMENTS_PAIR);
+    if fields.len % entry != 0 {
+        return ProgramRead::Refused(WRONG_SECTIONS);
+    }
     if arrays.len % ARRAY_SIZE != 0 {
         return ProgramRead::Refused(WRONG_SECTIONS);
     }
@@ -114,7 +124,7 @@ fn read_layout(program: &[u8]) -> ProgramRead
     }
     ProgramRead::Read(Layout {
         fields_at: fields.at,
-        fields: fields.len,
+        fields: fields.len / FIELD_SIZE,
         variables_at: variables.at,
         variables: variables.len,
         arrays_at: arrays.at,
@@ -124,14 +134,15 @@ fn read_layout(program: &[u8]) -> ProgramRead
     })
 }
 
-// The section table: each section starts where the one before ends, and the last ends the file.
-pub fn read_sections(program: &[u8]) -> ProgramRead
-    ensures { λ r. ⌜ programAnswer r ≡ check (sectionsRight (now (program .entry))) wrongSections (ok (layoutOf (now (program .entry)))) ⌝ }
+// The section table of a file of at most so many bytes: each section starts where the one before ends, and the last ends the file.
+fn read_table(program: &[u8], most: usize, entry: usize) -> ProgramRead
+    requires { ⌜ 0 < entry ⌝ }
+    ensures { λ r. ⌜ programAnswer r ≡ check (sectionsIn most entry (now (program .entry))) wrongSections (ok (layoutOf (now (program .entry)))) ⌝ }
 {
     if program.len() < SECTION_TABLE {
         return ProgramRead::Refused(WRONG_SECTIONS);
     }
-    if MOST_PROGRAM < program.len() {
+    if most < program.len() {
         return ProgramRead::Refused(WRONG_SECTIONS);
     }
     let mut end = SECTION_TABLE;
@@ -147,7 +158,24 @@ pub fn read_sections(program: &[u8]) -> ProgramRead
     if end != program.len() {
         return ProgramRead::Refused(WRONG_SECTIONS);
     }
-    read_layout(program)
+    read_layout(program, entry)
+}
+
+// The section table of a program.
+pub fn read_sections(program: &[u8]) -> ProgramRead
+    ensures { λ r. ⌜ programAnswer r ≡ check (sectionsRight (now (program .entry))) wrongSections (ok (layoutOf (now (program .entry)))) ⌝ }
+{
+    read_table(program, MOST_PROGRAM, FIELD_SIZE)
+}
+
+// Whether the section table of a program of the old form is right.
+pub fn old_sections_right(program: &[u8]) -> bool
+    ensures { λ r. ⌜ r ≡ sectionsIn mostOld oldFieldSize (now (program .entry)) ⌝ }
+{
+    match read_table(program, MOST_OLD, OLD_FIELD_SIZE) {
+        ProgramRead::Read(_) => true,
+        ProgramRead::Refused(_) => false,
+    }
 }
 
 // ---- check 3
@@ -221,7 +249,7 @@ pub fn types_right(program: &[u8], layout: Layout) -> bool
     requires { ⌜ Placed (now program) layout ⌝ }
     ensures { λ r. ⌜ r ≡ typesRight (tablesOf (now (program .entry))) ⌝ }
 {
-    if !are_types(program, layout.fields_at, layout.fields) {
+    if !fields::all_right(super::fields(program, layout)) {
         return false;
     }
     if !are_types(program, layout.variables_at, layout.variables) {

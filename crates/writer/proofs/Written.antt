@@ -6,27 +6,24 @@ use native.Mathlib.Numerals.{add-one}
 use native.Mathlib.Omega.{arith}
 use lib.ListN.{length, getD, take, set, length-append, length-map, List·getD-map}
 use lib.Seq.{getD-take, length-take-le}
-use Rattle.model.proofs.files.FileBytes.{conjuncts-size, table-size, length-encode}
+use Rattle.model.proofs.files.FileBytes.{conjuncts-size, table-size, fields-size, length-encode}
 use Rattle.model.proofs.basics.Lists.{all-imp, all-getD}
 use Rattle.model.proofs.files.NodeBytes.{conjunct-size}
 use Rattle.model.specs.Bytes.{bytes4}
 use Rattle.model.specs.Condition.{conjunctBytes, pairBytes, conjunctsAt, encode}
+use Rattle.model.specs.Fields.{Field, fieldBytes, typesIn}
 use Rattle.model.specs.Conjunct.{Conj, Conjuncts, bytes}
+use Rattle.model.specs.Sizes.{mostFields}
 use Rattle.model.specs.Lists.{All}
 use Rattle.model.specs.Formed.{size, FileNode, Formed}
-use Rattle.bytes_le.proofs.Overlays.{overlay-append}
+use Rattle.bytes_le.proofs.Overlays.{stored-then}
 use Rattle.bytes_le.specs.Overlay.{overlay}
 use Rattle.program.proofs.Known.{counts-known}
-use Rattle.program.proofs.Tables.{sized}
-use Rattle.program.specs.Reading.{ProgramIsRead, tablesOf}
+use Rattle.program.specs.Reading.{ProgramIsRead}
 use Rattle.program.specs.declared.Layout.{Layout}
 use Rattle.conjunct.specs.Word.{nodeOf, nodesOf, fileBytes}
 
 -- ---- stores
-
--- one behind the other
-pub stored-then : (l m k xs ys : List ℕ) (i j : ℕ) → j ≡ i + length xs → m ≡ overlay l i xs → k ≡ overlay m j ys → k ≡ overlay l i (xs ++ ys)
-stored-then l m k xs ys i j e p q = q ∙ rw (p, e) (sym (overlay-append xs l i ys))
 
 pub stored-eight : (l : List ℕ) (a p q r s t u v w : ℕ)
     → set (set (set (set (set (set (set (set l a p) (a + 1) q) (a + 2) r) (a + 3) s) (a + 4) t) (a + 5) u) (a + 6) v) (a + 7) w
@@ -128,33 +125,37 @@ module _ (S : Conjuncts) (o m k : List ℕ) (a begin i at n : ℕ) (l : i < leng
 
 -- ---- the file
 
-module _ (types : List ℕ) (S : Conjuncts) (h : All (Formed types) S) where
-  pub nodes-of-file : All (All (FileNode types)) S
+module _ (fields : List Field) (S : Conjuncts) (h : All (Formed (typesIn fields)) S) where
+  pub nodes-of-file : All (All (FileNode (typesIn fields))) S
   nodes-of-file = all-imp (λ e f. f .nodes) S h
 
-  pub file-length : (r : ℕ) → r ≡ conjunctsAt (length types) (length S) + 8 * size S → r ≡ length (encode types S)
-  file-length r e = omega (arith, length-encode types S nodes-of-file)
+  pub file-length : (r : ℕ) → r ≡ conjunctsAt (length fields) (length S) + 8 * size S → r ≡ length (encode fields S)
+  file-length r e = omega (arith, length-encode fields S nodes-of-file)
 
 -- a program that is read has at most 32 fields
-pub fields-few : (s : List ℕ) (L : Layout) → ProgramIsRead s L → length (tablesOf s .fields) ≤ 32
-fields-few s L h = rw (sized s L (h .placed) .fields) (counts-known s L h .fields)
+pub fields-few : (s : List ℕ) (L : Layout) → ProgramIsRead s L → L .fields ≤ mostFields
+fields-few s L h = counts-known s L h .fields
 
--- its five parts, stored one behind the other: c is the count of conjuncts, and the types are copied from ts
-module _ (types : List ℕ) (S : Conjuncts) (ts : List ℕ) (c : ℕ) (same : ts ≡ types) (count : c ≡ length S) where
+-- its five parts, stored one behind the other: c is the count of conjuncts, n that of fields, and the table has their bytes
+module _ (fields : List Field) (S : Conjuncts) (table : List ℕ) (n c : ℕ) (same : table ≡ flatMap fieldBytes fields) (listed : n ≡ length fields)
+    (count : c ≡ length S) where
   abbrev begin : ℕ
-  begin = conjunctsAt (length ts) c
+  begin = 8 + length table + 8 * c
 
-  pub file-stored : (o p q r s t : List ℕ) → p ≡ overlay o 0 (bytes4 c) → q ≡ overlay p 4 (bytes4 (length ts)) → r ≡ overlay q 8 ts
-      → s ≡ overlay r (8 + length ts) (pairBytes begin S) → t ≡ overlay s begin (flatMap conjunctBytes S) → t ≡ overlay o 0 (encode types S)
+  begins : begin ≡ conjunctsAt (length fields) (length S)
+  begins = omega (arith, ap length same, fields-size fields, count)
+
+  pub file-stored : (o p q r s t : List ℕ) → p ≡ overlay o 0 (bytes4 c) → q ≡ overlay p 4 (bytes4 n) → r ≡ overlay q 8 table
+      → s ≡ overlay r (8 + length table) (pairBytes begin S) → t ≡ overlay s begin (flatMap conjunctBytes S) → t ≡ overlay o 0 (encode fields S)
   unfolding encode
   file-stored o p q r s t e f g h k =
       let x = bytes4 c in
-      let y = bytes4 (length ts) in
-      let table = pairBytes begin S in
+      let y = bytes4 n in
+      let pairs = pairBytes begin S in
       let one : length x ≡ 4 = four-bytes c in
-      let two : length y ≡ 4 = four-bytes (length ts) in
+      let two : length y ≡ 4 = four-bytes n in
       let b = stored-then o p q x y 0 4 (omega arith) e f in
-      let d = stored-then o q r (x ++ y) ts 0 8 (simp length-append (omega arith)) b g in
-      let m = stored-then o r s (x ++ y ++ ts) table 0 (8 + length ts) (simp length-append (omega arith)) d h in
-      rw (← same, ← count)
-      (stored-then o s t (x ++ y ++ ts ++ table) (flatMap conjunctBytes S) 0 begin (simp length-append (omega (arith, table-size S begin))) m k)
+      let d = stored-then o q r (x ++ y) table 0 8 (simp length-append (omega arith)) b g in
+      let m = stored-then o r s (x ++ y ++ table) pairs 0 (8 + length table) (simp length-append (omega arith)) d h in
+      rw (← begins, ← same, ← listed, ← count)
+      (stored-then o s t (x ++ y ++ table ++ pairs) (flatMap conjunctBytes S) 0 begin (simp length-append (omega (arith, table-size S begin))) m k)

@@ -5,9 +5,10 @@ use mathlib.Core.Path.{_≡_}
 use Prim.Native.Nat.{ℕ, _+_, _*_, _≤_, _<_, _^_}
 use lib.ListN.{length}
 use Rattle.model.specs.Condition.{conjunctBytes, encode, conditionBytes}
+use Rattle.model.specs.Fields.{Field, typesIn}
 use Rattle.model.specs.Conjunct.{Conj, Conjuncts}
 use Rattle.model.specs.Lists.{All}
-use Rattle.model.specs.Sizes.{pairSize, mostFields, mostNodes, mostConjuncts, nodeSize, countsSize}
+use Rattle.model.specs.Sizes.{pairSize, fieldSize, mostFields, mostNodes, mostConjuncts, nodeSize, countsSize}
 use Rattle.model.specs.Formed.{size, FileNode, Formed}
 use Rattle.bytes_le.specs.Overlay.{overlay}
 use Rattle.program.specs.Reading.{ProgramIsRead, tablesOf}
@@ -24,9 +25,9 @@ pairsRoom = pairSize * mostConjuncts
 abbrev pub conjunctsRoom : ℕ
 conjunctsRoom = mostConjuncts * conjunctRoom
 
--- where the first conjunct begins at the latest: behind two counts, the types of the fields and the pairs
+-- where the first conjunct begins at the latest: behind two counts, the fields and the pairs
 abbrev pub lastBegin : ℕ
-lastBegin = countsSize + mostFields + pairsRoom
+lastBegin = countsSize + fieldSize * mostFields + pairsRoom
 
 -- room for a pair from a on, and the pair's numbers: where a conjunct begins, and how many nodes it has
 pub record PairFits (out : List ℕ) (a place n : ℕ) : Type 0 where
@@ -56,10 +57,10 @@ pub record Writable (program : List ℕ) (layout : Layout) (s : List ℕ) (b : �
   pub read : ProgramIsRead program layout
   pub region : b + regionWords ≤ length s
   pub room : conditionBytes ≤ length out
-  pub formed : All (Formed (tablesOf program .fields)) (setOf s b)
+  pub formed : All (Formed (typesIn (tablesOf program .fields))) (setOf s b)
 
 -- the file of a set is written, in r bytes
-pub record FileWritten (types : List ℕ) (S : Conjuncts) (before after : List ℕ) (r : ℕ) : Type 0 where
-  pub end : r ≡ length (encode types S)
+pub record FileWritten (fields : List Field) (S : Conjuncts) (before after : List ℕ) (r : ℕ) : Type 0 where
+  pub end : r ≡ length (encode fields S)
   pub most : r ≤ conditionBytes
-  pub bytes : after ≡ overlay before 0 (encode types S)
+  pub bytes : after ≡ overlay before 0 (encode fields S)

@@ -86,22 +86,22 @@ fn put_conjuncts(out: &mut [u8], a: usize, s: &[u64], b: usize, words: &mut [u64
     place
 }
 
-// The condition file of the set in the region at b of s, with the types of the program's fields;
-// how many bytes it has.
+// The condition file of the set in the region at b of s, with the program's fields; how many bytes
+// it has.
 pub fn write(program: &[u8], layout: Layout, s: &[u64], b: usize, out: &mut [u8]) -> usize
     requires { ⌜ Writable (now program) layout (now s) b (now out) ⌝ }
     ensures { λ r. ⌜
         FileWritten (tablesOf (now (program .entry)) .fields) (setOf (now (s .entry)) b) (now (out .entry)) (now (out .exit)) r
         ⌝ }
 {
-    let types = program::field_types(program, layout);
-    let fields = types.len();
+    let table = program::fields(program, layout);
+    let listed = table.len();
     let count = sets::size(s, b);
-    let begin = 8 + fields + 8 * count;
+    let begin = 8 + listed + 8 * count;
     bytes_le::put_u32(out, 0, count as u64);
-    bytes_le::put_u32(out, 4, fields as u64);
-    bytes_le::put_bytes(out, 8, types, fields);
-    put_pairs(out, 8 + fields, s, b, begin);
+    bytes_le::put_u32(out, 4, layout.fields as u64);
+    bytes_le::put_bytes(out, 8, table, listed);
+    put_pairs(out, 8 + listed, s, b, begin);
     let mut words: [u64; MOST_NODES] = [0; MOST_NODES];
     put_conjuncts(out, begin, s, b, &mut words)
 }

@@ -14,10 +14,13 @@
 
 use gate::{check, derive, run, scratch, Choices, Refusal, Verdict, CONDITION};
 use gate_oracle as plain;
-use gate_oracle::build::{call, constant, procedure, recipe, s};
+use gate_oracle::build::{call, constant, of_parts, procedure, recipe, s};
+use gate_oracle::fields::Field;
 use gate_oracle::generate::{self, Rng};
 use gate_oracle::nests::ROWS;
 use gate_oracle::procedures::MOST_WRITTEN;
+use gate_oracle::recipe::MOST_FIELDS;
+use gate_oracle::sheet::MOST_READINGS;
 use std::hint::black_box;
 use std::time::{Duration, Instant};
 
@@ -260,6 +263,12 @@ fn main() {
     checks("59 nodes, 4 atoms, 1,048,576 combinations", "node", all * 53.0, &tail(4, 59), &sheet(8, 32));
     checks("7 nodes, 4 atoms, 1,048,576 combinations", "combination", all, &tail(4, 7), &sheet(8, 32));
     checks("7 nodes, 4 atoms, 1 combination", "check", 1.0, &tail(4, 7), &sheet(8, 1));
+    for (name, bits) in [("all bits", 32), ("20 bits", 20)] {
+        let file = plain::condition::write(&[Field { ty: U32, bits }; MOST_FIELDS], &[]);
+        let sheet = of_parts(&vec![[7, 0, 0, 0].repeat(MOST_READINGS); MOST_FIELDS]);
+        let name = format!("32 fields u32 of {name} and 128 readings each, no conjunct");
+        compare(&name, "reading", 4_096.0, || check(&file, &sheet), || plain::check(&file, &sheet));
+    }
 
     heading("run");
     let few = sheet(4, 3);

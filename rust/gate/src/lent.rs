@@ -4,7 +4,10 @@ use crate::library;
 use crate::{Cause, Choices, Refusal, Verdict};
 
 /// The least length of a condition output: no condition file is longer.
-pub const CONDITION: usize = 61_992;
+pub const CONDITION: usize = 62_024;
+
+/// The least length of a recipe output: no recipe is longer.
+pub const RECIPE: usize = 8_416;
 
 /// Why a run ended.
 #[derive(Clone, Copy, Debug, PartialEq, Eq)]
@@ -98,6 +101,27 @@ pub fn derive(recipe: &[u8], condition: &mut [u8], scratch: &mut [u64]) -> Resul
             recipe.len(),
             condition.as_mut_ptr(),
             condition.len(),
+            scratch.as_mut_ptr(),
+            scratch.len(),
+        )
+    };
+    answer(word).map(size)
+}
+
+/// Writes a recipe of the form before document 02's Card 5 to the start of `recipe` in today's form, its fields with
+/// all bits of their types, and gives its length. What only [`derive()`] refuses, with 9 to 11, is converted.
+///
+/// # Errors
+/// [`Refusal::Room`] where `recipe` has under [`RECIPE`] bytes or `scratch` under [`scratch_words`]; then the refusals
+/// 2 to 8 and 16 of the old form.
+pub fn convert(old: &[u8], recipe: &mut [u8], scratch: &mut [u64]) -> Result<usize, Refusal> {
+    // SAFETY: as above.
+    let word = unsafe {
+        library::gate_convert(
+            old.as_ptr(),
+            old.len(),
+            recipe.as_mut_ptr(),
+            recipe.len(),
             scratch.as_mut_ptr(),
             scratch.len(),
         )

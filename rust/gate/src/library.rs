@@ -11,6 +11,14 @@ extern "C" {
         scratch: *mut u64,
         scratch_length: usize,
     ) -> u64;
+    pub fn gate_convert(
+        old: *const u8,
+        old_length: usize,
+        recipe: *mut u8,
+        recipe_length: usize,
+        scratch: *mut u64,
+        scratch_length: usize,
+    ) -> u64;
     pub fn gate_check(condition: *const u8, condition_length: usize, sheet: *const u8, sheet_length: usize) -> u64;
     pub fn gate_run(
         recipe: *const u8,

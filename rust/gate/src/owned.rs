@@ -1,7 +1,7 @@
 //! The calls with memory of their own.
 
-use crate::{derive, guarded, records, run, scratch};
-use crate::{Choices, End, Guarded, Ran, Record, Refusal, CONDITION, RECORD};
+use crate::{convert, derive, guarded, records, run, scratch};
+use crate::{Choices, End, Guarded, Ran, Record, Refusal, CONDITION, RECIPE, RECORD};
 
 /// A run: its end, the steps that it took and its records.
 #[derive(Clone, Debug, PartialEq, Eq)]
@@ -38,6 +38,17 @@ impl Gate {
     pub fn derive(&mut self, recipe: &[u8]) -> Result<Vec<u8>, Refusal> {
         let length = derive(recipe, &mut self.condition, &mut self.scratch)?;
         Ok(self.condition[..length].to_vec())
+    }
+
+    /// A recipe of the form before document 02's Card 5 in today's form.
+    ///
+    /// # Errors
+    /// The refusals 2 to 8 and 16 of the old form.
+    pub fn convert(&mut self, old: &[u8]) -> Result<Vec<u8>, Refusal> {
+        let mut recipe = vec![0; RECIPE];
+        let length = convert(old, &mut recipe, &mut self.scratch)?;
+        recipe.truncate(length);
+        Ok(recipe)
     }
 
     /// Runs the recipe on the sheet for at most `limit` steps and `most` records, whether or not it passes.

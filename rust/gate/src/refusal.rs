@@ -13,7 +13,7 @@ pub enum Refusal {
     RecipeTable,
     /// 3: a section has too many entries.
     Entries,
-    /// 4: a type code, a tray's length or its zero byte is wrong.
+    /// 4: a type code, a field's bits, a tray's length or its zero byte is wrong.
     Declaration,
     /// 5: a statement's kind, operand or unused byte is wrong.
     Statement,
@@ -31,7 +31,7 @@ pub enum Refusal {
     Loop,
     /// 12: the condition is damaged, or is no condition.
     Condition,
-    /// 13: the sheet is damaged, or belongs to another recipe.
+    /// 13: the sheet is damaged, has a reading beyond its bits, or belongs to another recipe.
     Sheet,
     /// 14: a conjunct has over 1,048,576 combinations of readings.
     Combinations,
@@ -81,7 +81,7 @@ impl Refusal {
             Refusal::Room => "too little room was lent",
             Refusal::RecipeTable => "the recipe's length or section table is wrong",
             Refusal::Entries => "a section has too many entries",
-            Refusal::Declaration => "a type code, a tray's length or its zero byte is wrong",
+            Refusal::Declaration => "a type code, a field's bits, a tray's length or its zero byte is wrong",
             Refusal::Statement => "a statement's kind, operand or unused byte is wrong",
             Refusal::Types => "types disagree",
             Refusal::Number => "a number does not fit its type",
@@ -90,7 +90,7 @@ impl Refusal {
             Refusal::Conjuncts => "there are over 64 expressions",
             Refusal::Loop => "a loop makes a value from its own earlier value",
             Refusal::Condition => "the condition is damaged, or is no condition",
-            Refusal::Sheet => "the sheet is damaged, or belongs to another recipe",
+            Refusal::Sheet => "the sheet is damaged, has a reading beyond its bits, or belongs to another recipe",
             Refusal::Combinations => "a conjunct has over 1,048,576 combinations of readings",
             Refusal::Blank => "a field that a conjunct reads has no readings",
             Refusal::Procedures => "a procedure is wrong, or the calls written out are too long or too deep",

@@ -5,9 +5,10 @@
 //! answer, a run the refusal 13, the analysis of nested loops and of procedures each of its answers, and a run of
 //! procedures each of its ends. A third of the recipes are nested loops of many rounds and a third have procedures;
 //! for these the independent implementation takes its shortcuts, which its own tests compare with the walk word by
-//! word. The refusals 13 are told apart by the first wrong pair, and the refusals 16 by their cause, which the
-//! independent implementation gives and the library does not; so are the refusals 8 that come before a 16. A case is
-//! its seed.
+//! word. The refusals 13 are told apart by the first wrong pair, or else whether a reading is beyond its bits, and the
+//! refusals 16 by their cause, which the independent implementation gives and the library does not; so are the refusals
+//! 8 that come before a 16. Each recipe, damaged or not, goes through the conversion too, as the recipe of the old form
+//! with the same parts. A case is its seed.
 
 #![allow(
     clippy::cast_possible_truncation,
@@ -18,13 +19,14 @@
 
 mod told;
 
-use gate::{check, derive, guarded, library, records, run, scratch, scratch_words};
-use gate::{Choices, Guarded, Ran, Refusal, CONDITION, RECORD};
+use gate::{check, convert, derive, guarded, library, records, run, scratch, scratch_words};
+use gate::{Choices, Guarded, Ran, Refusal, CONDITION, RECIPE, RECORD};
+use gate_oracle::fields::{whole, Field};
 use gate_oracle::generate::{self, Rng};
 use gate_oracle::loops::{loops, Size};
 use gate_oracle::procedures::Misuse;
 use gate_oracle::recipe::Recipe;
-use gate_oracle::sheet::first_wrong;
+use gate_oracle::sheet::{first_beyond, first_wrong};
 use gate_oracle::{calls, misuses, nests, Verdict};
 use std::collections::BTreeMap;
 use std::sync::atomic::{AtomicU64, Ordering};
@@ -36,29 +38,47 @@ const MARK: u8 = 0xA5;
 const ANSWERS: [&str; 6] = ["pass", "held too big", "held too small", "held no divisor", "refused 14", "refused 15"];
 
 /// The refusals 13 that must occur on all conditions and in runs.
-const REFUSALS_OF_SHEETS: [&str; 3] =
-    ["refused 13 at the first pair", "refused 13 at a later pair", "refused 13 at the file's end alone"];
+const REFUSALS_OF_SHEETS: [&str; 5] = [
+    "refused 13 at the first pair",
+    "refused 13 at a later pair",
+    "refused 13 at the file's end alone",
+    "refused 13 for a reading beyond its bits in the first field",
+    "refused 13 for a reading beyond its bits in a later field",
+];
+
+/// The answers that the conversion must give.
+const CONVERSIONS: [&str; 9] = [
+    "a recipe",
+    "refused 2",
+    "refused 3",
+    "refused 4",
+    "refused 5",
+    "refused 6",
+    "refused 7",
+    "refused 8",
+    "refused 16",
+];
 
 fn setting(name: &str, usual: u64) -> u64 {
     std::env::var(name).map_or(usual, |text| text.parse().unwrap())
 }
 
-/// The types of a recipe's fields, or else some types.
-fn field_types(recipe: &[u8]) -> Vec<u8> {
-    Recipe::read(recipe).map_or_else(|_| vec![2], |recipe| recipe.fields)
+/// A recipe's fields, or else some field.
+fn fields_of(recipe: &[u8]) -> Vec<Field> {
+    Recipe::read(recipe).map_or_else(|_| whole(&[2]), |recipe| recipe.fields)
 }
 
-/// The types that a condition lists, or else some types.
-fn listed_types(condition: &[u8]) -> Vec<u8> {
-    gate_oracle::condition::Condition::read(condition).map_or_else(|_| vec![2], |condition| condition.types)
+/// The fields that a condition lists, or else some field.
+fn listed_fields(condition: &[u8]) -> Vec<Field> {
+    gate_oracle::condition::Condition::read(condition).map_or_else(|_| whole(&[2]), |condition| condition.fields)
 }
 
-/// A sheet for some types; at times it is damaged, in any way or in its pairs.
-fn some_sheet(rng: &mut Rng, types: &[u8]) -> Vec<u8> {
-    let mut sheet = generate::sheet(rng, types);
+/// A sheet for some fields; at times it is damaged, in any way or in its pairs.
+fn some_sheet(rng: &mut Rng, fields: &[Field]) -> Vec<u8> {
+    let mut sheet = generate::sheet(rng, fields);
     match rng.below(100) {
         0..=2 => generate::damage(rng, &mut sheet),
-        3..=7 => generate::damage_pairs(rng, &mut sheet, types),
+        3..=7 => generate::damage_pairs(rng, &mut sheet, fields),
         _ => {}
     }
     sheet
@@ -74,12 +94,14 @@ fn some_loops(rng: &mut Rng) -> Vec<u8> {
     loops(rng, size)
 }
 
-/// The refusal 13 of a sheet for some types, with the place of what is wrong first.
-fn refused_sheet(sheet: &[u8], types: &[u8]) -> &'static str {
-    REFUSALS_OF_SHEETS[match first_wrong(sheet, types) {
-        Some(0) => 0,
-        Some(_) => 1,
-        None => 2,
+/// The refusal 13 of a sheet for some fields, with the place of what is wrong first.
+fn refused_sheet(sheet: &[u8], fields: &[Field]) -> &'static str {
+    REFUSALS_OF_SHEETS[match (first_wrong(sheet, fields), first_beyond(sheet, fields)) {
+        (Some(0), _) => 0,
+        (Some(_), _) => 1,
+        (None, None) => 2,
+        (None, Some(0)) => 3,
+        (None, Some(_)) => 4,
     }]
 }
 
@@ -106,6 +128,8 @@ struct Inputs {
     /// The cause of 16 that another refusal comes before.
     hidden: Option<Misuse>,
     recipe: Vec<u8>,
+    /// A recipe of the old form.
+    old: Vec<u8>,
     sheet: Vec<u8>,
     limit: u32,
     choices: Choices,
@@ -127,9 +151,10 @@ impl Inputs {
                 generate::damage(rng, &mut recipe);
             }
         }
-        let sheet = some_sheet(rng, &field_types(&recipe));
+        let sheet = some_sheet(rng, &fields_of(&recipe));
         let (limit, choices) = (generate::limit(rng), Choices::of_bytes(generate::choices(rng)));
-        Inputs { made, hidden, recipe, sheet, limit, choices }
+        let old = generate::old_recipe(rng, &recipe);
+        Inputs { made, hidden, recipe, old, sheet, limit, choices }
     }
 
     /// The condition as the other implementation has it.
@@ -197,6 +222,27 @@ impl Bench {
         expected
     }
 
+    /// The new form of an old recipe: the same file or the same refusal, and nothing else touched.
+    fn convert(&mut self, rng: &mut Rng, old: &[u8]) {
+        let mut recipe = vec![MARK; RECIPE + rng.below(17)];
+        let expected = gate_oracle::convert(old);
+        let answer = convert(old, &mut recipe, &mut self.scratch);
+        assert_eq!(expected.as_ref().map(Vec::len).map_err(|&number| number), answer.map_err(Refusal::number));
+        let written = expected.as_ref().map_or(&[][..], |file| file);
+        assert_eq!(&recipe[..written.len()], written);
+        assert!(untouched(&recipe[written.len()..]));
+        self.count("conversions", &expected.map_or_else(|number| format!("refused {number}"), |_| "a recipe".into()));
+    }
+
+    /// Too little room of a conversion is refused with 1, whatever the old recipe, and nothing is touched.
+    fn short_convert(&mut self, rng: &mut Rng, old: &[u8]) {
+        let mut recipe = vec![MARK; RECIPE];
+        let (room, words) = (RECIPE - 1 - rng.below(3), scratch_words() - 1 - rng.below(3));
+        assert_eq!(convert(old, &mut recipe[..room], &mut self.scratch), Err(Refusal::Room));
+        assert_eq!(convert(old, &mut recipe, &mut self.scratch[..words]), Err(Refusal::Room));
+        assert!(untouched(&recipe));
+    }
+
     /// Too little room is refused with 1, whatever the recipe, and nothing is touched.
     fn short(&mut self, rng: &mut Rng, recipe: &[u8]) {
         let (room, words) = (CONDITION - 1 - rng.below(3), scratch_words() - 1 - rng.below(3));
@@ -261,7 +307,7 @@ impl Bench {
         assert_eq!(expected, told(answer));
         let words = match answer {
             Ok(verdict) => verdict.to_string(),
-            Err(Refusal::Sheet) => refused_sheet(sheet, &listed_types(condition)).to_string(),
+            Err(Refusal::Sheet) => refused_sheet(sheet, &listed_fields(condition)).to_string(),
             Err(refusal) => format!("refused {}", refusal.number()),
         };
         self.count(conditions, &words);
@@ -325,15 +371,17 @@ impl Bench {
         let derived = self.derive(rng, &inputs);
         let verdict = derived.as_ref().ok().map(|condition| self.check("derived", condition, &inputs.sheet));
         match self.run(&inputs, length) {
-            Err(Refusal::Sheet) => self.count("runs", refused_sheet(&inputs.sheet, &field_types(&inputs.recipe))),
+            Err(Refusal::Sheet) => self.count("runs", refused_sheet(&inputs.sheet, &fields_of(&inputs.recipe))),
             Ok(ran) if inputs.made == Made::Procedures => {
                 self.count("runs of procedures", &format!("end {}", ran.end as u8));
             }
             _ => {}
         }
         self.guarded(&inputs, length, &derived, verdict);
+        self.convert(rng, &inputs.old);
         if seed.is_multiple_of(64) {
             self.short(rng, &inputs.recipe);
+            self.short_convert(rng, &inputs.old);
             for length in 0..3 * RECORD + 2 {
                 let _ = self.run(&inputs, length);
             }
@@ -346,7 +394,7 @@ impl Bench {
         if rng.chance(50) {
             generate::damage(rng, &mut condition);
         }
-        let sheet = some_sheet(rng, &listed_types(&condition));
+        let sheet = some_sheet(rng, &listed_fields(&condition));
         let _ = self.check("other", &condition, &sheet);
     }
 }
@@ -387,7 +435,8 @@ fn generated_cases() {
     let misused = misused.iter().flat_map(|answer| Misuse::ALL.map(|cause| format!("procedures: {answer}, {cause:?}")));
     let wrong = ["refused 5", "refused 6", "refused 8"].map(|answer| format!("procedures: {answer}"));
     let ends = (0..5).map(|end| format!("runs of procedures: end {end}"));
-    let of_recipes = walks.chain(misused).chain(wrong).chain(ends);
+    let conversions = CONVERSIONS.map(|answer| format!("conversions: {answer}"));
+    let of_recipes = walks.chain(misused).chain(wrong).chain(ends).chain(conversions);
     for answer in answers.chain(sheets).chain(of_recipes).chain(["other: refused 12".to_string()]) {
         assert!(tally.contains_key(&answer) || cases < 10_000, "{answer} never occurs");
     }

@@ -1,7 +1,7 @@
 //! The refusals and causes mean the same here, in docs/REFUSALS.md and in include/gate.h, and the sizes are the
 //! header's.
 
-use gate::{scratch_words, Cause, Refusal, CONDITION, RECORD};
+use gate::{scratch_words, Cause, Refusal, CONDITION, RECIPE, RECORD};
 use std::fs;
 
 fn lines(name: &str) -> Vec<String> {
@@ -55,6 +55,7 @@ fn the_header_has_the_sizes() {
     };
     assert_eq!(size("GATE_SCRATCH_WORDS"), scratch_words());
     assert_eq!(size("GATE_CONDITION_BYTES"), CONDITION);
+    assert_eq!(size("GATE_RECIPE_BYTES"), RECIPE);
     assert_eq!(size("GATE_RECORD_BYTES"), RECORD);
     assert_eq!(size("GATE_SHEET_BYTES"), size("GATE_MOST_FIELDS") * 8 * (1 + size("GATE_MOST_READINGS")));
 }

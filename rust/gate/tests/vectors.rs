@@ -7,9 +7,9 @@
     reason = "the numbers of a test are small, and values wrap to their types"
 )]
 
-use gate::{check, derive, run, scratch, Cause, Choices, Ran, Refusal, Verdict, CONDITION, RECORD};
+use gate::{check, convert, derive, run, scratch, Cause, Choices, Ran, Refusal, Verdict, CONDITION, RECIPE, RECORD};
 use gate_oracle::run::choice_file;
-use gate_oracle::vectors::{cases, is_answer, Case};
+use gate_oracle::vectors::{cases, Case};
 
 const MARK: u8 = 0xA5;
 
@@ -68,6 +68,22 @@ fn ran(case: &Case, scratch: &mut [u64]) -> String {
     }
 }
 
+/// The refusal of the case's old recipe, if any; else its new form is the stored one.
+fn converted(case: &Case, scratch: &mut [u64]) -> Option<String> {
+    let mut recipe = vec![MARK; RECIPE + 8];
+    match convert(&case.input("old"), &mut recipe, scratch) {
+        Ok(length) => {
+            assert_eq!(Some(&recipe[..length]), case.file("converted").as_deref(), "{}", case.name());
+            assert!(untouched(&recipe[length..]), "{}", case.name());
+            None
+        }
+        Err(refusal) => {
+            assert!(untouched(&recipe), "{}", case.name());
+            Some(refused(refusal))
+        }
+    }
+}
+
 #[test]
 fn all_cases() {
     let mut scratch = scratch();
@@ -75,10 +91,10 @@ fn all_cases() {
         assert_eq!(derived(&case, &mut scratch), case.derive, "{}", case.name());
         for (condition, answer) in [("condition", &case.gate), ("derived", &case.gate_on_derived)] {
             if let Some(expected) = answer {
-                let answer = verdict(&case, condition);
-                assert!(is_answer(expected, &answer), "{}: gate on .{condition}: {expected}, {answer}", case.name());
+                assert_eq!(&verdict(&case, condition), expected, "{}: gate on .{condition}", case.name());
             }
         }
         assert_eq!(ran(&case, &mut scratch), case.run, "{}", case.name());
+        assert_eq!(converted(&case, &mut scratch), case.convert, "{}", case.name());
     }
 }

@@ -1,13 +1,14 @@
 //! Recipes, conjuncts and sheets by their parts, for tests and benchmarks.
 
 use crate::condition::{node, READING};
+use crate::fields::{entries, whole};
 use crate::recipe::word;
 use crate::types::{ADD, CALL, CONSTANT, CONVERT, DIVIDE, MULTIPLY, PROCEDURE, SUBTRACT, TYPES};
 
-/// The recipe file of its four sections.
+/// The recipe file of its four sections; the fields have all bits of these types.
 #[must_use]
-pub fn recipe(fields: &[u8], variables: &[u8], trays: &[[u8; 4]], statements: &[[u8; 8]]) -> Vec<u8> {
-    of_parts(&[fields, variables, &trays.concat(), &statements.concat()])
+pub fn recipe(types: &[u8], variables: &[u8], trays: &[[u8; 4]], statements: &[[u8; 8]]) -> Vec<u8> {
+    of_parts(&[&entries(&whole(types)), variables, &trays.concat(), &statements.concat()])
 }
 
 /// The four sections of a recipe file whose table is right.

@@ -6,6 +6,7 @@
 
 use crate::blocks::DEEPEST;
 use crate::build::{self, call, constant, procedure, s};
+use crate::fields::ENTRY;
 use crate::generate::{self, Callable, Maker, Rng, Tables, ZERO};
 use crate::loops::{loops, Size};
 use crate::procedures::MOST_WRITTEN;
@@ -15,13 +16,14 @@ use crate::types::{ADD, CALL, COPY, ELSE, END, IF, READ, SITE, STORE, SUBTRACT, 
 
 const U32: u8 = 2;
 
-/// A recipe with procedures, biased to be accepted.
+/// A recipe with procedures, biased to be accepted; some fields are narrow.
 pub fn recipe(rng: &mut Rng) -> Vec<u8> {
-    match rng.below(100) {
+    let whole = match rng.below(100) {
         0..=69 => structured(rng),
         70..=94 => wrapped(rng),
         _ => at_a_limit(rng),
-    }
+    };
+    generate::narrowed(rng, &whole)
 }
 
 // ---- bodies that are made like recipes
@@ -171,9 +173,10 @@ fn wrapped(rng: &mut Rng) -> Vec<u8> {
         let size = Size { depth: rng.between(1, 3), body: rng.between(2, 5), chain: rng.between(2, 9) };
         loops(rng, size)
     } else {
-        generate::recipe(rng)
+        generate::whole_recipe(rng)
     };
     let [fields, own, trays, body] = build::sections(&whole);
+    let fields: Vec<u8> = fields.chunks_exact(ENTRY).map(|entry| entry[0]).collect();
     let parameters = rng.below(5).min(own.len());
     if own.len() + parameters + 1 > MOST_VARIABLES || body.len() / 8 + 20 > MOST_STATEMENTS {
         return whole;

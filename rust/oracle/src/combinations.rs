@@ -3,6 +3,7 @@
 
 use crate::build::of_parts;
 use crate::condition::{kind, node, write, READING};
+use crate::fields::whole;
 use crate::generate::Rng;
 use crate::types::{is_signed, width, ADD, CONSTANT, CONVERT, DIVIDE, MULTIPLY, SUBTRACT};
 
@@ -30,7 +31,7 @@ pub fn case(rng: &mut Rng) -> Case {
     let size = rng.between(2, 119);
     let ty = rng.pick(&fields.types);
     fields.expression(rng, ty, size, &mut nodes);
-    let condition = write(&fields.types, &[nodes]);
+    let condition = write(&whole(&fields.types), &[nodes]);
     Case { condition, sheet: fields.sheet(rng), combinations: fields.product }
 }
 

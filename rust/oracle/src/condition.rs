@@ -4,6 +4,7 @@
 //! 0 to 7, the type in 8 to 15, the field number in 16 to 31 and the immediate
 //! or n in 32 to 63.
 
+use crate::fields::{entries, of_entries, Field, ENTRY};
 use crate::recipe::{word, MOST_FIELDS};
 use crate::types::{immediate, is_signed, ADD, CONSTANT, CONVERT, DIVIDE, MULTIPLY, SUBTRACT, TYPES};
 use std::cmp::Ordering;
@@ -41,9 +42,9 @@ pub fn rest(node: u64) -> u32 {
     (node >> 32) as u32
 }
 
-/// A condition that was read: the types of its fields and its conjuncts.
+/// A condition that was read: its fields and its conjuncts.
 pub struct Condition {
-    pub types: Vec<u8>,
+    pub fields: Vec<Field>,
     pub conjuncts: Vec<Vec<u64>>,
 }
 
@@ -58,13 +59,13 @@ pub fn file_order(left: &[u64], right: &[u64]) -> Ordering {
 }
 
 /// The file of conjuncts that stand in file order.
-pub fn write(types: &[u8], conjuncts: &[Vec<u64>]) -> Vec<u8> {
+pub fn write(fields: &[Field], conjuncts: &[Vec<u64>]) -> Vec<u8> {
     let nodes: usize = conjuncts.iter().map(Vec::len).sum();
-    let table_end = 8 + types.len() + 8 * conjuncts.len();
+    let table_end = 8 + ENTRY * fields.len() + 8 * conjuncts.len();
     let mut file = Vec::with_capacity(table_end + 8 * nodes);
     file.extend((conjuncts.len() as u32).to_le_bytes());
-    file.extend((types.len() as u32).to_le_bytes());
-    file.extend(types);
+    file.extend((fields.len() as u32).to_le_bytes());
+    file.extend(entries(fields));
     let mut offset = table_end;
     for conjunct in conjuncts {
         file.extend((offset as u32).to_le_bytes());
@@ -89,21 +90,19 @@ fn read(bytes: &[u8]) -> Option<Condition> {
         return None;
     }
     let count = word(bytes, 0) as usize;
-    let fields = word(bytes, 4) as usize;
-    if count > MOST_CONJUNCTS || fields > MOST_FIELDS {
+    let number = word(bytes, 4) as usize;
+    if count > MOST_CONJUNCTS || number > MOST_FIELDS {
         return None;
     }
-    let types = bytes.get(8..8 + fields)?.to_vec();
-    if types.iter().any(|&ty| ty > 7) {
-        return None;
-    }
-    let mut start = 8 + fields + 8 * count;
+    let table = 8 + ENTRY * number;
+    let fields = of_entries(bytes.get(8..table)?)?;
+    let mut start = table + 8 * count;
     if start > bytes.len() {
         return None;
     }
     let mut conjuncts: Vec<Vec<u64>> = Vec::with_capacity(count);
     for i in 0..count {
-        let pair = 8 + fields + 8 * i;
+        let pair = table + 8 * i;
         let (offset, length) = (word(bytes, pair) as usize, word(bytes, pair + 4) as usize);
         if offset != start || length == 0 || length > 8 * MOST_NODES || length % 8 != 0 {
             return None;
@@ -112,7 +111,7 @@ fn read(bytes: &[u8]) -> Option<Condition> {
         start += length;
         let nodes = part.chunks_exact(8).map(|n| u64::from_le_bytes(n.try_into().unwrap()));
         let conjunct: Vec<u64> = nodes.collect();
-        if !well_formed(&conjunct, &types) {
+        if !well_formed(&conjunct, &fields) {
             return None;
         }
         if let Some(before) = conjuncts.last() {
@@ -122,11 +121,11 @@ fn read(bytes: &[u8]) -> Option<Condition> {
         }
         conjuncts.push(conjunct);
     }
-    (start == bytes.len()).then_some(Condition { types, conjuncts })
+    (start == bytes.len()).then_some(Condition { fields, conjuncts })
 }
 
 /// Whether nodes are one whole expression in the form of document 01.
-fn well_formed(nodes: &[u64], types: &[u8]) -> bool {
+fn well_formed(nodes: &[u64], fields: &[Field]) -> bool {
     let mut stack: Vec<u8> = Vec::with_capacity(nodes.len());
     let mut appeared = [0u32; MOST_FIELDS];
     for &n in nodes {
@@ -149,7 +148,7 @@ fn well_formed(nodes: &[u64], types: &[u8]) -> bool {
                 }
             }
             READING => {
-                if types.get(field(n)) != Some(&ty) {
+                if fields.get(field(n)).is_none_or(|field| field.ty != ty) {
                     return false;
                 }
                 let highest = &mut appeared[field(n)];

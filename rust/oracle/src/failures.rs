@@ -6,6 +6,7 @@
 
 use crate::build::of_parts;
 use crate::condition::{file_order, kind, node, rest, write, MOST_NODES, READING};
+use crate::fields::Field;
 use crate::gate::Verdict;
 use crate::generate::Rng;
 use crate::types::{width, Cause, ADD, CONSTANT, CONVERT, DIVIDE, MULTIPLY, SUBTRACT};
@@ -60,7 +61,7 @@ pub fn case(rng: &mut Rng) -> Case {
     let cause = conjuncts.iter().find_map(|&(_, cause)| cause);
     let nodes: Vec<Vec<u64>> = conjuncts.into_iter().map(|(nodes, _)| nodes).collect();
     Case {
-        condition: write(&vec![maker.ty; maker.fields.len()], &nodes),
+        condition: write(&vec![Field::whole(maker.ty); maker.fields.len()], &nodes),
         sheet: maker.sheet(),
         verdict: cause.map_or(Verdict::Pass, Verdict::Held),
     }

@@ -2,11 +2,13 @@
 
 use crate::build::{self, of_parts, s};
 use crate::condition::{self, file_order, node, MOST_NODES, READING};
+use crate::convert::OLD;
+use crate::fields::{entries, of_entries, types, Field, ENTRY};
 use crate::recipe::{word, MOST_STATEMENTS};
 use crate::sheet::MOST_READINGS;
 use crate::types::{
     immediate, is_signed, width, wrap, ADD, CALL, CONSTANT, CONVERT, COPY, DIVIDE, ELSE, END, IF, LOAD, MULTIPLY, READ,
-    SITE, STORE, SUBTRACT, TYPES, WHILE,
+    SITE, STORE, SUBTRACT, WHILE,
 };
 
 /// A small random generator (splitmix).
@@ -114,8 +116,14 @@ pub(crate) struct Maker<'a> {
     ranks: Vec<usize>,
 }
 
-/// A structured recipe with right tables, types and blocks, biased to be accepted.
+/// A structured recipe with right tables, types and blocks, biased to be accepted; some fields are narrow.
 pub fn recipe(rng: &mut Rng) -> Vec<u8> {
+    let whole = whole_recipe(rng);
+    narrowed(rng, &whole)
+}
+
+/// The same with all bits of the fields' types.
+pub(crate) fn whole_recipe(rng: &mut Rng) -> Vec<u8> {
     if rng.chance(6) {
         return recipe_at_a_limit(rng);
     }
@@ -221,7 +229,23 @@ fn sums_of_readings(rng: &mut Rng) -> Vec<u8> {
     write(&fields, &variables, &[], &statements)
 }
 
-/// The file of a recipe.
+/// A field of a type: half of them have fewer bits than it.
+fn field(rng: &mut Rng, ty: u8) -> Field {
+    let most = Field::whole(ty).bits;
+    let any = rng.between(1, most as usize) as u8;
+    let bits = if rng.chance(50) { most } else { rng.pick(&[1, 2, 4, any, any, most / 2, most - 1]) };
+    Field { ty, bits }
+}
+
+/// A recipe with other numbers of bits in its fields.
+pub(crate) fn narrowed(rng: &mut Rng, recipe: &[u8]) -> Vec<u8> {
+    let [fields, variables, trays, statements] = build::sections(recipe);
+    let fields = of_entries(&fields).expect("its fields are right");
+    let fields: Vec<Field> = fields.iter().map(|whole| field(rng, whole.ty)).collect();
+    of_parts(&[entries(&fields), variables, trays, statements])
+}
+
+/// The file of a recipe, whose fields have all bits of these types.
 pub(crate) fn write(fields: &[u8], variables: &[u8], trays: &[(u8, u16)], statements: &[[u8; 8]]) -> Vec<u8> {
     let trays: Vec<[u8; 4]> = trays.iter().map(|&(ty, length)| [ty, 0, length as u8, (length >> 8) as u8]).collect();
     build::recipe(fields, variables, &trays, statements)
@@ -290,7 +314,7 @@ impl<'a> Maker<'a> {
 
     fn set_constant(&mut self, a: usize) {
         let ty = self.variables[a];
-        let any = edge_or_small(self.rng, ty);
+        let any = edge_or_small(self.rng, Field::whole(ty));
         let value = if immediate(ty, any as u32) == Some(any) { any } else { self.rng.below(8) as u64 };
         self.push(CONSTANT, a, 0, 0, value as u32);
         self.values[a] = ZERO;
@@ -529,33 +553,73 @@ fn join(values: &mut [Guess], others: &[Guess]) {
     }
 }
 
-/// A held value of a type: mostly small, else near an edge, or any.
-fn edge_or_small(rng: &mut Rng, ty: u8) -> u64 {
-    let range = &TYPES[ty as usize];
-    match rng.below(20) {
+/// A held value of a field: mostly small, else near an edge, or any.
+fn edge_or_small(rng: &mut Rng, field: Field) -> u64 {
+    let (lowest, highest) = field.ends();
+    let value = match rng.below(20) {
         0..=13 => rng.below(8) as u64,
-        14 => range.highest - rng.below(3) as u64,
-        15 => wrap(ty, (range.lowest as u64).wrapping_add(rng.below(3) as u64)),
-        16 => wrap(ty, (rng.below(5) as u64).wrapping_neg()),
+        14 => (highest as u64).wrapping_sub(rng.below(3) as u64),
+        15 => (lowest as u64).wrapping_add(rng.below(3) as u64),
+        16 => (rng.below(5) as u64).wrapping_neg(),
         17 => {
             // Near the root of the highest value, or near a narrower type's edge.
-            let bits = rng.between(1, range.bits as usize - 1);
-            wrap(ty, (1u64 << bits).wrapping_add(rng.below(3) as u64).wrapping_sub(1))
+            let bits = rng.below(field.bits as usize);
+            (1u64 << bits).wrapping_add(rng.below(3) as u64).wrapping_sub(1)
         }
-        18 => rng.below(200) as u64 & range.highest,
-        _ => wrap(ty, rng.draw()),
+        18 => rng.below(200) as u64,
+        _ => rng.draw(),
+    };
+    field.kept(value)
+}
+
+/// A held value of a field's type that its bits do not hold: next to their ends, or any.
+fn beyond(rng: &mut Rng, field: Field) -> u64 {
+    let (lowest, highest) = field.ends();
+    let near = [(highest as u64).wrapping_add(1), (lowest as u64).wrapping_sub(1)];
+    let any = 1u64 << rng.between(field.bits as usize, Field::whole(field.ty).bits as usize - 1);
+    let found = wrap(field.ty, rng.pick(&[near[0], near[0], near[1], any]));
+    if field.holds(found) {
+        wrap(field.ty, near[0])
+    } else {
+        found
     }
 }
 
 /// Damages a file in one or two ways; some aim at the parts of a recipe.
 pub fn damage(rng: &mut Rng, bytes: &mut Vec<u8>) {
+    damage_form(rng, bytes, ENTRY);
+}
+
+/// Damages a file; some ways aim at the parts of a recipe whose fields have entries of this size.
+fn damage_form(rng: &mut Rng, bytes: &mut Vec<u8>, entry: usize) {
     for _ in 0..rng.pick(&[1, 1, 1, 2]) {
-        if is_recipe(bytes) && rng.chance(75) {
-            damage_recipe(rng, bytes);
+        if is_recipe(bytes, entry) && rng.chance(75) {
+            damage_recipe(rng, bytes, entry);
         } else {
             damage_bytes(rng, bytes);
         }
     }
+}
+
+/// A recipe of the old form, of the parts of a recipe that may be damaged; at times it is damaged as such, or has more
+/// fields than there may be, and so many statements that it is about as long as there may be.
+pub fn old_recipe(rng: &mut Rng, recipe: &[u8]) -> Vec<u8> {
+    if !is_recipe(recipe, ENTRY) {
+        return recipe.to_vec();
+    }
+    let [fields, variables, trays, mut statements] = build::sections(recipe);
+    let mut fields: Vec<u8> = fields.chunks_exact(ENTRY).map(|entry| entry[0]).collect();
+    if rng.chance(3) {
+        fields.resize(rng.between(31, 48), 2);
+        let room = OLD.longest - 32 - fields.len() - variables.len() - trays.len();
+        let site = s(SITE, 0, 0, 0);
+        (statements.len() / 8..room / 8).for_each(|_| statements.extend(site));
+    }
+    let mut old = of_parts(&[fields, variables, trays, statements]);
+    if rng.chance(25) {
+        damage_form(rng, &mut old, OLD.entry);
+    }
+    old
 }
 
 /// Flips, sets, cuts, extends, takes out or puts in bytes, or shifts a pair of the table.
@@ -587,13 +651,13 @@ fn damage_bytes(rng: &mut Rng, bytes: &mut Vec<u8>) {
     }
 }
 
-/// Whether the section table of a recipe is right.
-fn is_recipe(bytes: &[u8]) -> bool {
+/// Whether the section table of a recipe is right, with entries of fields of this size.
+fn is_recipe(bytes: &[u8], entry: usize) -> bool {
     let mut start = 32;
     bytes.len() >= 32
         && (0..4).all(|i| {
             let length = word(bytes, 8 * i + 4) as usize;
-            let right = word(bytes, 8 * i) as usize == start && length.is_multiple_of([1, 1, 4, 8][i]);
+            let right = word(bytes, 8 * i) as usize == start && length.is_multiple_of([entry, 1, 4, 8][i]);
             start += length;
             right
         })
@@ -602,7 +666,7 @@ fn is_recipe(bytes: &[u8]) -> bool {
 
 /// Damages one part of a recipe and leaves the rest right: its sections, entries,
 /// kinds, operands, types, immediates or blocks.
-fn damage_recipe(rng: &mut Rng, bytes: &mut Vec<u8>) {
+fn damage_recipe(rng: &mut Rng, bytes: &mut Vec<u8>, entry: usize) {
     let section = |bytes: &[u8], i: usize| {
         let offset = word(bytes, 8 * i) as usize;
         offset..offset + word(bytes, 8 * i + 4) as usize
@@ -618,31 +682,33 @@ fn damage_recipe(rng: &mut Rng, bytes: &mut Vec<u8>) {
             Some(rng.pick(&right))
         }
     };
-    let sizes = [1, 1, 4, 8];
-    match rng.below(13) {
+    let sizes = [entry, 1, 4, 8];
+    match rng.below(14) {
         // Too many entries, or just as many as are allowed.
         0 => {
             let i = rng.below(4);
             let most = [32, 64, 16, 1024][i];
             let entries = most + rng.below(2);
-            let entry: &[u8] = [&[2][..], &[2], &[2, 0, 1, 0], &[CONSTANT, 0, 0, 0, 1, 0, 0, 0]][i];
+            let another: &[u8] = [&[2, 160][..entry], &[2], &[2, 0, 1, 0], &[CONSTANT, 0, 0, 0, 1, 0, 0, 0]][i];
             while parts[i].len() < entries * sizes[i] {
-                parts[i].extend(entry);
+                parts[i].extend(another);
             }
         }
         // A length that is no multiple.
         1 => {
-            let i = rng.pick(&[2, 3]);
+            let i = rng.pick(&[0, 2, 3]);
             parts[i].push(0);
         }
         // A type code.
         2 => {
             let i = rng.pick(&[0, 1]);
             if !parts[i].is_empty() {
-                let at = rng.below(parts[i].len());
+                let at = sizes[i] * rng.below(parts[i].len() / sizes[i]);
                 parts[i][at] = rng.pick(&[0, 2, 4, 7, 8, 9, 255]);
             }
         }
+        // The bits of a field.
+        13 => damage_bits(rng, &mut parts[0], entry),
         // A tray.
         3 => {
             if parts[2].is_empty() {
@@ -705,14 +771,42 @@ fn damage_recipe(rng: &mut Rng, bytes: &mut Vec<u8>) {
     *bytes = of_parts(&parts);
 }
 
-/// A sheet in form: few or many readings, small ones and ones near the type's edges. At times some fields are
-/// blank, and more often so beside many readings, where a blank field and too many combinations meet.
-pub fn sheet(rng: &mut Rng, types: &[u8]) -> Vec<u8> {
+/// Gives an entry of a field table another second byte, right or wrong.
+fn damage_bits(rng: &mut Rng, entries: &mut [u8], entry: usize) {
+    if entry < ENTRY || entries.is_empty() {
+        return;
+    }
+    let at = entry * rng.below(entries.len() / entry);
+    let most = 128 + Field::whole(entries[at] & 7).bits;
+    entries[at + 1] = rng.pick(&[0, 1, 127, 128, 129, most, most + 1, most + 1, 193, 255]);
+}
+
+/// A sheet for fields: few or many readings, small ones and ones near the edges of their bits, and in one of twenty
+/// sheets one beyond the bits of a narrow field. At times some fields are blank, and more often so beside many
+/// readings, where a blank field and too many combinations meet.
+pub fn sheet(rng: &mut Rng, fields: &[Field]) -> Vec<u8> {
+    let mut columns = columns(rng, fields);
+    if rng.chance(5) {
+        let is_narrow = |&f: &usize| !fields[f].is_whole() && !columns[f].is_empty();
+        let narrow: Vec<usize> = (0..fields.len()).filter(is_narrow).collect();
+        if !narrow.is_empty() {
+            let f = rng.pick(&narrow);
+            let (width, count) = (width(fields[f].ty), columns[f].len() / width(fields[f].ty));
+            let any = rng.below(count);
+            let at = width * rng.pick(&[0, count - 1, any]);
+            columns[f][at..at + width].copy_from_slice(&beyond(rng, fields[f]).to_le_bytes()[..width]);
+        }
+    }
+    of_parts(&columns)
+}
+
+/// The bytes of each field's readings, all within their bits.
+fn columns(rng: &mut Rng, fields: &[Field]) -> Vec<Vec<u8>> {
     let tame = rng.chance(60);
     let many = rng.chance(8);
     let blank = rng.chance(if many { 50 } else { 20 });
-    let mut fields: Vec<Vec<u8>> = Vec::new();
-    for &ty in types {
+    let mut columns: Vec<Vec<u8>> = Vec::new();
+    for &field in fields {
         let count = match rng.below(40) {
             0..=33 => rng.between(1, 4),
             34..=36 => rng.between(5, 20),
@@ -723,19 +817,19 @@ pub fn sheet(rng: &mut Rng, types: &[u8]) -> Vec<u8> {
         let count = if blank && rng.chance(30) { 0 } else { count };
         let mut readings = Vec::new();
         for _ in 0..count {
-            let value = if tame { rng.below(5) as u64 } else { edge_or_small(rng, ty) };
-            readings.extend(&value.to_le_bytes()[..width(ty)]);
+            let value = if tame { field.kept(rng.below(5) as u64) } else { edge_or_small(rng, field) };
+            readings.extend(&value.to_le_bytes()[..width(field.ty)]);
         }
-        fields.push(readings);
+        columns.push(readings);
     }
-    of_parts(&fields)
+    columns
 }
 
-/// Damages a sheet for fields of the given types in one or two ways, each in a pair at any place or at the file's
-/// end. At times everything else follows, so that nothing but this pair is wrong.
-pub fn damage_pairs(rng: &mut Rng, bytes: &mut Vec<u8>, types: &[u8]) {
+/// Damages a sheet for fields in one or two ways, each in a pair at any place or at the file's end. At times
+/// everything else follows, so that nothing but this pair is wrong.
+pub fn damage_pairs(rng: &mut Rng, bytes: &mut Vec<u8>, fields: &[Field]) {
     for _ in 0..rng.pick(&[1, 1, 1, 2]) {
-        let pairs = types.len();
+        let pairs = fields.len();
         if pairs == 0 || bytes.len() < 8 * pairs || rng.chance(25) {
             damage_end(rng, bytes, pairs);
             continue;
@@ -745,7 +839,7 @@ pub fn damage_pairs(rng: &mut Rng, bytes: &mut Vec<u8>, types: &[u8]) {
         match rng.below(8) {
             0..=2 => damage_offset(rng, bytes, pairs, i),
             3 if pairs > 1 => exchange_pairs(bytes, i, (i + 1) % pairs),
-            _ => damage_length(rng, bytes, types, i),
+            _ => damage_length(rng, bytes, fields, i),
         }
     }
 }
@@ -785,9 +879,9 @@ fn exchange_pairs(bytes: &mut [u8], i: usize, j: usize) {
 /// Gives a pair another length: no whole number of readings, too many of them, one that runs past the file, a reading
 /// more or less, or a very long one. The pairs after it stay, or begin where it then ends. The file may then have as
 /// many bytes, unless it would become right or very long.
-fn damage_length(rng: &mut Rng, bytes: &mut Vec<u8>, types: &[u8], i: usize) {
+fn damage_length(rng: &mut Rng, bytes: &mut Vec<u8>, fields: &[Field], i: usize) {
     let (offset, before) = (word(bytes, 8 * i) as usize, word(bytes, 8 * i + 4) as usize);
-    let width = width(types[i]);
+    let width = width(fields[i].ty);
     let past = bytes.len().saturating_sub(offset) / width + 1;
     let (length, file_may_follow) = match rng.below(8) {
         0..=2 if width > 1 => (width * rng.below(MOST_READINGS + 1) + rng.between(1, width - 1), true),
@@ -799,7 +893,7 @@ fn damage_length(rng: &mut Rng, bytes: &mut Vec<u8>, types: &[u8], i: usize) {
     let by = length as i64 - before as i64;
     add(bytes, 8 * i + 4, by);
     if rng.chance(60) {
-        (i + 1..types.len()).for_each(|later| add(bytes, 8 * later, by));
+        (i + 1..fields.len()).for_each(|later| add(bytes, 8 * later, by));
         if file_may_follow && rng.chance(70) {
             move_end(bytes, by);
         }
@@ -817,9 +911,16 @@ fn move_end(bytes: &mut Vec<u8>, by: i64) {
     bytes.resize((bytes.len() as i64 + by).max(0) as usize, 0);
 }
 
-/// A made-up condition in form over any types; one in five is damaged.
+/// Any field.
+fn any_field(rng: &mut Rng) -> Field {
+    let ty = rng.below(8) as u8;
+    field(rng, ty)
+}
+
+/// A made-up condition in form over any fields; one in five is damaged, and in others the bits of a field are.
 pub fn condition(rng: &mut Rng) -> Vec<u8> {
-    let types: Vec<u8> = (0..rng.pick(&[0, 1, 2, 3, 4, 8, 32])).map(|_| rng.below(8) as u8).collect();
+    let fields: Vec<Field> = (0..rng.pick(&[0, 1, 2, 3, 4, 8, 32])).map(|_| any_field(rng)).collect();
+    let types = types(&fields);
     let count = rng.pick(&[0, 1, 1, 2, 3, 5, 12, 64]);
     let mut conjuncts: Vec<Vec<u64>> = Vec::new();
     for _ in 0..count {
@@ -837,9 +938,11 @@ pub fn condition(rng: &mut Rng) -> Vec<u8> {
         let copy = conjuncts[j].clone();
         conjuncts[i] = copy;
     }
-    let mut file = condition::write(&types, &conjuncts);
-    if rng.chance(20) {
-        damage(rng, &mut file);
+    let mut file = condition::write(&fields, &conjuncts);
+    match rng.below(100) {
+        0..=19 => damage(rng, &mut file),
+        20..=22 => damage_bits(rng, &mut file[8..8 + ENTRY * fields.len()], ENTRY),
+        _ => {}
     }
     file
 }
@@ -869,7 +972,7 @@ fn expression(rng: &mut Rng, types: &[u8], ty: u8, size: usize, highest: &mut [u
         nodes.push(node(READING, ty, field as u16, n));
         return;
     }
-    let any = edge_or_small(rng, ty);
+    let any = edge_or_small(rng, Field::whole(ty));
     let value = if immediate(ty, any as u32) == Some(any) { any } else { rng.below(8) as u64 };
     nodes.push(node(CONSTANT, ty, 0, value as u32));
 }

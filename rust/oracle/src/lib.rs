@@ -1,5 +1,5 @@
-//! The survey gate of document 01 and of document 02's Cards 1 to 4: recipe,
-//! condition, sheet, gate and run.
+//! The survey gate of document 01 and of document 02's Cards 1 to 5: recipe,
+//! condition, sheet, gate and run, and the conversion of old recipes.
 //!
 //! An independent implementation, written from the documents for differential
 //! tests and benchmarks. A refusal is the number of its cause in document 01's
@@ -24,7 +24,9 @@ pub mod calls;
 pub mod columns;
 pub mod combinations;
 pub mod condition;
+pub mod convert;
 pub mod failures;
+pub mod fields;
 pub mod gate;
 pub mod generate;
 pub mod loops;
@@ -40,6 +42,7 @@ pub mod vectors;
 pub mod whole;
 
 pub use bigint::BigInt;
+pub use convert::convert;
 pub use gate::Verdict;
 pub use run::{run, Ran};
 pub use types::Cause;

@@ -1,5 +1,6 @@
 //! The sheet reader, and the first wrong pair of a sheet.
 
+use crate::fields::Field;
 use crate::recipe::word;
 use crate::types::{width, wrap};
 
@@ -12,9 +13,19 @@ pub struct Sheet {
 }
 
 impl Sheet {
-    /// Reads a sheet for fields of the given types; everything out of form is 13.
-    pub fn read(bytes: &[u8], types: &[u8]) -> Result<Sheet, u8> {
-        read(bytes, types).ok_or(13)
+    /// Reads a sheet for fields; everything out of form is 13.
+    pub fn read(bytes: &[u8], fields: &[Field]) -> Result<Sheet, u8> {
+        let sheet = read(bytes, fields).ok_or(13)?;
+        match sheet.first_beyond(fields) {
+            None => Ok(sheet),
+            Some(_) => Err(13),
+        }
+    }
+
+    /// The first field with a reading that its bits do not hold.
+    fn first_beyond(&self, fields: &[Field]) -> Option<usize> {
+        let beyond = |&i: &usize| self.readings(i).iter().any(|&value| !fields[i].holds(value));
+        (0..fields.len()).find(|&i| !fields[i].is_whole() && beyond(&i))
     }
 
     /// The readings of a field.
@@ -34,15 +45,22 @@ impl Sheet {
     }
 }
 
-fn read(bytes: &[u8], types: &[u8]) -> Option<Sheet> {
-    let mut start = 8 * types.len();
+/// The first field with a reading beyond its bits, in a sheet that is else in form.
+#[must_use]
+pub fn first_beyond(bytes: &[u8], fields: &[Field]) -> Option<usize> {
+    read(bytes, fields)?.first_beyond(fields)
+}
+
+/// A sheet whose readings have all bits of their types.
+fn read(bytes: &[u8], fields: &[Field]) -> Option<Sheet> {
+    let mut start = 8 * fields.len();
     if start > bytes.len() {
         return None;
     }
-    let mut starts = Vec::with_capacity(types.len() + 1);
+    let mut starts = Vec::with_capacity(fields.len() + 1);
     starts.push(0);
     let mut sheet = Sheet { values: Vec::new(), starts };
-    for (i, &ty) in types.iter().enumerate() {
+    for (i, &Field { ty, .. }) in fields.iter().enumerate() {
         let (offset, length) = (word(bytes, 8 * i) as usize, word(bytes, 8 * i + 4) as usize);
         let width = width(ty);
         if offset != start || length % width != 0 || length / width > MOST_READINGS {
@@ -61,24 +79,25 @@ fn read(bytes: &[u8], types: &[u8]) -> Option<Sheet> {
     (start == bytes.len()).then_some(sheet)
 }
 
-/// The first wrong pair of a sheet for fields of the given types, as in document 02's Card 3, or nothing if all are
-/// right. The sheet is refused with 13 all the same if the last part does not end the file. Missing bytes count as 0,
+/// The first wrong pair of a sheet for fields, as in document 02's Card 3, or nothing if all are
+/// right. The sheet is refused with 13 all the same if the last part does not end the file, or a reading is beyond its
+/// bits. Missing bytes count as 0,
 /// so that pair 0 of a file shorter than its pairs is wrong: it begins elsewhere, or runs past the file.
 #[must_use]
-pub fn first_wrong(bytes: &[u8], types: &[u8]) -> Option<usize> {
-    (0..types.len())
-        .find(|&i| begins_elsewhere(bytes, types, i) || wrong_length(bytes, types, i) || runs_past(bytes, i))
+pub fn first_wrong(bytes: &[u8], fields: &[Field]) -> Option<usize> {
+    (0..fields.len())
+        .find(|&i| begins_elsewhere(bytes, fields, i) || wrong_length(bytes, fields[i], i) || runs_past(bytes, i))
 }
 
 /// Whether a pair does not begin where the one before ends, or pair 0 not where the pairs end.
-fn begins_elsewhere(bytes: &[u8], types: &[u8], i: usize) -> bool {
-    let due = if i == 0 { 8 * types.len() as u64 } else { end(bytes, i - 1) };
+fn begins_elsewhere(bytes: &[u8], fields: &[Field], i: usize) -> bool {
+    let due = if i == 0 { 8 * fields.len() as u64 } else { end(bytes, i - 1) };
     offset(bytes, i) != due
 }
 
 /// Whether a pair's length is no whole number of readings of its field, or more than there may be.
-fn wrong_length(bytes: &[u8], types: &[u8], i: usize) -> bool {
-    let width = width(types[i]) as u64;
+fn wrong_length(bytes: &[u8], field: Field, i: usize) -> bool {
+    let width = width(field.ty) as u64;
     !length(bytes, i).is_multiple_of(width) || length(bytes, i) > width * MOST_READINGS as u64
 }
 

@@ -113,7 +113,7 @@ impl Recipe {
         match s.kind {
             COPY => variable(s.a) == variable(s.b),
             ADD..=DIVIDE => variable(s.a) == variable(s.b) && variable(s.a) == variable(s.c),
-            READ => variable(s.a) == self.fields[s.b as usize],
+            READ => variable(s.a) == self.fields[s.b as usize].ty,
             LOAD => variable(s.a) == tray(s.b) && !is_signed(variable(s.c)),
             STORE => tray(s.a) == variable(s.c) && !is_signed(variable(s.b)),
             CALL => self.call_agrees(s),

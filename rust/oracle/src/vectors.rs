@@ -4,10 +4,10 @@ use std::fs;
 use std::path::{Path, PathBuf};
 
 /// The sets, by their folders' names.
-const SETS: [&str; 4] = ["base", "card-01", "card-02", "card-04"];
+const SETS: [&str; 1] = ["card-05"];
 
 /// A case: what it takes beside its files, and the answers. A gate's answer that is
-/// empty is none, and is not compared.
+/// empty is none, since there is no such condition.
 pub struct Case {
     folder: PathBuf,
     number: String,
@@ -16,6 +16,8 @@ pub struct Case {
     pub gate: Option<String>,
     pub gate_on_derived: Option<String>,
     pub run: String,
+    /// The refusal of the old recipe, if any.
+    pub convert: Option<String>,
 }
 
 impl Case {
@@ -35,6 +37,7 @@ impl Case {
             gate: given("gate on .condition"),
             gate_on_derived: given("gate on .derived"),
             run: column("run"),
+            convert: given("convert .old"),
         }
     }
 
@@ -58,12 +61,6 @@ impl Case {
     pub fn input(&self, ending: &str) -> Vec<u8> {
         self.file(ending).unwrap_or_else(|| panic!("{}: no {ending}", self.name()))
     }
-}
-
-/// Whether an answer is the expected one of a set. The sets before Card 2 say `held`, and nothing of the cause.
-#[must_use]
-pub fn is_answer(expected: &str, answer: &str) -> bool {
-    answer == expected || expected == "held" && answer.starts_with("held ")
 }
 
 /// The cases of the folder that VECTORS names, or else of all sets beside the packages.

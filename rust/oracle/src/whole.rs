@@ -141,7 +141,7 @@ fn trace(recipe: &[u8], sheet: &[u8], limit: u32, choices: &[u8], log_len: usize
                 let Some(choice) = choices.get(2 * reads..2 * reads + 2) else { break };
                 let choice = u16::from_le_bytes([choice[0], choice[1]]) as usize;
                 let held = readings[choice % readings.len()];
-                let given = Making::Given(number(recipe.fields[b], held));
+                let given = Making::Given(number(recipe.fields[b].ty, held));
                 variables[a] = Kept { held, making: trace.push(given) };
                 reads += 1;
             }

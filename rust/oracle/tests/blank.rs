@@ -2,6 +2,7 @@
 
 use gate_oracle::build::{conjunct, constant, recipe, s, sheet};
 use gate_oracle::condition::write;
+use gate_oracle::fields::whole;
 use gate_oracle::*;
 
 const U8: u8 = 0;
@@ -29,7 +30,7 @@ const ROWS: [Row; 11] = [
 
 fn condition(fields: usize, conjuncts: &[&str]) -> Vec<u8> {
     let conjuncts: Vec<Vec<u64>> = conjuncts.iter().map(|listed| conjunct(U8, listed)).collect();
-    write(&vec![U8; fields], &conjuncts)
+    write(&whole(&vec![U8; fields]), &conjuncts)
 }
 
 #[test]

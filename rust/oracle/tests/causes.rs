@@ -2,6 +2,7 @@
 
 use gate_oracle::build::{conjunct, of_parts};
 use gate_oracle::condition::write;
+use gate_oracle::fields::whole;
 use gate_oracle::types::width;
 use gate_oracle::Cause::{Above, Below, NoDivisor};
 use gate_oracle::*;
@@ -60,7 +61,7 @@ fn files(&(_, ty, conjuncts, readings, _): &Row) -> (Vec<u8>, Vec<u8>) {
         readings.iter().flat_map(|reading| reading.to_le_bytes()[..width(ty)].to_vec()).collect()
     };
     let fields: Vec<Vec<u8>> = readings.iter().map(bytes).collect();
-    (write(&vec![ty; fields.len()], &conjuncts), of_parts(&fields))
+    (write(&whole(&vec![ty; fields.len()]), &conjuncts), of_parts(&fields))
 }
 
 #[test]
@@ -77,7 +78,7 @@ fn the_first_failure() {
 #[test]
 fn refusals_hide_every_cause() {
     let conjuncts = ["255 1 add", "f0<1> f0<2> add f0<3> add"].map(|listed| conjunct(U8, listed));
-    let condition = write(&[U8], &conjuncts);
+    let condition = write(&whole(&[U8]), &conjuncts);
     for (readings, answer) in [(1, Ok(Verdict::Held(Above))), (128, Err(14)), (129, Err(13)), (0, Err(15))] {
         assert_eq!(check(&condition, &of_parts(&[vec![0; readings]])), answer, "{readings} readings");
     }

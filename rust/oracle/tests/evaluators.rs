@@ -9,6 +9,7 @@
 
 use gate_oracle::build::of_parts;
 use gate_oracle::condition::{kind, node, write, Condition, READING};
+use gate_oracle::fields::{whole, Field};
 use gate_oracle::generate::{self, Rng};
 use gate_oracle::recipe::Recipe;
 use gate_oracle::types::{immediate, width, wrap, ADD, CONSTANT, CONVERT, DIVIDE, MULTIPLY, SUBTRACT, TYPES};
@@ -37,8 +38,8 @@ fn sheet(fields: &[(u8, Vec<u64>)]) -> Vec<u8> {
     of_parts(&fields.iter().map(bytes).collect::<Vec<_>>())
 }
 
-fn types(fields: &[(u8, Vec<u64>)]) -> Vec<u8> {
-    fields.iter().map(|field| field.0).collect()
+fn entries(fields: &[(u8, Vec<u64>)]) -> Vec<Field> {
+    fields.iter().map(|field| Field::whole(field.0)).collect()
 }
 
 #[test]
@@ -69,8 +70,8 @@ fn generated_cases() {
     for seed in 1..=20_000 {
         let rng = &mut Rng::new(seed);
         let recipe = generate::recipe(rng);
-        let types = Recipe::read(&recipe).map_or_else(|_| vec![2], |recipe| recipe.fields);
-        let mut sheet = generate::sheet(rng, &types);
+        let fields = Recipe::read(&recipe).map_or_else(|_| whole(&[2]), |recipe| recipe.fields);
+        let mut sheet = generate::sheet(rng, &fields);
         if rng.chance(3) {
             generate::damage(rng, &mut sheet);
         }
@@ -78,8 +79,8 @@ fn generated_cases() {
             let _ = same(&condition, &sheet, seed);
         }
         let condition = generate::condition(rng);
-        let types = Condition::read(&condition).map_or_else(|_| vec![2], |condition| condition.types);
-        let _ = same(&condition, &generate::sheet(rng, &types), seed);
+        let fields = Condition::read(&condition).map_or_else(|_| whole(&[2]), |condition| condition.fields);
+        let _ = same(&condition, &generate::sheet(rng, &fields), seed);
     }
 }
 
@@ -110,8 +111,9 @@ fn operations_at_the_edges() {
         let zero = node(CONSTANT, ty, 0, 0);
         for (left, right) in edges(ty).iter().flat_map(|&x| edges(ty).into_iter().map(move |y| (x, y))) {
             for kind in KINDS {
-                let plain = write(&[ty; 2], &[vec![atom(0), atom(1), op(kind)]]);
-                let results = write(&[ty; 2], &[vec![atom(0), zero, op(ADD), atom(1), zero, op(ADD), op(kind)]]);
+                let plain = write(&whole(&[ty; 2]), &[vec![atom(0), atom(1), op(kind)]]);
+                let results =
+                    write(&whole(&[ty; 2]), &[vec![atom(0), zero, op(ADD), atom(1), zero, op(ADD), op(kind)]]);
                 let shapes =
                     [(vec![left; 2], vec![right; 3]), (vec![left; 9], vec![right]), (vec![left], vec![right; 9])];
                 for (x, y) in shapes {
@@ -131,7 +133,7 @@ fn operations_at_the_edges() {
 fn conversions_at_the_edges() {
     for (from, to) in (0..8u8).flat_map(|from| (0..8u8).map(move |to| (from, to))) {
         let nodes = vec![node(READING, from, 0, 1), node(CONVERT, to, 0, 0)];
-        let condition = write(&[from], &[nodes]);
+        let condition = write(&whole(&[from]), &[nodes]);
         for (x, y) in edges(from).iter().flat_map(|&x| edges(from).into_iter().map(move |y| (x, y))) {
             let _ = same(&condition, &sheet(&[(from, vec![x, y, x])]), format!("{x} and {y}, {from} to {to}"));
         }
@@ -187,7 +189,7 @@ fn conjuncts_at_the_edges() {
         let mut nodes = Vec::new();
         let (ty, size) = (fields[0].0, rng.between(2, 9));
         expression(rng, &fields, ty, size, &mut nodes);
-        let verdict = same(&write(&types(&fields), &[nodes]), &sheet(&fields), seed);
+        let verdict = same(&write(&entries(&fields), &[nodes]), &sheet(&fields), seed);
         *tally.entry(format!("{verdict:?}")).or_default() += 1;
     }
     println!("{tally:?}");
@@ -240,10 +242,10 @@ fn no_combination_is_passed_over() {
         (1..leaves.len()).for_each(|i| leaves.swap(i, rng.below(i + 1)));
         let mut nodes = Vec::new();
         sum(rng, &leaves, &mut nodes);
-        let (types, sheet) = (types(&fields), sheet(&fields));
-        answers(&write(&types, &[nodes.clone()]), &sheet, Ok(Verdict::Pass), seed);
+        let (entries, sheet) = (entries(&fields), sheet(&fields));
+        answers(&write(&entries, &[nodes.clone()]), &sheet, Ok(Verdict::Pass), seed);
         let constant = nodes.iter_mut().find(|n| kind(**n) == CONSTANT).unwrap();
         *constant = node(CONSTANT, 0, 0, 256 - highest);
-        answers(&write(&types, &[nodes]), &sheet, Ok(Verdict::Held(Cause::Above)), seed);
+        answers(&write(&entries, &[nodes]), &sheet, Ok(Verdict::Held(Cause::Above)), seed);
     }
 }

@@ -1,6 +1,7 @@
 //! Generated cases: the implementation must be coherent with itself.
 
 use gate_oracle::condition::Condition;
+use gate_oracle::fields::{whole, Field};
 use gate_oracle::gate::reads_blank;
 use gate_oracle::generate::{self, Rng};
 use gate_oracle::sheet::Sheet;
@@ -13,12 +14,9 @@ const CASES: u64 = 20_000;
 /// Whole numbers longer than this are not worked out.
 const MOST_BITS: u64 = 50_000;
 
-/// The field types of a recipe whose table is right, or else some types.
-fn field_types(recipe: &[u8]) -> Vec<u8> {
-    match recipe::Recipe::read(recipe) {
-        Ok(recipe) => recipe.fields,
-        Err(_) => vec![2],
-    }
+/// The fields of a recipe that is read, or else some fields.
+fn fields_of(recipe: &[u8]) -> Vec<Field> {
+    recipe::Recipe::read(recipe).map_or_else(|_| whole(&[2]), |recipe| recipe.fields)
 }
 
 /// A log's 8 bytes as the number they give.
@@ -34,11 +32,11 @@ fn logged(recipe: &[u8], label: u16, bytes: &[u8]) -> BigInt {
 
 /// The gate's answer on the conjuncts that read no blank field, or nothing if no field is blank.
 fn on_the_others(condition: &[u8], sheet: &[u8]) -> Option<Result<Verdict, u8>> {
-    let Condition { types, mut conjuncts } = Condition::read(condition).ok()?;
-    let read = Sheet::read(sheet, &types).ok()?;
-    (0..types.len()).find(|&field| read.readings(field).is_empty())?;
+    let Condition { fields, mut conjuncts } = Condition::read(condition).ok()?;
+    let read = Sheet::read(sheet, &fields).ok()?;
+    (0..fields.len()).find(|&field| read.readings(field).is_empty())?;
     conjuncts.retain(|conjunct| !reads_blank(conjunct, &read));
-    Some(check(&condition::write(&types, &conjuncts), sheet))
+    Some(check(&condition::write(&fields, &conjuncts), sheet))
 }
 
 /// What to count of the gate's answer: itself, and with a blank field what else it could have been.
@@ -82,8 +80,7 @@ fn coherent() {
         } else if damaged {
             generate::damage(rng, &mut recipe);
         }
-        let types = field_types(&recipe);
-        let mut sheet = generate::sheet(rng, &types);
+        let mut sheet = generate::sheet(rng, &fields_of(&recipe));
         if rng.chance(3) {
             generate::damage(rng, &mut sheet);
         }
@@ -177,15 +174,15 @@ fn conditions() {
     for case in 0..CASES {
         let rng = &mut Rng::new(1_000_000 + case);
         let file = generate::condition(rng);
-        let types = match condition::Condition::read(&file) {
+        let fields = match condition::Condition::read(&file) {
             Ok(condition) => {
                 // What was read writes back to the same bytes.
-                assert_eq!(condition::write(&condition.types, &condition.conjuncts), file);
-                condition.types
+                assert_eq!(condition::write(&condition.fields, &condition.conjuncts), file);
+                condition.fields
             }
-            Err(_) => vec![2],
+            Err(_) => whole(&[2]),
         };
-        let mut sheet = generate::sheet(rng, &types);
+        let mut sheet = generate::sheet(rng, &fields);
         if rng.chance(10) {
             generate::damage(rng, &mut sheet);
         }

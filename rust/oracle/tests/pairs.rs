@@ -1,8 +1,9 @@
 //! Card 3 of document 02: the first wrong pair of a sheet.
 
 use gate_oracle::build::of_parts;
+use gate_oracle::fields::whole;
 use gate_oracle::generate::{self, Rng};
-use gate_oracle::sheet::{first_wrong, Sheet, MOST_READINGS};
+use gate_oracle::sheet::{self, Sheet, MOST_READINGS};
 use gate_oracle::types::width;
 use std::collections::BTreeMap;
 
@@ -63,7 +64,12 @@ fn file(pairs: &[(u32, u32)], length: usize) -> Vec<u8> {
 
 /// The refusal of a sheet, if any.
 fn refusal(bytes: &[u8], types: &[u8]) -> Option<u8> {
-    Sheet::read(bytes, types).err()
+    Sheet::read(bytes, &whole(types)).err()
+}
+
+/// The first wrong pair of a sheet for fields with all bits of these types.
+fn first_wrong(bytes: &[u8], types: &[u8]) -> Option<usize> {
+    sheet::first_wrong(bytes, &whole(types))
 }
 
 #[test]
@@ -118,11 +124,11 @@ fn in_turn(bytes: &[u8], types: &[u8]) -> Result<usize, (usize, Vec<&'static str
 fn generated(rng: &mut Rng) -> (Vec<u8>, Vec<u8>) {
     let palette = rng.pick(&[&[0, 1, 2, 3, 4, 5, 6, 7][..], &[0, 4], &[1, 6], &[3, 7]]);
     let types: Vec<u8> = (0..rng.pick(&[0, 1, 2, 3, 3, 4, 6, 32])).map(|_| rng.pick(palette)).collect();
-    let mut sheet = generate::sheet(rng, &types);
+    let mut sheet = generate::sheet(rng, &whole(&types));
     match rng.below(8) {
         0 => {}
         1 | 2 => generate::damage(rng, &mut sheet),
-        _ => generate::damage_pairs(rng, &mut sheet, &types),
+        _ => generate::damage_pairs(rng, &mut sheet, &whole(&types)),
     }
     (sheet, types)
 }

@@ -10,6 +10,7 @@
 )]
 
 use gate_oracle::condition::{field, kind, rest, ty, Condition};
+use gate_oracle::fields::Field;
 use gate_oracle::generate::{self, Rng};
 use gate_oracle::types::*;
 use gate_oracle::*;
@@ -144,7 +145,7 @@ impl Tree {
         match self {
             Tree::Constant(ty, n) if *ty < 4 => format!("{n}:{}", name(*ty)),
             Tree::Constant(ty, n) => format!("{}:{}", *n as i32, name(*ty)),
-            Tree::Reading(f, n) => format!("f{f}<{n}>:{}", name(recipe.fields[*f as usize])),
+            Tree::Reading(f, n) => format!("f{f}<{n}>:{}", name(recipe.fields[*f as usize].ty)),
             Tree::Step(kind, ty, left, right) => {
                 let word = ["add", "sub", "mul", "div"][*kind as usize - 2];
                 format!("{} {} {word}:{}", left.text(recipe), right.text(recipe), name(*ty))
@@ -338,7 +339,7 @@ fn analysis() {
 }
 
 /// The readings of each field.
-fn readings(types: &[u8], sheet: &[u8]) -> Vec<Vec<i128>> {
+fn readings(fields: &[Field], sheet: &[u8]) -> Vec<Vec<i128>> {
     let number_at = |at: usize| u32::from_le_bytes(sheet[at..at + 4].try_into().unwrap()) as usize;
     let reading = |ty: u8, bytes: &[u8]| {
         let value = bytes.iter().rev().fold(0, |sum, &byte| sum << 8 | i128::from(byte));
@@ -349,11 +350,21 @@ fn readings(types: &[u8], sheet: &[u8]) -> Vec<Vec<i128>> {
             value
         }
     };
-    let of_field = |(f, &ty): (usize, &u8)| {
+    let of_field = |(f, &Field { ty, .. }): (usize, &Field)| {
         let part = &sheet[number_at(8 * f)..number_at(8 * f) + number_at(8 * f + 4)];
         part.chunks_exact([1, 2, 4, 8][ty as usize % 4]).map(|bytes| reading(ty, bytes)).collect()
     };
-    types.iter().enumerate().map(of_field).collect()
+    fields.iter().enumerate().map(of_field).collect()
+}
+
+/// Whether two's complement of its field's bits holds a reading, or the bits themselves where the type is unsigned.
+fn in_bits(field: Field, reading: i128) -> bool {
+    let power = |exponent: u8| (0..exponent).fold(1, |power, _| 2 * power);
+    if field.ty < 4 {
+        0 <= reading && reading < power(field.bits)
+    } else {
+        -power(field.bits - 1) <= reading && reading < power(field.bits - 1)
+    }
 }
 
 /// The different atoms of a conjunct by first appearance, and the number of readings of each.
@@ -443,7 +454,10 @@ fn first_failure(conjunct: &[u64], atoms: &[(u64, usize)], readings: &[Vec<i128>
 
 /// The gate's answer by counting through all combinations, or nothing if these are many.
 fn plain_gate(condition: &Condition, sheet: &[u8], order: Order) -> Option<Result<Verdict, u8>> {
-    let readings = readings(&condition.types, sheet);
+    let readings = readings(&condition.fields, sheet);
+    if condition.fields.iter().zip(&readings).any(|(&field, of_field)| !of_field.iter().all(|&z| in_bits(field, z))) {
+        return Some(Err(13));
+    }
     let mut conjuncts: Vec<(&[u64], Atoms)> =
         condition.conjuncts.iter().map(|conjunct| (&conjunct[..], atoms(conjunct, &readings))).collect();
     if order == Order::ConjunctsBackward {
@@ -470,7 +484,7 @@ fn files(rng: &mut Rng) -> Option<(Vec<u8>, Vec<u8>)> {
         place => {
             let recipe = generate::recipe(rng);
             let file = if place < 5 { Ok(generate::condition(rng)) } else { derive(&recipe) }.ok()?;
-            let sheet = generate::sheet(rng, &Condition::read(&file).ok()?.types);
+            let sheet = generate::sheet(rng, &Condition::read(&file).ok()?.fields);
             Some((file, sheet))
         }
     }
@@ -481,7 +495,7 @@ fn files(rng: &mut Rng) -> Option<(Vec<u8>, Vec<u8>)> {
 fn gate() {
     let mut tally: BTreeMap<String, usize> = BTreeMap::new();
     let mut count = |what: String| *tally.entry(what).or_default() += 1;
-    for case in 0..12_000 {
+    for case in 0..16_000 {
         let Some((file, sheet)) = files(&mut Rng::new(9_000_000 + case)) else { continue };
         let condition = Condition::read(&file).unwrap();
         let Some(answer) = plain_gate(&condition, &sheet, Order::Right) else { continue };
@@ -494,7 +508,7 @@ fn gate() {
         }
     }
     println!("{tally:?}");
-    let answers = ["Ok(Pass)", "Ok(Held(Above))", "Ok(Held(Below))", "Ok(Held(NoDivisor))", "Err(15)"];
+    let answers = ["Ok(Pass)", "Ok(Held(Above))", "Ok(Held(Below))", "Ok(Held(NoDivisor))", "Err(13)", "Err(15)"];
     let differs = WRONG_ORDERS.map(|order| format!("{order:?} differs"));
     for what in answers.into_iter().chain(differs.iter().map(String::as_str)) {
         assert!(tally.get(what).is_some_and(|&times| times > 50), "{what} is rare");

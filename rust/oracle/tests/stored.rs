@@ -1,5 +1,5 @@
-//! The stored cases of the program `cases`: what its parts `analysing` and `running` are to print is what the
-//! independent implementation answers.
+//! The stored cases of the program `cases`: what its parts `analysing`, `filtering`, `running` and `converting` are to
+//! print is what the independent implementation answers.
 
 use gate_oracle::run::choice_file;
 use gate_oracle::*;
@@ -10,6 +10,9 @@ const CRATE: &str = "../../crates/cases";
 
 /// What a case asks, as bits.
 const ANALYSING: u8 = 2;
+const MADE_UP: u8 = 4;
+const DERIVED: u8 = 8;
+const CONVERTING: u8 = 16;
 const RUNNING: u8 = 32;
 const NOTES: u8 = 64;
 const ZERO_LIMIT: u8 = 128;
@@ -33,6 +36,29 @@ fn analysed(number: usize) -> String {
         assert_eq!(condition, file(number, "derived"), "{number:03}");
     }
     format!("{number:03}\n{}", listing(&recipe))
+}
+
+/// The verdict on a case's sheet under its condition of a kind.
+fn judged(number: usize, kind: &str) -> String {
+    let answer = match check(&file(number, kind), &file(number, "sheet")) {
+        Ok(Verdict::Pass) => "pass".to_string(),
+        Ok(Verdict::Held(Cause::Above)) => "held too big".to_string(),
+        Ok(Verdict::Held(Cause::Below)) => "held too small".to_string(),
+        Ok(Verdict::Held(Cause::NoDivisor)) => "held no divisor".to_string(),
+        Err(refusal) => format!("refused {refusal}"),
+    };
+    format!("{number:03} {kind} {answer}\n")
+}
+
+/// The new form of a case's old recipe is the stored one.
+fn converted(number: usize) -> String {
+    match convert(&file(number, "old")) {
+        Ok(new) => {
+            assert_eq!(new, file(number, "converted"), "{number:03}");
+            format!("{number:03} converted {}\n", new.len())
+        }
+        Err(refusal) => format!("{number:03} refused {refusal}\n"),
+    }
 }
 
 /// The run of a case, with a log of some length.
@@ -61,9 +87,10 @@ fn ran(number: usize, asks: u8, room: usize) -> String {
 }
 
 #[test]
-fn analysing_and_running() {
+fn all_cases() {
     let printed = fs::read_to_string(format!("{CRATE}/stdout")).unwrap();
-    let (mut analysing, mut running) = (String::new(), String::new());
+    let (mut analysing, mut running, mut converting) = (String::new(), String::new(), String::new());
+    let mut filtering = String::new();
     let cases = (0..1_000).take_while(|number| fs::exists(format!("{CRATE}/data/{number:03}.case")).unwrap());
     let mut count = 0;
     for number in cases {
@@ -72,13 +99,24 @@ fn analysing_and_running() {
         if asks & ANALYSING != 0 {
             analysing += &analysed(number);
         }
+        if asks & MADE_UP != 0 {
+            filtering += &judged(number, "condition");
+        }
+        if asks & DERIVED != 0 {
+            filtering += &judged(number, "derived");
+        }
         if asks & RUNNING != 0 {
             running += &ran(number, asks, room);
+        }
+        if asks & CONVERTING != 0 {
+            converting += &converted(number);
         }
         count += 1;
     }
     compare(&analysing, part(&printed, "analysing", Some("filtering")));
-    compare(&running, part(&printed, "running", None));
+    compare(&filtering, part(&printed, "filtering", Some("running")));
+    compare(&running, part(&printed, "running", Some("converting")));
+    compare(&converting, part(&printed, "converting", None));
     println!("{count} cases agree");
 }
 

@@ -1,7 +1,7 @@
 //! The outside vectors: every answer and every output byte.
 
 use gate_oracle::run::choice_file;
-use gate_oracle::vectors::{cases, is_answer, Case};
+use gate_oracle::vectors::{cases, Case};
 use gate_oracle::*;
 
 /// A case, and the answers of it that differ from the expected ones.
@@ -42,9 +42,7 @@ impl Compared<'_> {
             Ok(Verdict::Held(Cause::NoDivisor)) => "held divisor".to_string(),
             Err(number) => format!("refused {number}"),
         };
-        if !is_answer(expected, &answer) {
-            self.compare(&format!("gate on .{ending}"), expected, &answer);
-        }
+        self.compare(&format!("gate on .{ending}"), expected, &answer);
     }
 
     fn run(&mut self, recipe: &[u8], sheet: &[u8], limit: u32, choices: &[u8]) {
@@ -63,12 +61,15 @@ impl Compared<'_> {
         self.compare("written bytes", &written.to_string(), &(12 * records).to_string());
     }
 
-    /// The whole-number run. An empty file beside a log with records is no answer, since a line is due for
-    /// each record; the README of the vectors says why it is empty.
+    fn convert(&mut self) {
+        let answer = convert(&self.case.input("old"));
+        let refusal = answer.as_ref().err().map(|number| format!("refused {number}"));
+        self.compare("convert", &format!("{:?}", self.case.convert), &format!("{refusal:?}"));
+        self.compare("converted bytes", &format!("{:?}", self.case.file("converted")), &format!("{:?}", answer.ok()));
+    }
+
+    /// The whole-number run.
     fn whole(&mut self, recipe: &[u8], sheet: &[u8], limit: u32, choices: &[u8]) {
-        if self.case.input("whole").is_empty() && self.case.file("log").is_some_and(|log| !log.is_empty()) {
-            return;
-        }
         let text = match whole_run(recipe, sheet, limit, choices, self.case.log_length) {
             Ok(notes) => {
                 let lines: Vec<String> =
@@ -91,6 +92,7 @@ fn differences(case: &Case) -> Vec<String> {
     compared.gate("derived", case.gate_on_derived.as_ref(), &sheet);
     compared.run(&recipe, &sheet, limit, choices);
     compared.whole(&recipe, &sheet, limit, choices);
+    compared.convert();
     compared.found
 }
 

@@ -7,11 +7,14 @@ use Rattle.condition.specs.Answers.{partNodes}
 use Rattle.condition.proofs.conjunct.Statement.{statement}
 use Rattle.condition.proofs.conjunct.Tie as tie
 
+mul-part-at : tie.Need-mul-part-at
+mul-part-at c = omega (arith, counted-read (c .before .args .condition .now) (c .before .args .counts) (c .before .pre .0) .table)
+
 add-part-at : tie.Need-add-part-at
 add-part-at c = omega (arith, counted-read (c .before .args .condition .now) (c .before .args .counts) (c .before .pre .0) .table)
 
-mul-part-at : tie.Need-mul-part-at
-mul-part-at c = omega (arith, counted-read (c .before .args .condition .now) (c .before .args .counts) (c .before .pre .0) .table)
+mul-part-at-2 : tie.Need-mul-part-at-2
+mul-part-at-2 c = omega (arith, counted-read (c .before .args .condition .now) (c .before .args .counts) (c .before .pre .0) .table)
 
 add-part-at-2 : tie.Need-add-part-at-2
 add-part-at-2 c = omega (arith, counted-read (c .before .args .condition .now) (c .before .args .counts) (c .before .pre .0) .table)
@@ -34,4 +37,4 @@ returns c =
     }
 
 pub conjunct-spec : {M : Type 1} → statement M
-conjunct-spec = tie.close (tie.spec add-part-at mul-part-at add-part-at-2 part-at-requires returns)
+conjunct-spec = tie.close (tie.spec mul-part-at add-part-at mul-part-at-2 add-part-at-2 part-at-requires returns)

@@ -5,7 +5,9 @@ use Prim.Native.Nat.{ℕ, _-_, _/_, _≤_, _<_}
 use native.Mathlib.Omega.{arith}
 use lib.ListN.{length, length-set}
 use Rattle.model.specs.Sizes.{nodeSize, mostFields}
+use Rattle.model.specs.Fields.{typesIn, fieldsIn}
 use Rattle.model.specs.Condition.{numbered}
+use Rattle.model.proofs.files.FieldTables.{types-length}
 use Rattle.condition.specs.Answers.{partNodes}
 use Rattle.condition.specs.declared.Node.{Node}
 use Rattle.condition.proofs.Nodes.{rest}
@@ -17,11 +19,11 @@ use Rattle.condition.proofs.is_numbered.Statement.{statement}
 use Rattle.condition.proofs.is_numbered.Tie as tie
 
 abbrev Inv-loop : tie.InvT-loop
-Inv-loop types part n seen₀ k₀ seen k =
-    (k ≤ n) × (n ≡ length part / nodeSize) × (length seen ≡ mostFields) × (numbered (partNodes part) ≡ counted (seenOf types seen) (rest part n k))
+Inv-loop fields part n seen₀ k₀ seen k =
+    (k ≤ n) × (n ≡ length part / nodeSize) × (length seen ≡ mostFields) × (numbered (partNodes part) ≡ counted (seenOf (typesIn (fieldsIn fields)) seen) (rest part n k))
 
 abbrev μ-loop : tie.MeasureT-loop
-μ-loop types part n seen₀ k₀ seen k = n - k
+μ-loop fields part n seen₀ k₀ seen k = n - k
 
 -- ---- the places
 
@@ -32,7 +34,7 @@ abbrev bytes : tie.At-loop Inv-loop μ-loop → List ℕ
 bytes c = start c .args .part .now
 
 abbrev types : tie.At-loop Inv-loop μ-loop → List ℕ
-types c = start c .args .types .now
+types c = typesIn (fieldsIn (start c .args .fields .now))
 
 abbrev nodes : tie.At-loop Inv-loop μ-loop → ℕ
 nodes c = length (bytes c) / nodeSize
@@ -53,6 +55,9 @@ listed c =
     let a = turn c in
     field-listed (bytes a) (nodes a) (a .loop .k) (node c) (c .before .node-at .ensures) (more c) (types a) (a .loop .seen)
     (start a .pre .1) (c .if1 .left)
+
+few : (c : tie.Else1 Inv-loop μ-loop) → node c .field < mostFields
+few c = omega (arith, listed c, types-length (start (turn c) .args .fields .now))
 
 -- ---- the answers
 
@@ -81,10 +86,10 @@ loop-again c =
     )
 
 mul-last : tie.Need-mul-last Inv-loop μ-loop
-mul-last c = omega (arith, listed c)
+mul-last c = omega (arith, few c)
 
 array-read-last : tie.Need-array-read-last Inv-loop μ-loop
-array-read-last c = omega (arith, listed c)
+array-read-last c = omega (arith, few c)
 
 returns : tie.Need-returns Inv-loop μ-loop
 returns c =
@@ -121,10 +126,10 @@ returns-2 c =
     (d .if1 .left) (c .before .if3 .left) (c .if4 .taken))
 
 mul-seen : tie.Need-mul-seen Inv-loop μ-loop
-mul-seen c = omega (arith, listed (c .before .before .before))
+mul-seen c = omega (arith, few (c .before .before .before))
 
 array-write-seen : tie.Need-array-write-seen Inv-loop μ-loop
-array-write-seen c = omega (arith, listed (c .before .before .before))
+array-write-seen c = omega (arith, few (c .before .before .before))
 
 loop-less-3 : tie.Need-loop-less-3 Inv-loop μ-loop
 loop-less-3 c = search needs
@@ -138,7 +143,7 @@ loop-again-3 c =
       simp length-set (a .loop .inv .2),
       a .loop .inv .3
           ∙ counted-next (bytes a) (nodes a) (a .loop .k) (node d) (d .before .node-at .ensures) (more d) (types a) (a .loop .seen)
-          (start a .pre .1) (d .if1 .left) (omega arith) (c .before .if3 .left) (c .if4 .left),
+          (start a .pre .1) (d .if1 .left) (omega (arith, types-length (start a .args .fields .now))) (c .before .if3 .left) (c .if4 .left),
     )
 
 returns-3 : tie.Need-returns-3 Inv-loop μ-loop

@@ -1,11 +1,11 @@
 -- `condition::is_rising` meets its contract.
 use mathlib.Core.Path.{_≡_, sym, _∙_, ap}
 use mathlib.Core.List.{map}
-use Prim.Native.Nat.{_+_, _-_, _≤_}
+use Prim.Native.Nat.{_+_, _-_, _*_, _≤_}
 use native.Mathlib.Omega.{arith}
 use lib.ListN.{length}
 use borrow.Author.Tests.{not-true, not-false}
-use Rattle.model.specs.Sizes.{countsSize}
+use Rattle.model.specs.Sizes.{fieldSize, countsSize}
 use Rattle.condition.specs.Answers.{pairsOf}
 use Rattle.condition.proofs.Table.{table-inside, pair-inside, order-neighbours, conjunctsFrom, rising-on, rising-off, rising-end}
 use Rattle.model.specs.Condition.{conjunctAt, isBefore, rising, conjunctsAt}
@@ -17,7 +17,7 @@ use Rattle.condition.proofs.is_rising.Tie as tie
 abbrev Inv-loop : tie.InvT-loop
 Inv-loop condition fields count i₀ i =
     (i ≤ count) × (conjunctsAt fields count ≤ length condition)
-    × (rising (map (conjunctAt condition) (pairsOf condition fields count)) ≡ rising (conjunctsFrom condition (countsSize + fields) count i))
+    × (rising (map (conjunctAt condition) (pairsOf condition fields count)) ≡ rising (conjunctsFrom condition (countsSize + fieldSize * fields) count i))
 
 abbrev μ-loop : tie.MeasureT-loop
 μ-loop condition fields count i₀ i = count - i
@@ -30,17 +30,20 @@ loop-holds c =
     let g = c .before .args in (
       omega arith,
       table-inside (g .condition .now) (g .fields) (g .count) (c .before .pre .0),
-      rw (pairs-all (g .condition .now) (countsSize + g .fields) (g .count)),
+      rw (pairs-all (g .condition .now) (countsSize + fieldSize * g .fields) (g .count)),
     )
 
 add-loop : tie.Need-add-loop Inv-loop μ-loop
 add-loop c = search needs
 
+mul-part-at : tie.Need-mul-part-at Inv-loop μ-loop
+mul-part-at c = search needs
+
 add-part-at : tie.Need-add-part-at Inv-loop μ-loop
 add-part-at c = search needs
 
-mul-part-at : tie.Need-mul-part-at Inv-loop μ-loop
-mul-part-at c = search needs
+mul-part-at-2 : tie.Need-mul-part-at-2 Inv-loop μ-loop
+mul-part-at-2 c = search needs
 
 add-part-at-2 : tie.Need-add-part-at-2 Inv-loop μ-loop
 add-part-at-2 c = search needs
@@ -50,14 +53,17 @@ part-at-requires c κs =
     let g = c .before .before .before in
     (omega arith, pair-inside (g .args .condition .now) (g .args .fields) (g .args .count) (g .pre .0) (c .before .loop .i) (omega arith))
 
+mul-part-at-3 : tie.Need-mul-part-at-3 Inv-loop μ-loop
+mul-part-at-3 c = search needs
+
 add-part-at-3 : tie.Need-add-part-at-3 Inv-loop μ-loop
 add-part-at-3 c = search needs
 
 add-part-at-4 : tie.Need-add-part-at-4 Inv-loop μ-loop
 add-part-at-4 c = search needs
 
-mul-part-at-2 : tie.Need-mul-part-at-2 Inv-loop μ-loop
-mul-part-at-2 c = search needs
+mul-part-at-4 : tie.Need-mul-part-at-4 Inv-loop μ-loop
+mul-part-at-4 c = search needs
 
 add-part-at-5 : tie.Need-add-part-at-5 Inv-loop μ-loop
 add-part-at-5 c = search needs
@@ -74,7 +80,7 @@ returns : tie.Need-returns Inv-loop μ-loop
 returns c =
     let a = turn-before (c .before) in
     let g = a .before .before in
-    sym (a .loop .inv .2 ∙ rising-off (g .args .condition .now) (countsSize + g .args .fields) (g .args .count) (a .loop .i)
+    sym (a .loop .inv .2 ∙ rising-off (g .args .condition .now) (countsSize + fieldSize * g .args .fields) (g .args .count) (a .loop .i)
     (c .before .before .before .before .loop-test .taken)
     (ap isBefore (order-neighbours (g .args .condition .now) (g .args .fields) (g .args .count) (g .pre .0) (g .pre .1)
     (λ i. omega (arith, a .before .shared-slice-known .given i)) (a .loop .i) (c .before .before .before .before .loop-test .taken) _ _
@@ -93,7 +99,7 @@ loop-again c =
     let g = a .before .before in (
       omega arith,
       a .loop .inv .1,
-      a .loop .inv .2 ∙ rising-on (g .args .condition .now) (countsSize + g .args .fields) (g .args .count) (a .loop .i)
+      a .loop .inv .2 ∙ rising-on (g .args .condition .now) (countsSize + fieldSize * g .args .fields) (g .args .count) (a .loop .i)
           (c .before .before .before .before .loop-test .taken)
           (ap isBefore (order-neighbours (g .args .condition .now) (g .args .fields) (g .args .count) (g .pre .0) (g .pre .1)
           (λ i. omega (arith, a .before .shared-slice-known .given i)) (a .loop .i) (c .before .before .before .before .loop-test .taken) _ _
@@ -112,13 +118,15 @@ is-rising-spec =
     μ-loop
     loop-holds
     add-loop
-    add-part-at
     mul-part-at
+    add-part-at
+    mul-part-at-2
     add-part-at-2
     part-at-requires
+    mul-part-at-3
     add-part-at-3
     add-part-at-4
-    mul-part-at-2
+    mul-part-at-4
     add-part-at-5
     part-at-requires-2
     comes-before-requires

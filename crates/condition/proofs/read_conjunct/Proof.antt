@@ -4,6 +4,7 @@ use mathlib.Core.Bool.{Bool, true, _&&_}
 use native.Mathlib.Omega.{arith}
 use borrow.Author.Needs.{needs}
 use borrow.Author.Tests.{not-true, not-false}
+use Rattle.model.specs.Fields.{typesIn, fieldsIn}
 use Rattle.model.specs.Condition.{whole}
 use Rattle.model.proofs.basics.Tests.{and-left}
 use Rattle.condition.specs.Answers.{conjunctAnswer, partNodes, partRight}
@@ -18,7 +19,7 @@ start c = c .before .before .before
 
 -- the tests of the nodes
 abbrev nodes : tie.After-read-nodes → Bool
-nodes c = partRight (start c .args .types .now) (start c .args .part .now) && whole (partNodes (start c .args .part .now))
+nodes c = partRight (typesIn (fieldsIn (start c .args .fields .now))) (start c .args .part .now) && whole (partNodes (start c .args .part .now))
 
 -- they have passed
 passed : (c : tie.After-enum-told) → nodes (c .before .before) ≡ true
@@ -48,7 +49,7 @@ is-numbered-requires : tie.Need-is-numbered-requires
 is-numbered-requires c κs =
     let r = c .before .before in
     let part = start r .args .part .now in
-    (omega arith, and-left (partRight (start r .args .types .now) part) (whole (partNodes part)) (passed c))
+    (omega arith, and-left (partRight (typesIn (fieldsIn (start r .args .fields .now))) part) (whole (partNodes part)) (passed c))
 
 returns-2 : tie.Need-returns-2
 returns-2 c = rw (passed (c .before .before), sym (c .before .is-numbered .ensures) ∙ not-true (c .before .is-numbered .result) (c .if1 .taken))

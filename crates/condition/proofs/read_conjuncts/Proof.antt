@@ -2,15 +2,15 @@
 use mathlib.Core.Path.{_≡_, sym, ap, _∙_}
 use mathlib.Core.Bool.{Bool}
 use mathlib.Core.List.{List}
-use Prim.Native.Nat.{ℕ, _+_, _-_, _≤_}
+use Prim.Native.Nat.{ℕ, _+_, _-_, _*_, _≤_}
 use native.Mathlib.Omega.{arith}
 use lib.ListN.{length}
 use borrow.Author.Needs.{needs}
-use Rattle.model.specs.Sizes.{countsSize}
+use Rattle.model.specs.Sizes.{fieldSize, countsSize}
 use Rattle.model.specs.Condition.{conjunctsAt}
 use Rattle.model.specs.Bytes.{Pair, pairAt}
 use Rattle.model.specs.Lists.{every}
-use Rattle.condition.specs.Answers.{conjunctAnswer, pairRight, pairPlace, pairsOf, typesIn}
+use Rattle.condition.specs.Answers.{conjunctAnswer, pairRight, pairPlace, pairsOf, typesAt}
 use Rattle.condition.proofs.Passes.{pairsFrom, pairs-all, formed-true, formed-false}
 use Rattle.condition.proofs.Table.{table-inside, pair-inside, pairs-on, pairs-off, pairs-end}
 use Rattle.condition.proofs.read_conjuncts.Statement.{statement}
@@ -18,13 +18,13 @@ use Rattle.condition.proofs.read_conjuncts.Tie as tie
 
 -- the test of a pair
 abbrev test : List ℕ → ℕ → Pair → Bool
-test condition fields = pairRight (typesIn condition fields) condition
+test condition fields = pairRight (typesAt condition fields) condition
 
 abbrev Inv-loop : tie.InvT-loop
 Inv-loop condition fields count i₀ i =
     (i ≤ count) × (conjunctsAt fields count ≤ length condition)
     × (every (test condition fields) (pairsOf condition fields count)
-    ≡ every (test condition fields) (pairsFrom condition (countsSize + fields) count i))
+    ≡ every (test condition fields) (pairsFrom condition (countsSize + fieldSize * fields) count i))
 
 abbrev μ-loop : tie.MeasureT-loop
 μ-loop condition fields count i₀ i = count - i
@@ -47,14 +47,17 @@ loop-holds c =
     let g = c .before .args in (
       omega arith,
       table-inside (g .condition .now) (g .fields) (g .count) (c .before .pre .1),
-      rw (pairs-all (g .condition .now) (countsSize + g .fields) (g .count)),
+      rw (pairs-all (g .condition .now) (countsSize + fieldSize * g .fields) (g .count)),
     )
+
+mul-read-pair : tie.Need-mul-read-pair Inv-loop μ-loop
+mul-read-pair c = search needs
 
 add-read-pair : tie.Need-add-read-pair Inv-loop μ-loop
 add-read-pair c = search needs
 
-mul-read-pair : tie.Need-mul-read-pair Inv-loop μ-loop
-mul-read-pair c = search needs
+mul-read-pair-2 : tie.Need-mul-read-pair-2 Inv-loop μ-loop
+mul-read-pair-2 c = search needs
 
 add-read-pair-2 : tie.Need-add-read-pair-2 Inv-loop μ-loop
 add-read-pair-2 c = search needs
@@ -64,7 +67,7 @@ read-pair-requires c κs =
     let g = start c in
     record {
       few = omega arith;
-      types = omega arith;
+      table = omega arith;
       pair = omega arith;
       inside = pair-inside (g .args .condition .now) (g .args .fields) (g .args .count) (g .pre .1) (c .before .loop .i) (c .loop-test .taken);
     }
@@ -82,7 +85,7 @@ returns c =
     let g = start t .args in
     let e = c .enum-told2 .given in
     let off = formed-false (tested t) (e .0 .0) (sym (ap conjunctAnswer (e .1)) ∙ r .read-pair .ensures) in
-    let none = pairs-off (test (g .condition .now) (g .fields)) (g .condition .now) (countsSize + g .fields) (g .count) (t .before .loop .i)
+    let none = pairs-off (test (g .condition .now) (g .fields)) (g .condition .now) (countsSize + fieldSize * g .fields) (g .count) (t .before .loop .i)
     (t .loop-test .taken) (off .0) in
     rw (t .before .loop .inv .2 ∙ none) (ap conjunctAnswer (e .1) ∙ rw (off .1))
 
@@ -98,7 +101,7 @@ loop-again c =
     let t = r .before in
     let g = start t .args in
     let on = formed-true (tested t) (sym (ap conjunctAnswer (c .enum-told .given .1)) ∙ r .read-pair .ensures) in
-    let more = pairs-on (test (g .condition .now) (g .fields)) (g .condition .now) (countsSize + g .fields) (g .count) (t .before .loop .i)
+    let more = pairs-on (test (g .condition .now) (g .fields)) (g .condition .now) (countsSize + fieldSize * g .fields) (g .count) (t .before .loop .i)
     (t .loop-test .taken) on in
     (omega arith, t .before .loop .inv .1, t .before .loop .inv .2 ∙ more)
 
@@ -112,8 +115,9 @@ read-conjuncts-spec =
     Inv-loop
     μ-loop
     loop-holds
-    add-read-pair
     mul-read-pair
+    add-read-pair
+    mul-read-pair-2
     add-read-pair-2
     read-pair-requires
     enum-told

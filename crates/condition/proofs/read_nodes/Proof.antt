@@ -9,6 +9,7 @@ use lib.ListN.{length, set, length-set}
 use borrow.Author.Needs.{needs}
 use borrow.Author.Tests.{eq-eqb, ne-eqb}
 use Rattle.model.specs.Sizes.{nodeSize}
+use Rattle.model.specs.Fields.{typesIn, fieldsIn}
 use Rattle.model.specs.Condition.{operation, conversion, typeNodes, whole}
 use Rattle.model.specs.Lists.{every}
 use Rattle.model.specs.Refusals.{Out, refused, _>>=_, wrongCondition}
@@ -24,13 +25,13 @@ use Rattle.condition.proofs.read_nodes.Statement.{statement}
 use Rattle.condition.proofs.read_nodes.Tie as tie
 
 abbrev Inv-loop : tie.InvT-loop
-Inv-loop types part n stack₀ height₀ k₀ stack height k =
+Inv-loop fields part n stack₀ height₀ k₀ stack height k =
     (k ≤ n) × (n ≡ length part / nodeSize) × (length stack ≡ stackCells) × (height ≤ k)
     × (typeNodes (partNodes part) [] ≡ typeNodes (rest part n k) (stackOf stack height))
-    × (partRight types part ≡ every (λ b. b) (formsFrom types part n k))
+    × (partRight (typesIn (fieldsIn fields)) part ≡ every (λ b. b) (formsFrom (typesIn (fieldsIn fields)) part n k))
 
 abbrev μ-loop : tie.MeasureT-loop
-μ-loop types part n stack₀ height₀ k₀ stack height k = n - k
+μ-loop fields part n stack₀ height₀ k₀ stack height k = n - k
 
 -- ---- the places
 
@@ -39,6 +40,10 @@ start c = c .before .before .before
 
 abbrev bytes : tie.At-loop Inv-loop μ-loop → List ℕ
 bytes c = start c .args .part .now
+
+-- the types of the fields
+abbrev types : tie.At-loop Inv-loop μ-loop → List ℕ
+types c = typesIn (fieldsIn (start c .args .fields .now))
 
 abbrev reader : tie.After-known-told Inv-loop μ-loop → tie.After-read-node Inv-loop μ-loop
 reader c = c .before .before .before
@@ -71,13 +76,13 @@ entry-is c = subst (λ r. EntryIs r (bytes (head c)) (nodeSize * head c .loop .k
 
 -- the nodes up to it have their form
 forms : (c : tie.After-known-told Inv-loop μ-loop) → let h =
-    head c in partRight (start h .args .types .now) (bytes h)
-    ≡ every (λ b. b) (formsFrom (start h .args .types .now) (bytes h) (length (bytes h) / nodeSize) (h .loop .k + 1))
+    head c in partRight (types h) (bytes h)
+    ≡ every (λ b. b) (formsFrom (types h) (bytes h) (length (bytes h) / nodeSize) (h .loop .k + 1))
 forms c =
     let h = head c in
     let r = reader c in
     h .loop .inv .5
-    ∙ forms-on (start h .args .types .now) (bytes h) (length (bytes h) / nodeSize) (h .loop .k) (r .before .loop-test .taken) (r .read-node .result)
+    ∙ forms-on (types h) (bytes h) (length (bytes h) / nodeSize) (h .loop .k) (r .before .loop-test .taken) (r .read-node .result)
     (r .read-node .ensures .0) (entry c) (c .before .read .given .1)
 
 -- what is left to be typed after it
@@ -119,10 +124,10 @@ not-whole true b e = rw e
 not-whole false b e = refl
 
 not-operated : (c : tie.Then2 Inv-loop μ-loop) → let t = at-operation c in let h = head t in operation (entry t .ty) (stack t) ≡ refused wrongCondition
-    → refused wrongCondition ≡ formed (partRight (start h .args .types .now) (bytes h) && whole (partNodes (bytes h)))
+    → refused wrongCondition ≡ formed (partRight (types h) (bytes h) && whole (partNodes (bytes h)))
 not-operated c e =
     let h = head (at-operation c) in
-    not-whole (partRight (start h .args .types .now) (bytes h)) (whole (partNodes (bytes h)))
+    not-whole (partRight (types h) (bytes h)) (whole (partNodes (bytes h)))
     (whole-refused (partNodes (bytes h)) (after-operation c (refused wrongCondition) e))
 
 -- ---- the answers
@@ -147,11 +152,10 @@ returns c =
     let r = c .before .before .before in
     let h = r .before .before in
     let g = c .before .enum-told .given in
-    let types = start h .args .types .now in
     let n = length (bytes h) / nodeSize in
-    let off = forms-off types (bytes h) n (h .loop .k) (r .before .loop-test .taken) (r .read-node .result) (r .read-node .ensures .0)
+    let off = forms-off (types h) (bytes h) n (h .loop .k) (r .before .loop-test .taken) (r .read-node .result) (r .read-node .ensures .0)
     (g .0 .0) (g .1) in
-    let twelve = forms-number types (bytes h) n (h .loop .k) (r .before .loop-test .taken) (r .read-node .result) (r .read-node .ensures .0)
+    let twelve = forms-number (types h) (bytes h) n (h .loop .k) (r .before .loop-test .taken) (r .read-node .result) (r .read-node .ensures .0)
     (g .0 .0) (g .1) in
     rw (h .loop .inv .5 ∙ off, c .node-refusal .ensures (g .0 .0) (ap nodeOut (g .1)), twelve)
 
@@ -223,7 +227,7 @@ returns-5 c =
     let t = at-conversion k in
     let h = head t in
     let short = conversion-short (entry t .ty) (h .loop .stack) (h .loop .height) (c .if6 .taken) in
-    not-whole (partRight (start h .args .types .now) (bytes h)) (whole (partNodes (bytes h)))
+    not-whole (partRight (types h) (bytes h)) (whole (partNodes (bytes h)))
     (whole-refused (partNodes (bytes h)) (after-conversion k (refused wrongCondition) short))
 
 sub-stack : tie.Need-sub-stack Inv-loop μ-loop
@@ -247,7 +251,7 @@ returns-6 : tie.Need-returns-6 Inv-loop μ-loop
 returns-6 c =
     let h = c .before .before in
     let end = whole-end _ _ _ (h .loop .stack) (h .loop .height) _ (c .before .loop-test .left) (h .loop .inv .4) in
-    not-whole (partRight (start h .args .types .now) (bytes h)) (whole (partNodes (bytes h))) (end ∙ ne-eqb (h .loop .height) 1 (c .if7 .taken))
+    not-whole (partRight (types h) (bytes h)) (whole (partNodes (bytes h))) (end ∙ ne-eqb (h .loop .height) 1 (c .if7 .taken))
 
 returns-7 : tie.Need-returns-7 Inv-loop μ-loop
 returns-7 c =

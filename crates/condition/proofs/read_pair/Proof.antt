@@ -6,9 +6,9 @@ use denote.Ref.{now}
 use native.Mathlib.Omega.{arith}
 use borrow.Author.Needs.{needs}
 use Rattle.model.specs.Bytes.{Pair, pairAt}
-use Rattle.condition.specs.Answers.{formed, typesIn}
+use Rattle.condition.specs.Answers.{formed, typesAt}
 use Rattle.condition.proofs.Nodes.{some}
-use Rattle.condition.proofs.Table.{pair-empty, pair-long, pair-broken, pair-part, types-taken, types-count}
+use Rattle.condition.proofs.Table.{pair-empty, pair-long, pair-broken, pair-part, fields-taken, table-length}
 use Rattle.condition.proofs.read_pair.Statement.{statement}
 use Rattle.condition.proofs.read_pair.Tie as tie
 
@@ -21,7 +21,7 @@ abbrev bytes : tie.After-part-at → List ℕ
 bytes c = start c .args .condition .now
 
 abbrev types : tie.After-part-at → List ℕ
-types c = typesIn (bytes c) (start c .args .fields)
+types c = typesAt (bytes c) (start c .args .fields)
 
 abbrev pair : tie.After-part-at → Pair
 pair c = pairAt (bytes c) (start c .args .at)
@@ -48,6 +48,9 @@ returns-3 c =
     rw (pair-broken (types h) (bytes h) (pair h) (start h .pre .inside) (now (h .part-at .result)) (h .part-at .ensures)
     (some _ (c .before .before .if1 .left)) (c .before .if2 .left) (c .if3 .taken))
 
+mul-end : tie.Need-mul-end
+mul-end c = search needs
+
 add-end : tie.Need-add-end
 add-end c = search needs
 
@@ -64,14 +67,14 @@ read-conjunct-requires : tie.Need-read-conjunct-requires
 read-conjunct-requires c κs =
     let k = c .before in
     let h = k .before .before .before in
-    (omega (arith, types-count (bytes h) (start h .args .fields) (start h .pre .types)), k .before .if2 .left)
+    (omega (arith, table-length (bytes h) (start h .args .fields) (start h .pre .table)), k .before .if2 .left)
 
 returns-4 : tie.Need-returns-4
 returns-4 c =
     let k = c .before .before in
     let h = k .before .before .before in
     c .read-conjunct .ensures
-    ∙ rw (types-taken (bytes h) (start h .args .fields))
+    ∙ rw (fields-taken (bytes h) (start h .args .fields) (start h .pre .table))
     (ap formed (pair-part (types h) (bytes h) (pair h) (start h .pre .inside) (now (h .part-at .result)) (h .part-at .ensures)
     (some _ (k .before .before .if1 .left)) (k .before .if2 .left) (k .if3 .left)))
 
@@ -83,6 +86,7 @@ read-pair-spec =
     returns
     returns-2
     returns-3
+    mul-end
     add-end
     sub-read-conjunct
     part-read-conjunct-start

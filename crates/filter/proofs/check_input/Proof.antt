@@ -1,10 +1,10 @@
 -- `filter::check_input` meets its contract.
 use mathlib.Core.Path.{_≡_, sym, ap, subst, _∙_}
 use borrow.Author.Needs.{needs}
-use Rattle.model.specs.Refusals.{refused, mapped}
+use Rattle.model.specs.Refusals.{ok, refused, mapped}
 use Rattle.model.specs.Input.{readInput}
-use Rattle.input.specs.Answers.{InputIsRead, inputAnswer}
-use Rattle.condition.specs.Answers.{typesOf}
+use Rattle.input.specs.Answers.{inputAnswer}
+use Rattle.condition.specs.Answers.{fieldsOf}
 use Rattle.filter.proofs.Verdicts.{input-refused, both-read}
 use Rattle.filter.proofs.check_input.Statement.{statement}
 use Rattle.filter.proofs.check_input.Tie as tie
@@ -16,13 +16,14 @@ abbrev refused-from : tie.After-known-told → tie.Start
 refused-from c = c .before .before .before .before .before .before .before
 
 -- where the answer of the input's reader is yes
-input-read : (c : tie.After-enum-told) → InputIsRead (typesOf (entered c .args .condition .now)) (entered c .args .input .now)
+input-read : (c : tie.After-enum-told)
+    → mapped (λ I. tt {0}) (readInput (fieldsOf (entered c .args .condition .now)) (entered c .args .input .now)) ≡ ok tt
 input-read c =
-    subst (λ ts. InputIsRead ts (entered c .args .input .now)) (c .before .before .before .types .ensures .0)
+    subst (λ fs. mapped (λ I. tt {0}) (readInput fs (entered c .args .input .now)) ≡ ok tt) (c .before .before .before .fields .ensures .0)
     (sym (c .before .before .read .ensures) ∙ ap inputAnswer (c .enum-told .given .1))
 
-types-requires : tie.Need-types-requires
-types-requires c κs = search needs
+fields-requires : tie.Need-fields-requires
+fields-requires c κs = search needs
 
 read-requires : tie.Need-read-requires
 read-requires c κs = search needs
@@ -47,7 +48,7 @@ returns c =
     let n = c .before .r .given .0 .0 in
     let e = sym (ap inputAnswer (c .before .r .given .1)) ∙ c .before .before .before .read .ensures in
     input-refused (g .args .condition .now) (g .args .input .now) (g .args .sizes) (g .pre) n
-    (subst (λ ts. refused n ≡ mapped (λ I. tt {0}) (readInput ts (g .args .input .now))) (c .before .before .before .before .types .ensures .0) e)
+    (subst (λ fs. refused n ≡ mapped (λ I. tt {0}) (readInput fs (g .args .input .now))) (c .before .before .before .before .fields .ensures .0) e)
 
 returns-2 : tie.Need-returns-2
 returns-2 c =
@@ -58,7 +59,7 @@ pub check-input-spec : {M : Type 1} → statement M
 check-input-spec =
     tie.close
     (tie.spec
-    types-requires
+    fields-requires
     read-requires
     enum-known-r
     enum-told

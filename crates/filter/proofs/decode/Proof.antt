@@ -5,18 +5,20 @@ use native.Mathlib.Omega.{arith}
 use lib.ListN.{length, length-set}
 use borrow.Author.Needs.{needs}
 use Rattle.model.specs.Sizes.{mostFields}
+use Rattle.model.specs.Fields.{fieldsIn}
+use Rattle.model.proofs.files.FieldTables.{fields-length}
 use Rattle.filter.specs.Decoding.{inputIn}
 use Rattle.filter.proofs.Readings.{DecodedTo, decoded-none, decoded-next, decoded-all, decoded-lent}
 use Rattle.filter.proofs.decode.Statement.{statement}
 use Rattle.filter.proofs.decode.Tie as tie
 
 abbrev Inv-loop : tie.InvT-loop
-Inv-loop types input counts₀ mags₀ negs₀ f₀ counts mags negs f =
+Inv-loop fields input counts₀ mags₀ negs₀ f₀ counts mags negs f =
     (f ≤ mostFields) × (length counts ≡ mostFields) × (length mags ≡ length mags₀) × (length negs ≡ length negs₀)
-    × DecodedTo (inputIn types input) f counts mags negs
+    × DecodedTo (inputIn (fieldsIn fields) input) f counts mags negs
 
 abbrev μ-loop : tie.MeasureT-loop
-μ-loop types input counts₀ mags₀ negs₀ f₀ counts mags negs f = mostFields - f
+μ-loop fields input counts₀ mags₀ negs₀ f₀ counts mags negs f = mostFields - f
 
 abbrev start : tie.At-loop Inv-loop μ-loop → tie.Start Inv-loop μ-loop
 start c = c .before .before .before .before .before .before
@@ -31,7 +33,7 @@ loop-holds : tie.Need-loop-holds Inv-loop μ-loop
 loop-holds c =
     let g = entered c in
     let a = g .args in
-    (omega arith, g .pre .1, refl, refl, decoded-none (inputIn (a .types .now) (a .input .now)) (a .counts .now) (a .mags .now) (a .negs .now))
+    (omega arith, g .pre .1, refl, refl, decoded-none (inputIn (fieldsIn (a .fields .now)) (a .input .now)) (a .counts .now) (a .mags .now) (a .negs .now))
 
 put-field-requires : tie.Need-put-field-requires Inv-loop μ-loop
 put-field-requires c κs =
@@ -70,7 +72,7 @@ loop-again c =
       length-set (lp .counts) (lp .f) (p .result) ∙ lp .inv .1,
       p .kept .1 .1 .1 .0 ∙ lp .inv .2,
       p .kept .1 .1 .1 .1 .0 ∙ lp .inv .3,
-      decoded-next (inputIn (a .types .now) (a .input .now)) (lp .f) (p .result) (lp .counts) (lp .mags) (p .last .1 .1 .1 .0) (lp .negs)
+      decoded-next (inputIn (fieldsIn (a .fields .now)) (a .input .now)) (lp .f) (p .result) (lp .counts) (lp .mags) (p .last .1 .1 .1 .0) (lp .negs)
           (p .last .1 .1 .1 .1 .0)
           (omega (arith, lp .inv .1)) (p .ensures .count) (p .ensures .few) (p .ensures .filled) (lp .inv .4),
     )
@@ -89,11 +91,12 @@ returns c =
     let g = start (c .before) in
     let a = g .args in
     let lp = c .before .loop in
-    let I = inputIn (a .types .now) (a .input .now) in
+    let I = inputIn (fieldsIn (a .fields .now)) (a .input .now) in
     let e : lp .f ≡ mostFields = omega arith in
+    let many = fields-length (a .fields .now) in
     let d = subst (λ n. DecodedTo I n (lp .counts) (lp .mags) (lp .negs)) e (lp .inv .4) in
-    let lent = decoded-lent (a .types .now) (a .input .now) (lp .counts) (lp .mags) (lp .negs) d (lp .inv .1) in (
-      lent (omega (arith, g .pre .0 .magnitudes, lp .inv .2)) (omega (arith, g .pre .0 .signs, lp .inv .3)),
+    let lent = decoded-lent (fieldsIn (a .fields .now)) (a .input .now) (lp .counts) (lp .mags) (lp .negs) d (lp .inv .1) in (
+      lent (omega (arith, many, g .pre .0 .magnitudes, lp .inv .2)) (omega (arith, many, g .pre .0 .signs, lp .inv .3)),
       decoded-all I (lp .counts) (lp .mags) (lp .negs) d,
     )
 

@@ -6,6 +6,8 @@ use lib.IntN.{pos}
 use lib.ListN.{length, getD}
 use borrow.Author.Needs.{needs}
 use Rattle.model.specs.Sizes.{mostReadings}
+use Rattle.model.specs.Fields.{fieldsIn}
+use Rattle.model.proofs.files.FieldTables.{fields-length}
 use Rattle.plan.specs.Readings.{signedAt}
 use Rattle.filter.specs.Decoding.{inputIn}
 use Rattle.filter.proofs.Readings.{filled-none, type-code, field-none, field-listed, readings-inside, field-filled}
@@ -24,8 +26,9 @@ counted c = c .before .before .before .before
 returns : tie.Need-returns
 returns c =
     let a = start (c .before) .args in
-    let I = inputIn (a .types .now) (a .input .now) (a .f) in
-    let e = field-none (a .types .now) (a .input .now) (a .f) (c .if1 .taken) in
+    let fields = fieldsIn (a .fields .now) in
+    let I = inputIn fields (a .input .now) (a .f) in
+    let e = field-none fields (a .input .now) (a .f) (omega (arith, fields-length (a .fields .now), c .if1 .taken)) in
     record {
       count = rw e refl;
       few = omega arith;
@@ -38,11 +41,14 @@ readings-requires c κs = search needs
 count-requires : tie.Need-count-requires
 count-requires c κs = search needs
 
+mul-put-readings : tie.Need-mul-put-readings
+mul-put-readings c = search needs
+
 shared-slice-read-put-readings : tie.Need-shared-slice-read-put-readings
 shared-slice-read-put-readings c = search needs
 
-mul-put-readings : tie.Need-mul-put-readings
-mul-put-readings c = search needs
+mul-put-readings-2 : tie.Need-mul-put-readings-2
+mul-put-readings-2 c = search needs
 
 put-readings-requires : tie.Need-put-readings-requires
 put-readings-requires c κs =
@@ -53,8 +59,8 @@ put-readings-requires c κs =
     let p = m .before .readings in
     let l = listed m .if1 .left in
     record {
-      type = type-code (a .types .now) (a .f) (g .pre .0 .typed) l;
-      inside = readings-inside (a .types .now) (a .input .now) (a .f) (g .pre .0 .read) l (n .result) (n .ensures .0) (p .result .now) (p .ensures);
+      type = type-code (a .fields .now) (a .f) (g .pre .0 .typed) l;
+      inside = readings-inside (a .fields .now) (a .input .now) (a .f) (g .pre .0 .read) l (n .result) (n .ensures .0) (p .result .now) (p .ensures);
       magnitudes = omega (arith, n .ensures .1, g .pre .0 .magnitudes);
       signs = omega (arith, n .ensures .1, g .pre .0 .signs);
     }
@@ -76,9 +82,9 @@ returns-2 c =
     let l = listed m .if1 .left in
     let q = w .put-readings in
     record {
-      count = n .ensures .0 ∙ sym (ap length (field-listed (a .types .now) (a .input .now) (a .f) l));
+      count = n .ensures .0 ∙ sym (ap length (field-listed (a .fields .now) (a .input .now) (a .f) l));
       few = n .ensures .1;
-      filled = field-filled (a .types .now) (a .input .now) (a .f) (g .pre .0 .read) l (n .result) (n .ensures .0) (p .result .now) (p .ensures)
+      filled = field-filled (a .fields .now) (a .input .now) (a .f) (g .pre .0 .read) l (n .result) (n .ensures .0) (p .result .now) (p .ensures)
           (mostReadings * a .f) (signedAt (a .mags .now) (a .negs .now)) (signedAt (q .last .1 .1 .1 .1 .0) (q .last .1 .1 .1 .1 .1 .0)) (q .ensures);
     }
 
@@ -89,8 +95,9 @@ put-field-spec =
     returns
     readings-requires
     count-requires
-    shared-slice-read-put-readings
     mul-put-readings
+    shared-slice-read-put-readings
+    mul-put-readings-2
     put-readings-requires
     same-length
     same-length-2

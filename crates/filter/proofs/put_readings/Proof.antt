@@ -6,10 +6,10 @@ use lib.ListN.{length}
 use borrow.Author.Needs.{needs}
 use Rattle.arith.specs.Types.{Row}
 use Rattle.model.specs.Input.{width, readingAt}
-use Rattle.input.proofs.Fields.{row-width}
+use Rattle.input.proofs.Fields.{row-width, next-inside}
 use Rattle.plan.specs.Readings.{signedAt}
 use Rattle.filter.specs.Decoding.{Filled}
-use Rattle.filter.proofs.Readings.{filled-none, filled-next, next-inside}
+use Rattle.filter.proofs.Readings.{filled-none, filled-next}
 use Rattle.filter.proofs.put_readings.Statement.{statement}
 use Rattle.filter.proofs.put_readings.Tie as tie
 

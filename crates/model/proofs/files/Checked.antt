@@ -2,10 +2,10 @@
 use mathlib.Core.Path.{_≡_, refl, sym, subst}
 use mathlib.Core.Bool.{Bool, true, false, _&&_, not}
 use mathlib.Core.List.{List, [], _∷_}
-use Prim.Native.Nat.{ℕ, _<_}
+use Prim.Native.Nat.{ℕ, _≤_, _<_}
 use lib.Dec.{leb, ltb, eqb}
 use lib.ListN.{length}
-use borrow.Author.Tests.{ltb-true, eqb-true}
+use borrow.Author.Tests.{leb-true, ltb-true, eqb-true}
 use Rattle.arith.specs.Types.{signed}
 use Rattle.model.specs.Lists.{All, every}
 use Rattle.model.specs.Refusals.{Out, ok, _>>=_, check, instead}
@@ -13,12 +13,13 @@ use Rattle.model.specs.Refusals.{wrongSections, tooManyEntries, wrongTyp
 use Rattle.model.specs.Code.{Code, treeOf}
 use Rattle.model.specs.Procedures.{own, named, Block, openAfter, allClosed, Parts, between, partsFrom, partsRight}
 use Rattle.model.specs.Inlined.{stmtsIn, originsIn}
+use Rattle.model.specs.Fields.{fieldRight}
 use Rattle.model.specs.Program.{Statement, Tables, tablesAt, layoutOf, sectionsRight, countsRight, typeRight, arrayRight, typesRight}
 use Rattle.model.specs.Program.{isVariable, isField, isArray, unused, formOf, formRight, variableType, fieldType, arrayOf, alike, cellAlike}
 use Rattle.model.specs.Program.{agreeOf, typesAgree, immediateOf, immediateRight, meaningOf, stmtOf, itemsOf}
-use Rattle.model.specs.Program.{inlinedRows, programOf, Outline, readOutline, Program, readProgram}
+use Rattle.model.specs.Program.{inlinedRows, programOf, inlinedProgram, Outline, readOutline, Program, readProgram}
 use Rattle.model.specs.Kinds.{Kind, aNumber, aCopy, anOperation, aConversion, aRead, aLoad, aStore, aSite, anIf, anElse, anEnd, aWhile, aProcedure, aCall, noKind, kindOf}
-use Rattle.model.specs.Sizes.{mostCells, mostRows}
+use Rattle.model.specs.Sizes.{mostFields, mostVariables, mostArrays, mostCells, mostStatements, mostRows}
 use Rattle.model.specs.Typing.{AtPlain, Indexed, TypedInstr}
 use Rattle.model.proofs.basics.Every.{every-all}
 use Rattle.model.proofs.basics.Lists.{all-getD}
@@ -96,7 +97,7 @@ pub record Checked (s : List ℕ) (P : Program) : Type 0 where
 pub program-checked : (s : List ℕ) (P : Program) → readProgram s ≡ ok P → Checked s P
 unfolding readProgram programOf
 program-checked s P e =
-    let o = bind-ok (readOutline s) (λ O. programOf (O .tables) (inlinedRows (O .tables) (O .parts))) P e in
+    let o = bind-ok (readOutline s) inlinedProgram P e in
     let O = o .0 in
     let rows = inlinedRows (O .tables) (O .parts) in
     let whole : Code → Out Program = λ c. ok (record { tables = O .tables; code = c; origins = originsIn rows }) in
@@ -113,24 +114,35 @@ program-checked s P e =
     } in
     subst (Checked s) {x = r} (ok-eq r P (c .2)) z
 
+-- ---- the fields
+
+-- at most 32
+pub few-fields : (T : Tables) → countsRight T ≡ true → length (T .fields) ≤ mostFields
+unfolding countsRight
+few-fields T e =
+    let f = leb (length (T .fields)) mostFields in
+    let v = leb (length (T .variables)) mostVariables in
+    let r = leb (length (T .arrays)) mostArrays in
+    leb-true (length (T .fields)) mostFields (and-left f v (and-left (f && v) r (and-left (f && v && r) (leb (length (T .statements)) mostStatements) e)))
+
 -- ---- one statement
 
 module _ (T : Tables) (known : typesRight T ≡ true) where
-  pub fields-known : All (λ t. typeRight t ≡ true) (T .fields)
+  pub fields-known : All (λ F. fieldRight F ≡ true) (T .fields)
   unfolding typesRight
   fields-known =
-      let two = every typeRight (T .fields) && every typeRight (T .variables) in
-      every-all typeRight (T .fields) (and-left (every typeRight (T .fields)) (every typeRight (T .variables)) (and-left two (every arrayRight (T .arrays)) known))
+      let two = every fieldRight (T .fields) && every typeRight (T .variables) in
+      every-all fieldRight (T .fields) (and-left (every fieldRight (T .fields)) (every typeRight (T .variables)) (and-left two (every arrayRight (T .arrays)) known))
 
   variables-known : All (λ t. typeRight t ≡ true) (T .variables)
   unfolding typesRight
   variables-known =
-      let two = every typeRight (T .fields) && every typeRight (T .variables) in
-      every-all typeRight (T .variables) (and-right (every typeRight (T .fields)) (every typeRight (T .variables)) (and-left two (every arrayRight (T .arrays)) known))
+      let two = every fieldRight (T .fields) && every typeRight (T .variables) in
+      every-all typeRight (T .variables) (and-right (every fieldRight (T .fields)) (every typeRight (T .variables)) (and-left two (every arrayRight (T .arrays)) known))
 
   arrays-known : All (λ r. arrayRight r ≡ true) (T .arrays)
   unfolding typesRight
-  arrays-known = every-all arrayRight (T .arrays) (and-right (every typeRight (T .fields) && every typeRight (T .variables)) (every arrayRight (T .arrays)) known)
+  arrays-known = every-all arrayRight (T .arrays) (and-right (every fieldRight (T .fields) && every typeRight (T .variables)) (every arrayRight (T .arrays)) known)
 
   -- a variable that there is has a type
   pub variable-type : (x : ℕ) → ltb x (length (T .variables)) ≡ true → variableType T x < 8

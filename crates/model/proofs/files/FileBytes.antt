@@ -5,11 +5,12 @@ use mathlib.Core.List.{List, [], _∷_, _++_, map, flatMap, append-assoc, map-id
 use Prim.Native.Nat.{ℕ, suc, _+_, _*_, _/_}
 use native.Mathlib.Nat.{add-assoc, add-zero}
 use native.Mathlib.Omega.{arith}
-use lib.ListN.{length, take, length-append}
-use lib.Seq.{getD-drop, take-append-seam}
+use lib.ListN.{length, length-append}
+use lib.Seq.{getD-drop}
 use borrow.Author.Tests.{eq-eqb}
 use Rattle.model.specs.Lists.{All, every}
-use Rattle.model.specs.Bytes.{u32At, bytes4, part, Pair, pairAt, pairsAt, chained, entries}
+use Rattle.model.specs.Bytes.{u32At, bytes4, Pair, pairAt, pairsAt, chained, entries}
+use Rattle.model.specs.Fields.{Field, fieldAt, fieldBytes, typesIn}
 use Rattle.model.specs.Conjunct.{Conj, Conjuncts}
 use Rattle.model.specs.Condition.{conjunctBytes, pairBytes, conjunctsAt, encode, nodeAt, conjunctAt, nodeRight, nodesRight}
 use Rattle.model.specs.Formed.{FileNode, size}
@@ -116,6 +117,19 @@ unfolding chained
 table-chained [] at end h = eq-eqb at end (omega arith)
 table-chained (e ∷ S) at end h = rw (eqb-self at) (table-chained S (at + 8 * length e) end (omega arith))
 
+-- ---- the fields
+
+field-local : Local fieldAt
+field-local s a = simp (getD-drop, add-zero)
+
+pub fields-size : (fields : List Field) → length (flatMap fieldBytes fields) ≡ 2 * length fields
+fields-size fields = length-things fieldBytes 2 fields (all-of (λ F. refl) fields)
+
+-- the reader finds them
+pub fields-read : (fields : List Field) (s : List ℕ) (a : ℕ) (t : List ℕ) → From s a (flatMap fieldBytes fields ++ t) → entries fieldAt 2 s a (length fields) ≡ fields
+fields-read fields s a t f =
+    entries-read fieldBytes 2 fieldAt (λ F. F) field-local fields (all-of (λ F. refl) fields) (all-of (λ F u. refl) fields) s a t f ∙ map-id fields
+
 -- ---- the file
 
 u32-local : Local u32At
@@ -125,47 +139,53 @@ four : (v : ℕ) → length (bytes4 v) ≡ 4
 unfolding bytes4
 four v = refl
 
-module _ (types : List ℕ) (S : Conjuncts) where
+module _ (fields : List Field) (S : Conjuncts) where
   -- where the conjuncts begin
   abbrev begin : ℕ
-  begin = conjunctsAt (length types) (length S)
+  begin = conjunctsAt (length fields) (length S)
 
-  encode-parts : encode types S ≡ bytes4 (length S) ++ (bytes4 (length types) ++ (types ++ (pairBytes begin S ++ flatMap conjunctBytes S)))
+  -- the bytes of the fields
+  abbrev listed : List ℕ
+  listed = flatMap fieldBytes fields
+
+  encode-parts : encode fields S ≡ bytes4 (length S) ++ (bytes4 (length fields) ++ (listed ++ (pairBytes begin S ++ flatMap conjunctBytes S)))
   unfolding encode
   encode-parts = simp append-assoc
 
   -- what stands at each place
-  from-fields : From (encode types S) 4 (bytes4 (length types) ++ (types ++ (pairBytes begin S ++ flatMap conjunctBytes S)))
-  from-fields = from-after (encode types S) 0 (bytes4 (length S)) _ 4 (four (length S)) encode-parts
+  from-count : From (encode fields S) 4 (bytes4 (length fields) ++ (listed ++ (pairBytes begin S ++ flatMap conjunctBytes S)))
+  from-count = from-after (encode fields S) 0 (bytes4 (length S)) _ 4 (four (length S)) encode-parts
 
-  from-types : From (encode types S) 8 (types ++ (pairBytes begin S ++ flatMap conjunctBytes S))
-  from-types = from-after (encode types S) 4 (bytes4 (length types)) _ 4 (four (length types)) from-fields
+  from-fields : From (encode fields S) 8 (listed ++ (pairBytes begin S ++ flatMap conjunctBytes S))
+  from-fields = from-after (encode fields S) 4 (bytes4 (length fields)) _ 4 (four (length fields)) from-count
 
-  from-table : From (encode types S) (8 + length types) (pairBytes begin S ++ flatMap conjunctBytes S)
-  from-table = from-after (encode types S) 8 types _ (length types) refl from-types
+  from-table : From (encode fields S) (8 + 2 * length fields) (pairBytes begin S ++ flatMap conjunctBytes S)
+  from-table = from-after (encode fields S) 8 listed _ (2 * length fields) (fields-size fields) from-fields
 
-  from-conjuncts : From (encode types S) begin (flatMap conjunctBytes S)
-  from-conjuncts = from-after (encode types S) (8 + length types) (pairBytes begin S) _ (8 * length S) (table-size S begin) from-table
+  from-conjuncts : From (encode fields S) begin (flatMap conjunctBytes S)
+  from-conjuncts = from-after (encode fields S) (8 + 2 * length fields) (pairBytes begin S) _ (8 * length S) (table-size S begin) from-table
 
   -- what the reader finds
-  pub file-conjuncts : u32At (encode types S) 0 ≡ length S
+  pub file-conjuncts : u32At (encode fields S) 0 ≡ length S
   file-conjuncts = ap (λ s. u32At s 0) encode-parts ∙ u32-bytes4 (length S) _
 
-  pub file-fields : u32At (encode types S) 4 ≡ length types
-  file-fields = local-from u32At u32-local (encode types S) 4 _ from-fields ∙ u32-bytes4 (length types) _
+  pub file-count : u32At (encode fields S) 4 ≡ length fields
+  file-count = local-from u32At u32-local (encode fields S) 4 _ from-count ∙ u32-bytes4 (length fields) _
 
-  pub file-types : part (encode types S) 8 (length types) ≡ types
-  file-types = ap (take (length types)) from-types ∙ take-append-seam types _
+  pub file-fields : entries fieldAt 2 (encode fields S) 8 (length fields) ≡ fields
+  file-fields = fields-read fields (encode fields S) 8 _ from-fields
 
-  pub file-table : pairsAt (encode types S) (8 + length types) (length S) ≡ pairs begin S
-  file-table = table-read S begin (encode types S) (8 + length types) (flatMap conjunctBytes S) from-table
+  pub file-table : pairsAt (encode fields S) (8 + 2 * length fields) (length S) ≡ pairs begin S
+  file-table = table-read S begin (encode fields S) (8 + 2 * length fields) (flatMap conjunctBytes S) from-table
 
-  module _ (h : All (All (FileNode types)) S) where
-    pub file-read : map (conjunctAt (encode types S)) (pairs begin S) ≡ S
-    file-read = conjuncts-read types S h (encode types S) begin from-conjuncts
+  module _ (h : All (All (FileNode (typesIn fields))) S) where
+    pub file-read : map (conjunctAt (encode fields S)) (pairs begin S) ≡ S
+    file-read = conjuncts-read (typesIn fields) S h (encode fields S) begin from-conjuncts
 
-    pub file-right : every (nodesRight types (encode types S)) (pairs begin S) ≡ true
-    file-right = conjuncts-right types S h (encode types S) begin from-conjuncts
+    pub file-right : every (nodesRight (typesIn fields) (encode fields S)) (pairs begin S) ≡ true
+    file-right = conjuncts-right (typesIn fields) S h (encode fields S) begin from-conjuncts
 
-    pub length-encode : length (encode types S) ≡ 8 + length types + 8 * length S + 8 * size S
-    length-encode = ap length encode-parts ∙ simp (length-append, four) (omega (arith, table-size S begin, conjuncts-size types S h))
+    pub length-encode : length (encode fields S) ≡ 8 + 2 * length fields + 8 * length S + 8 * size S
+    length-encode =
+        ap length encode-parts
+        ∙ simp (length-append, four) (omega (arith, fields-size fields, table-size S begin, conjuncts-size (typesIn fields) S h))

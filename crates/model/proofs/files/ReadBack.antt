@@ -9,14 +9,14 @@ use lib.ListN.{length}
 use borrow.Author.Tests.{lt-ltb, le-leb, eq-eqb}
 use Rattle.model.specs.Lists.{All, every}
 use Rattle.model.specs.Refusals.{ok}
-use Rattle.model.specs.Program.{typeRight}
+use Rattle.model.specs.Fields.{Field, fieldRight, typesIn}
 use Rattle.model.specs.Conjunct.{Conj, Conjuncts, orderNodes}
 use Rattle.model.specs.Condition.{conjunctsAt, encode, conditionBytes, typeNodes, whole, numbered, isBefore, rising, lengthRight, readCondition}
 use Rattle.model.specs.Formed.{size, FileNode, Formed}
 use Rattle.model.specs.Sizes.{mostNodes, mostFields, mostConjuncts}
 use Rattle.model.specs.TidySets.{Canon, Numbered, Fine, Tidy}
 use Rattle.model.proofs.basics.Every.{all-every}
-use Rattle.model.proofs.files.FileBytes.{pairOf, pairs, table-chained, file-conjuncts, file-fields, file-types, file-table, file-read, file-right, length-encode}
+use Rattle.model.proofs.files.FileBytes.{pairOf, pairs, table-chained, file-conjuncts, file-count, file-fields, file-table, file-read, file-right, length-encode}
 use Rattle.model.proofs.conjuncts.Limits.{short-each}
 use Rattle.model.proofs.basics.Lists.{all-imp}
 use Rattle.model.proofs.conjuncts.Order.{nodes-self}
@@ -54,32 +54,33 @@ lengths-test (e ∷ S) a h k = ap₂ _&&_ (length-test e a (h .0) (k .0)) (lengt
 
 -- ---- the file
 
-pub encode-reads : (types : List ℕ) (S : Conjuncts) → length types ≤ mostFields → All (λ t. t < 8) types → Tidy S → All (Formed types) S
-    → readCondition (encode types S) ≡ ok (record { types = types; conjuncts = S })
+pub encode-reads : (fields : List Field) (S : Conjuncts) → length fields ≤ mostFields → All (λ F. fieldRight F ≡ true) fields → Tidy S
+    → All (Formed (typesIn fields)) S → readCondition (encode fields S) ≡ ok (record { fields = fields; conjuncts = S })
 unfolding readCondition
-encode-reads types S few right tidy formed =
-    let nodes : All (All (FileNode types)) S = all-imp (λ e h. h .nodes) S formed in
-    let begin = conjunctsAt (length types) (length S) in
-    let total = length-encode types S nodes in
+encode-reads fields S few right tidy formed =
+    let nodes : All (All (FileNode (typesIn fields))) S = all-imp (λ e h. h .nodes) S formed in
+    let begin = conjunctsAt (length fields) (length S) in
+    let total = length-encode fields S nodes in
     rw (
-      file-conjuncts types S,
-      file-fields types S,
-      file-types types S,
-      file-table types S,
-      file-read types S nodes,
-      le-leb 8 (length (encode types S)) (omega arith),
+      file-conjuncts fields S,
+      file-count fields S,
+      file-fields fields S,
+      file-table fields S,
+      file-read fields S nodes,
+      le-leb 8 (length (encode fields S)) (omega arith),
       le-leb (length S) mostConjuncts (tidy .fine .few),
-      le-leb (length types) mostFields few,
-      table-chained S begin (length (encode types S)) total,
-      all-every typeRight types (all-imp (λ t. lt-ltb t 8) types right),
+      le-leb (length fields) mostFields few,
+      table-chained S begin (length (encode fields S)) total,
+      all-every fieldRight fields right,
       lengths-test S begin (all-imp (λ e h. whole-some e (h .one)) S formed) (short-each S (tidy .fine .short)),
-      file-right types S nodes,
+      file-right fields S nodes,
       all-every whole S (all-imp (λ e h. h .one) S formed),
       all-every numbered S (all-imp numbered-test S (tidy .numbered)),
       rising-test S (tidy .canon),
     )
 
--- within the limits the file has at most 61,992 bytes
-pub encode-fits : (types : List ℕ) (S : Conjuncts) → length types ≤ mostFields → Fine S → All (Formed types) S → length (encode types S) ≤ conditionBytes
-encode-fits types S few fine formed =
-    omega (arith, length-encode types S (all-imp (λ e h. h .nodes) S formed), short-size S (short-each S (fine .short)))
+-- within the limits the file has at most 62,024 bytes
+pub encode-fits : (fields : List Field) (S : Conjuncts) → length fields ≤ mostFields → Fine S → All (Formed (typesIn fields)) S
+    → length (encode fields S) ≤ conditionBytes
+encode-fits fields S few fine formed =
+    omega (arith, length-encode fields S (all-imp (λ e h. h .nodes) S formed), short-size S (short-each S (fine .short)))

@@ -90,6 +90,6 @@ blank-fields = record {
       let answer : Condition → Input → ℕ = λ C I. cond (every (holds I) (C .conjuncts)) passNumber heldNumber in
       let old : Condition → Input → Out ℕ = λ C I. check (few C I) tooManyCombinations (ok (answer C I)) in
       let new : Condition → Input → Out ℕ = λ C I. check (full C I) blankField (old C I) in
-      blank-or-bind (readCondition condition) (λ C. readInput (C .types) input >>= new C) (λ C. readInput (C .types) input >>= old C)
-      (λ C. blank-or-bind (readInput (C .types) input) (new C) (old C) (λ I. blank-or-others (full C I) (old C I)));
+      blank-or-bind (readCondition condition) (λ C. readInput (C .fields) input >>= new C) (λ C. readInput (C .fields) input >>= old C)
+      (λ C. blank-or-bind (readInput (C .fields) input) (new C) (old C) (λ I. blank-or-others (full C I) (old C I)));
 }

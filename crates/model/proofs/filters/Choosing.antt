@@ -3,16 +3,16 @@
 use mathlib.Core.Path.{_≡_, refl, sym, ap, subst, _∙_}
 use mathlib.Core.Bool.{Bool, true, false, _&&_, _||_, cond, and-true, true≢false}
 use mathlib.Core.List.{List, [], _∷_, map, List·Memᴰ}
-use Prim.Native.Nat.{ℕ, _+_, _/_}
+use Prim.Native.Nat.{ℕ, _+_, _*_, _/_}
 use lib.Dec.{leb}
 use lib.IntN.{ℤ}
 use lib.ListN.{length}
 use Rattle.arith.specs.Step.{passes}
 use Rattle.model.specs.Lists.{All, every}
 use Rattle.model.specs.Refusals.{ok, wrongCondition}
-use Rattle.model.specs.Bytes.{byteAt, u16At, u32At, part, Pair, pairsAt, chained}
+use Rattle.model.specs.Bytes.{byteAt, u16At, u32At, Pair, entries, pairsAt, chained}
 use Rattle.model.specs.Conjunct.{Source, field, cell, Atom, const, atom, op, conv, Conj, Conjuncts, sameAtom, atoms, has, AtAtom}
-use Rattle.model.specs.Program.{typeRight}
+use Rattle.model.specs.Fields.{fieldAt, fieldRight, typesIn}
 use Rattle.model.specs.Values.{add, sub, mul, div}
 use Rattle.model.specs.Condition.{Condition, conjunctsAt, nodeAt, conjunctAt, whole, numbered, rising, lengthRight, nodesRight, readCondition}
 use Rattle.model.specs.Input.{Input}
@@ -51,12 +51,12 @@ unfolding readCondition
 read-of-fields s C e =
     let c = u32At s 0 in
     let f = u32At s 4 in
-    let types = part s 8 f in
-    let pairs = pairsAt s (8 + f) c in
+    let fields = entries fieldAt 2 s 8 f in
+    let pairs = pairsAt s (8 + 2 * f) c in
     let conjuncts = map (conjunctAt s) pairs in
-    let D : Condition = record { types = types; conjuncts = conjuncts } in
-    let form = leb countsSize (length s) && leb c mostConjuncts && leb f mostFields && chained (conjunctsAt f c) pairs (length s) && every typeRight types && every lengthRight pairs
-    && every (nodesRight types s) pairs && every whole conjuncts && every numbered conjuncts && rising conjuncts in
+    let D : Condition = record { fields = fields; conjuncts = conjuncts } in
+    let form = leb countsSize (length s) && leb c mostConjuncts && leb f mostFields && chained (conjunctsAt f c) pairs (length s) && every fieldRight fields && every lengthRight pairs
+    && every (nodesRight (typesIn fields) s) pairs && every whole conjuncts && every numbered conjuncts && rising conjuncts in
     subst (λ (K : Condition). All OfFields (K .conjuncts)) (ok-eq D C (check-ok form wrongCondition (ok D) C e .1))
     (all-map OfFields (conjunctAt s) pairs
     (all-of (λ p. entries-all (AtAtom (λ b. IsField (b .src))) nodeAt node-of-field 8 s (p .offset) (p .len / 8)) pairs))

@@ -29,7 +29,7 @@ is-held false e = refl
 -- ---- the theorem
 
 -- with a reading in every field that is read, and within the limit, the answer is the test of every conjunct
-pub filter-answer : (condition input : List ℕ) (C : Condition) (I : Input) → readCondition condition ≡ ok C → readInput (C .types) input ≡ ok I
+pub filter-answer : (condition input : List ℕ) (C : Condition) (I : Input) → readCondition condition ≡ ok C → readInput (C .fields) input ≡ ok I
     → every (hasReadings I) (C .conjuncts) ≡ true → every (fewCombinations I) (C .conjuncts) ≡ true
     → filterInput condition input ≡ ok (cond (every (holds I) (C .conjuncts)) passNumber heldNumber)
 unfolding filterInput

@@ -48,7 +48,7 @@ bind-mapped f (refused n) g h e = refl
 pub verdict-filter : (condition input : List ℕ) → mapped answerNumber (verdict condition input) ≡ filterInput condition input
 unfolding verdict filterInput
 verdict-filter condition input =
-    bind-mapped answerNumber (readCondition condition) _ _ λ C. bind-mapped answerNumber (readInput (C .types) input) _ _ λ I.
+    bind-mapped answerNumber (readCondition condition) _ _ λ C. bind-mapped answerNumber (readInput (C .fields) input) _ _ λ I.
     let S = C .conjuncts in
     let few = every (fewCombinations I) S in
     check-mapped answerNumber (every (hasReadings I) S) blankField (check few tooManyCombinations (ok (first (failureIn I) S)))

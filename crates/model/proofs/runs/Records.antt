@@ -14,8 +14,9 @@ use Rattle.arith.proofs.WrapLaws.{wrap-fits, fits-word}
 use Rattle.model.specs.Lists.{All}
 use Rattle.model.specs.Refusals.{Out, ok, _>>=_, wrongInput}
 use Rattle.model.specs.Bytes.{bytes2, bytes4, bytes8, Pair, pairAt, pairsAt, chained}
+use Rattle.model.specs.Fields.{typesIn}
 use Rattle.model.specs.Program.{Tables, Program, fieldType, readProgram}
-use Rattle.model.specs.Input.{Input, width, bitsAt, readingAt, readingsOf, lengthsRight, readInput}
+use Rattle.model.specs.Input.{Input, width, bitsAt, readingAt, readingsOf, lengthsRight, bitsRight, readInput}
 use Rattle.model.specs.Run.{zeros, Line, execute, markByte, recordBytes, written, choicesOf, Ran, ranOf, originsOf, run}
 use Rattle.model.specs.Exact.{nothing, Note, notes, exactRun}
 use Rattle.model.specs.Demands.{Record, recordAt, recordsOf, Marks, MarkExact}
@@ -84,12 +85,13 @@ readings-typed ty s p = entries-all (λ z. fits ty z ≡ true) (readingAt ty) (�
 pub input-typed : (T : Tables) (s : List ℕ) (I : Input) → readInput (T .fields) s ≡ ok I → TypedInput T I
 unfolding readInput
 input-typed T s I e f =
-    let types = T .fields in
-    let pairs = pairsAt s 0 (length types) in
-    let J : Input = λ f. cond (ltb f (length types)) (readingsOf (getD types f 0) s (pairAt s (8 * f))) [] in
-    let right = check-ok (chained (8 * length types) pairs (length s) && lengthsRight types pairs) wrongInput (ok J) I e in
+    let types = typesIn (T .fields) in
+    let n = length (T .fields) in
+    let pairs = pairsAt s 0 n in
+    let J : Input = λ f. cond (ltb f n) (readingsOf (getD types f 0) s (pairAt s (8 * f))) [] in
+    let right = check-ok (chained (8 * n) pairs (length s) && lengthsRight types pairs && bitsRight (T .fields) s pairs) wrongInput (ok J) I e in
     subst (λ (K : Input). All (λ z. fits (fieldType T f) z ≡ true) (K f)) (ok-eq J I (right .1))
-    (case (ltb f (length types)) (λ b. All (λ z. fits (fieldType T f) z ≡ true) (cond b (readingsOf (getD types f 0) s (pairAt s (8 * f))) []))
+    (case (ltb f n) (λ b. All (λ z. fits (fieldType T f) z ≡ true) (cond b (readingsOf (getD types f 0) s (pairAt s (8 * f))) []))
     (λ q. readings-typed (fieldType T f) s (pairAt s (8 * f))) (λ q. tt))
 
 -- ---- the theorem

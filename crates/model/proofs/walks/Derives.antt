@@ -5,6 +5,7 @@ use mathlib.Core.Bool.{Bool, true, false, cond}
 use mathlib.Core.List.{List, [], _∷_, _++_, map, flatMap}
 use Prim.Native.Nat.{ℕ, _<_}
 use lib.Dec.{eqb}
+use lib.ListN.{length-map}
 use borrow.Author.Tests.{eqb-true}
 use Rattle.arith.specs.Step.{fits}
 use Rattle.arith.specs.Words.{immediate}
@@ -12,6 +13,7 @@ use Rattle.arith.proofs.WrapLaws.{fits-zero, immediate-zero}
 use Rattle.model.specs.Lists.{All}
 use Rattle.model.specs.Refusals.{ok, _>>=_}
 use Rattle.model.specs.Code.{Right, number, copy, calc, change, read, load, Instr, assign, store, site}
+use Rattle.model.specs.Fields.{typesIn}
 use Rattle.model.specs.Program.{Program, Tables, variableType, arrayOf, readProgram}
 use Rattle.model.specs.Conjunct.{Source, field, cell, Atom, Node, const, atom, var, op, conv, Conj, Conjuncts, sameAtom, atoms, renamed, onAtom, renumber}
 use Rattle.model.specs.Walk.{nodes, replace, onArray, loads, swap, swapAll, subsets, before, zeroed, derived}
@@ -178,7 +180,7 @@ module _ (T : Tables) where
   -- ---- the program's start
 
   abbrev InFile : Node → Type 0
-  InFile = FileNode (T .fields)
+  InFile = FileNode (typesIn (T .fields))
 
   zero-stands : (v : Node) (ty : ℕ) → ty < 8 → ((st : List ℕ) → typeNode v st ≡ ok (ty ∷ st)) → Stand InFile v (const ty 0 ∷ [])
   unfolding typeNodes typeNode
@@ -186,7 +188,7 @@ module _ (T : Tables) where
 
   zeroed-source : (s : Source) (n : ℕ) → WalkSource s → Stand InFile (atom (record { src = s; n = n })) (zeroed (atom (record { src = s; n = n })) ∷ [])
   unfolding zeroed typeNode
-  zeroed-source (field f ty) n h = itself InFile (atom (record { src = field f ty; n = n })) (h .1, sym (h .0))
+  zeroed-source (field f ty) n h = itself InFile (atom (record { src = field f ty; n = n })) (rw (length-map (T .fields) (λ F. F .ty)) (h .1), sym (h .0))
   zeroed-source (cell l r k ty) n h = zero-stands (atom (record { src = cell l r k ty; n = n })) ty (h .1) (λ st. refl)
 
   zeroed-stands : (v : Node) → WalkNode v → Stand InFile v (zeroed v ∷ [])
@@ -198,7 +200,7 @@ module _ (T : Tables) where
   zeroed-stands (conv ty) h = itself InFile (conv ty) h
 
 -- every conjunct that the analysis derives from a program that is read may stand in a condition file
-pub derived-formed : (s : List ℕ) (P : Program) (S : Conjuncts) → readProgram s ≡ ok P → derived (P .code) ≡ ok S → All (Formed (P .tables .fields)) S
+pub derived-formed : (s : List ℕ) (P : Program) (S : Conjuncts) → readProgram s ≡ ok P → derived (P .code) ≡ ok S → All (Formed (typesIn (P .tables .fields))) S
 derived-formed s P S p d =
     let c = program-checked s P p in
     let T = wide s P c in

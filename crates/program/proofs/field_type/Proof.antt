@@ -1,14 +1,22 @@
 -- `program::field_type` meets its contract.
+use mathlib.Core.Path.{ap, _∙_}
 use borrow.Author.Needs.{needs}
-use Rattle.program.proofs.Tables.{fields-are}
+use lib.ListN.{getD}
+use Rattle.model.specs.Fields.{typesIn}
 use Rattle.program.proofs.field_type.Statement.{statement}
 use Rattle.program.proofs.field_type.Tie as tie
 
-byte-of-requires : tie.Need-byte-of-requires
-byte-of-requires c κs = search needs
+fields-requires : tie.Need-fields-requires
+fields-requires c κs = search needs
+
+type-of-requires : tie.Need-type-of-requires
+type-of-requires c κs = search needs
 
 returns : tie.Need-returns
-returns c = let a = c .before .before .args in rw (fields-are (a .program .now) (a .layout) (c .before .before .pre)) (c .byte-of .ensures)
+returns c =
+    let table = c .before in
+    let x = table .before .before .args .x in
+    c .type-of .ensures ∙ ap (λ F. getD (typesIn F) x 0) (table .fields .ensures .0)
 
 pub field-type-spec : {M : Type 1} → statement M
-field-type-spec = tie.close (tie.spec byte-of-requires returns)
+field-type-spec = tie.close (tie.spec fields-requires type-of-requires returns)

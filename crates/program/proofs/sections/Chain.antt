@@ -8,10 +8,10 @@ use native.Mathlib.Omega.{arith}
 use borrow.Author.Tests.{leb-true, eqb-true, eq-eqb, ne-eqb, eqb-false, le-leb, lt-leb}
 use lib.Dec.{leb, eqb}
 use lib.ListN.{length}
-use Rattle.model.specs.Sizes.{sectionTable, mostProgram, pairSize, arraySize, statementSize}
+use Rattle.model.specs.Sizes.{sectionTable, mostProgram, pairSize, fieldSize, arraySize, statementSize}
 use Rattle.model.specs.Refusals.{ok, refused, check, wrongSections}
 use Rattle.model.specs.Bytes.{u32At, Pair as ModelPair, pairAt, entries, pairsAt, chained}
-use Rattle.model.specs.Program.{Layout as Sections, layoutOf, sectionsRight}
+use Rattle.model.specs.Program.{Layout as Sections, layoutOf, sectionsIn, sectionsRight}
 use Rattle.model.proofs.basics.Tests.{and-left, and-right}
 use Rattle.model.proofs.files.Parts.{entries-step, entries-getD, length-entries, chained-inside}
 use Rattle.program.specs.Numbers.{sections, fieldsPair, variablesPair, arraysPair, statementsPair}
@@ -84,23 +84,24 @@ module _ (s : List ℕ) where
   abbrev linked : Bool
   linked = chained sectionTable (pairsAt s 0 sections) (length s)
 
-  pub table-short : length s < sectionTable → sectionsRight s ≡ false
-  unfolding sectionsRight
-  table-short h = rw (lt-leb sectionTable (length s) h)
+  module _ (most entry : ℕ) where
+    pub table-short : length s < sectionTable → sectionsIn most entry s ≡ false
+    unfolding sectionsIn
+    table-short h = rw (lt-leb sectionTable (length s) h)
 
-  module _ (whole : sectionTable ≤ length s) where
-    pub table-long : mostProgram < length s → sectionsRight s ≡ false
-    unfolding sectionsRight
-    table-long h = rw (le-leb sectionTable (length s) whole, lt-leb (length s) mostProgram h)
+    module _ (whole : sectionTable ≤ length s) where
+      pub table-long : most < length s → sectionsIn most entry s ≡ false
+      unfolding sectionsIn
+      table-long h = rw (le-leb sectionTable (length s) whole, lt-leb (length s) most h)
 
-    module _ (short : length s ≤ mostProgram) where
-      pub table-broken : linked ≡ false → sectionsRight s ≡ false
-      unfolding sectionsRight
-      table-broken h = rw (le-leb sectionTable (length s) whole, le-leb (length s) mostProgram short, h)
+      module _ (short : length s ≤ most) where
+        pub table-broken : linked ≡ false → sectionsIn most entry s ≡ false
+        unfolding sectionsIn
+        table-broken h = rw (le-leb sectionTable (length s) whole, le-leb (length s) most short, h)
 
-      pub table-linked : linked ≡ true → sectionsRight s ≡ wholeEntries s
-      unfolding sectionsRight
-      table-linked h = rw (le-leb sectionTable (length s) whole, le-leb (length s) mostProgram short, h)
+        pub table-linked : linked ≡ true → sectionsIn most entry s ≡ wholeEntries entry s
+        unfolding sectionsIn
+        table-linked h = rw (le-leb sectionTable (length s) whole, le-leb (length s) most short, h)
 
   -- ---- a right table
 
@@ -109,10 +110,12 @@ module _ (s : List ℕ) where
     bounded = leb sectionTable (length s) && leb (length s) mostProgram
 
     begun : (bounded && linked) ≡ true
-    unfolding sectionsRight
+    unfolding sectionsIn
     begun =
+        let f = eqb (u32At s 4 % fieldSize) 0 in
         let a = eqb (u32At s 20 % arraySize) 0 in
-        and-left (bounded && linked) a (and-left (bounded && linked && a) (eqb (u32At s 28 % statementSize) 0) right)
+        and-left (bounded && linked) f
+        (and-left (bounded && linked && f) a (and-left (bounded && linked && f && a) (eqb (u32At s 28 % statementSize) 0) right))
 
     short : length s ≤ mostProgram
     short =
@@ -133,7 +136,7 @@ module _ (s : List ℕ) where
     unfolding layoutOf
     placed L e =
         let e₁ : L .«fields_at» ≡ u32At s 0 = ap (λ (M : Sections). M .fieldsAt) e in
-        let e₂ : L .fields ≡ u32At s 4 = ap (λ (M : Sections). M .fields) e in
+        let e₂ : L .fields ≡ u32At s 4 / fieldSize = ap (λ (M : Sections). M .fields) e in
         let e₃ : L .«variables_at» ≡ u32At s 8 = ap (λ (M : Sections). M .variablesAt) e in
         let e₄ : L .variables ≡ u32At s 12 = ap (λ (M : Sections). M .variables) e in
         let e₅ : L .«arrays_at» ≡ u32At s 16 = ap (λ (M : Sections). M .arraysAt) e in

@@ -3,7 +3,8 @@ use Prim.Native.Nat.{_+_, _*_}
 use native.Mathlib.Omega.{arith}
 use borrow.Author.Needs.{needs}
 use Rattle.model.specs.Bytes.{bytes4}
-use Rattle.writer.proofs.Written.{stored-then, four-bytes}
+use Rattle.bytes_le.proofs.Overlays.{stored-then}
+use Rattle.writer.proofs.Written.{four-bytes}
 use Rattle.writer.proofs.put_pair.Statement.{statement}
 use Rattle.writer.proofs.put_pair.Tie as tie
 

@@ -2,6 +2,7 @@
 
 use gate_oracle::build;
 use gate_oracle::condition::{node, write, READING};
+use gate_oracle::fields::Field;
 use gate_oracle::types::{width, ADD, CONSTANT, CONVERT, DIVIDE, MULTIPLY, SUBTRACT};
 use gate_oracle::{Cause, Verdict};
 
@@ -24,7 +25,7 @@ fn case(name: &'static str, ty: u8, conjuncts: &[Vec<u64>], fields: &[Vec<i64>])
         readings.iter().flat_map(|reading| reading.to_le_bytes()[..width(ty)].to_vec()).collect()
     };
     let sheet = build::of_parts(&fields.iter().map(bytes).collect::<Vec<_>>());
-    Case { name, condition: write(&vec![ty; fields.len()], conjuncts), sheet, verdict: Verdict::Pass }
+    Case { name, condition: write(&vec![Field::whole(ty); fields.len()], conjuncts), sheet, verdict: Verdict::Pass }
 }
 
 /// One conjunct of a field with 32 readings.

@@ -23,8 +23,8 @@ refused-requires c κs = search needs
 enum-known-r-2 : tie.Need-enum-known-r-2
 enum-known-r-2 c = search needs
 
-types-requires : tie.Need-types-requires
-types-requires c κs = sym (c .before .before .before .read .ensures) ∙ ap conditionAnswer (c .before .r2 .given .1)
+fields-requires : tie.Need-fields-requires
+fields-requires c κs = sym (c .before .before .before .read .ensures) ∙ ap conditionAnswer (c .before .r2 .given .1)
 
 say-counts-requires : tie.Need-say-counts-requires
 say-counts-requires c κs = search needs
@@ -51,7 +51,7 @@ condition-lines-spec =
     enum-known-r
     refused-requires
     enum-known-r-2
-    types-requires
+    fields-requires
     say-counts-requires
     slice-aggregate-sheet-line
     sheet-line-requires

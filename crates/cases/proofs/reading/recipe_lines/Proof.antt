@@ -22,8 +22,8 @@ refused-requires c κs = search needs
 enum-known-r-2 : tie.Need-enum-known-r-2
 enum-known-r-2 c = search needs
 
-field-types-requires : tie.Need-field-types-requires
-field-types-requires c κs = is-read _ _ _ (c .before .before .before .read .ensures) (c .before .r2 .given .1) .placed
+fields-requires : tie.Need-fields-requires
+fields-requires c κs = is-read _ _ _ (c .before .before .before .read .ensures) (c .before .r2 .given .1) .placed
 
 say-layout-requires : tie.Need-say-layout-requires
 say-layout-requires c κs = search needs
@@ -50,7 +50,7 @@ recipe-lines-spec =
     enum-known-r
     refused-requires
     enum-known-r-2
-    field-types-requires
+    fields-requires
     say-layout-requires
     slice-aggregate-sheet-line
     sheet-line-requires

@@ -16,7 +16,7 @@ use Rattle.program.specs.Numbers.{ifKind, procedureKind}
 use Rattle.program.specs.OpenBlocks.{blocksIn, blocksOf, inProcedures, passedOf, Packed, PackedIf}
 use Rattle.program.specs.Reading.{statementOf, tablesOf}
 use Rattle.program.proofs.Items.{item-plain, item-at, items-length, begins-none-test}
-use Rattle.program.proofs.Passes.{pass-gathers, pass-gathered}
+use Rattle.model.proofs.basics.Passes.{pass-gathers, pass-gathered}
 use Rattle.program.proofs.Tables.{sized}
 use Rattle.program.proofs.nesting.Passing.{pass-on, pass-stops, pass-ends, grows-by-one}
 use Rattle.program.proofs.nesting.Words.{length-procedures, inner-open, blocks-open, none-open}

@@ -12,7 +12,7 @@ use Rattle.model.specs.Procedures.{Procedure, apart}
 use Rattle.model.specs.Program.{Tables, Statement}
 use Rattle.program.specs.Parts.{procedureIn, proceduresIn}
 use Rattle.program.specs.Reading.{tablesOf}
-use Rattle.program.proofs.Passes.{rest-fails, rest-goes, rest-ends}
+use Rattle.model.proofs.basics.Passes.{rest-fails, rest-goes, rest-ends}
 use Rattle.program.proofs.Listing.{noProcedure, procedures-length, procedure-at}
 use borrow.Author.Needs.{needs}
 use Rattle.program.proofs.own_variables.apart_from_later.Statement.{statement}

@@ -13,7 +13,7 @@ use Rattle.program.specs.Names.{within}
 use Rattle.program.specs.Parts.{procedureBetween}
 use Rattle.program.specs.Reading.{tablesOf, entryOf}
 use Rattle.program.proofs.Items.{item-at, items-length}
-use Rattle.program.proofs.Passes.{pass-fails, pass-goes, pass-ends}
+use Rattle.model.proofs.basics.Passes.{pass-fails, pass-goes, pass-ends}
 use Rattle.program.proofs.Tables.{sized}
 use Rattle.program.proofs.own_variables.Bodies.{body-length, body-at}
 use borrow.Author.Needs.{needs}

@@ -13,7 +13,7 @@ use Rattle.model.specs.Program.{Tables, Statement, itemOf, itemsOf}
 use Rattle.program.specs.Parts.{itemAt, proceduresIn}
 use Rattle.program.specs.Reading.{tablesOf}
 use Rattle.program.proofs.Items.{item-at, items-length}
-use Rattle.program.proofs.Passes.{rest-fails, rest-goes, rest-ends}
+use Rattle.model.proofs.basics.Passes.{rest-fails, rest-goes, rest-ends}
 use Rattle.program.proofs.Tables.{sized}
 use borrow.Author.Needs.{needs}
 use Rattle.program.proofs.own_variables.main_spared.Statement.{statement}

@@ -10,7 +10,7 @@ use Rattle.model.specs.Procedures.{Procedure, owns}
 use Rattle.program.specs.Names.{namesOf}
 use Rattle.program.specs.Parts.{proceduresIn}
 use Rattle.program.specs.Reading.{tablesOf}
-use Rattle.program.proofs.Passes.{pass-fails, pass-goes, pass-ends}
+use Rattle.model.proofs.basics.Passes.{pass-fails, pass-goes, pass-ends}
 use Rattle.program.proofs.own_variables.Naming.{names-length, name-in}
 use borrow.Author.Needs.{needs}
 use Rattle.program.proofs.own_variables.names_spared.Statement.{statement}

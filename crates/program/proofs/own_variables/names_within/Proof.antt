@@ -5,7 +5,7 @@ use borrow.Author.Tests.{not-true, not-false}
 use lib.ListN.{length, getD, drop}
 use Rattle.model.specs.Lists.{every}
 use Rattle.program.specs.Names.{namesOf, within}
-use Rattle.program.proofs.Passes.{pass-fails, pass-goes, pass-ends}
+use Rattle.model.proofs.basics.Passes.{pass-fails, pass-goes, pass-ends}
 use Rattle.program.proofs.own_variables.Naming.{names-length, name-in}
 use borrow.Author.Needs.{needs}
 use Rattle.program.proofs.own_variables.names_within.Statement.{statement}

@@ -11,7 +11,7 @@ use Rattle.model.specs.Program.{Tables, Statement}
 use Rattle.program.specs.Names.{within}
 use Rattle.program.specs.Parts.{proceduresIn}
 use Rattle.program.specs.Reading.{tablesOf}
-use Rattle.program.proofs.Passes.{pass-fails, pass-goes, pass-ends}
+use Rattle.model.proofs.basics.Passes.{pass-fails, pass-goes, pass-ends}
 use Rattle.program.proofs.Listing.{noProcedure, procedures-length, procedure-at}
 use borrow.Author.Needs.{needs}
 use Rattle.program.proofs.own_variables.owned_by_none.Statement.{statement}

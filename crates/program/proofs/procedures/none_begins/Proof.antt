@@ -11,7 +11,7 @@ use Rattle.model.specs.Procedures.{Item, own, beginsNone}
 use Rattle.model.specs.Program.{itemsOf}
 use Rattle.program.specs.Reading.{tablesOf}
 use Rattle.program.proofs.Items.{items-length}
-use Rattle.program.proofs.Passes.{rest-fails, rest-goes, rest-ends}
+use Rattle.model.proofs.basics.Passes.{rest-fails, rest-goes, rest-ends}
 use Rattle.program.proofs.Tables.{sized}
 use borrow.Author.Needs.{needs}
 use Rattle.program.proofs.procedures.none_begins.Statement.{statement}

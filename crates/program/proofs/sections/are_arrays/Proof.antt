@@ -12,7 +12,7 @@ use Rattle.model.specs.Bytes.{entries}
 use Rattle.model.specs.Lists.{every}
 use Rattle.model.specs.Program.{Array, arrayRight, arrayAt}
 use Rattle.model.proofs.files.Parts.{length-entries, entries-getD}
-use Rattle.program.proofs.Passes.{pass-fails, pass-goes, pass-ends}
+use Rattle.model.proofs.basics.Passes.{pass-fails, pass-goes, pass-ends}
 use Rattle.program.proofs.sections.are_arrays.Statement.{statement}
 use Rattle.program.proofs.sections.are_arrays.Tie as tie
 

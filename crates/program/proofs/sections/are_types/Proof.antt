@@ -10,7 +10,7 @@ use Rattle.model.specs.Bytes.{part}
 use Rattle.model.specs.Lists.{every}
 use Rattle.model.specs.Program.{typeRight}
 use Rattle.model.proofs.files.Parts.{length-part, getD-part}
-use Rattle.program.proofs.Passes.{pass-fails, pass-goes, pass-ends}
+use Rattle.model.proofs.basics.Passes.{pass-fails, pass-goes, pass-ends}
 use Rattle.program.proofs.sections.are_types.Statement.{statement}
 use Rattle.program.proofs.sections.are_types.Tie as tie
 

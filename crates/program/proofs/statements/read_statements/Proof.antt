@@ -12,7 +12,7 @@ use Rattle.model.specs.Program.{Tables, Statement, formRight, typesAgree, immed
 use Rattle.model.specs.Refusals.{wrongStatement}
 use Rattle.program.specs.Reading.{entryOf, statementOf, statementFrom, noStatement, tablesOf}
 use Rattle.program.proofs.Answers.{check-ok, check-refused, check-number}
-use Rattle.program.proofs.Passes.{pass-fails, pass-goes, pass-ends, pass-gathers, pass-gathered}
+use Rattle.model.proofs.basics.Passes.{pass-fails, pass-goes, pass-ends, pass-gathers, pass-gathered}
 use Rattle.program.proofs.Tables.{sized}
 use Rattle.program.proofs.statements.read_statements.Statement.{statement}
 use Rattle.program.proofs.statements.read_statements.Tie as tie

@@ -1,0 +1,2 @@
+pub mod NewFiles
+pub mod Answers
