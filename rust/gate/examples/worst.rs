@@ -12,6 +12,7 @@ use gate::{derive, scratch, CONDITION};
 use gate_oracle::condition::MOST_CONJUNCTS;
 use gate_oracle::generate::Rng;
 use gate_oracle::nests::{Nest, Piece, Sites, ROWS, WORST};
+use gate_oracle::procedures::MOST_WRITTEN;
 use gate_oracle::recipe::MOST_STATEMENTS;
 use std::time::{Duration, Instant};
 
@@ -87,15 +88,20 @@ fn reckoned(nest: Nest) -> Option<f64> {
     }
 }
 
-/// As many pieces as there is room for, and as many calls of them, or nothing if there is none.
+/// As many pieces as there is room for, in the innermost body or written out by calls, or nothing if there is none.
 fn filled(nest: Nest) -> Option<Nest> {
-    let calls = nest.calls.min(1);
-    let one = (FEW..MOST_STATEMENTS).rev().map(|pieces| Nest { pieces, calls, ..nest }).find(|nest| nest.fits())?;
-    let more = |calls: usize| Nest { pieces: one.pieces - calls / 2 - 1, calls, ..one };
-    if calls == 0 {
-        return Some(one);
+    if nest.calls == 0 {
+        return (FEW..MOST_STATEMENTS).rev().map(|pieces| Nest { pieces, ..nest }).find(|nest| nest.fits());
     }
-    (1..2 * (one.pieces - FEW)).rev().map(more).find(|nest| nest.fits()).or(Some(one))
+    let bare = Nest { pieces: 0, calls: 1, ..nest }.statements();
+    let piece = Nest { pieces: 1, calls: 1, ..nest }.statements() - bare;
+    let called = |pieces: usize| {
+        let listed = MOST_STATEMENTS.checked_sub(bare + piece * pieces)? + 1;
+        let written = (MOST_WRITTEN + 3 - bare) / (piece * pieces + 2);
+        Some(Nest { pieces, calls: listed.min(written), ..nest })
+    };
+    let all = (FEW..MOST_STATEMENTS).filter_map(called).filter(|nest| nest.fits());
+    all.max_by_key(|nest| nest.pieces * nest.calls)
 }
 
 /// A step to a nest nearby.
