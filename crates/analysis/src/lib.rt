@@ -1,4 +1,6 @@
 // The analysis: from a program's bytes to the condition file that it needs, or a numbered refusal.
+#![tactic(auto)]
+
 ghost use Rattle.std.specs.Prelude.{◌≡◌, true, [], ◌∷◌, ℕ, ◌+◌, ◌*◌, ◌≤◌, ◌<◌, length};
 ghost use Rattle.model.specs.Code.{Code};
 ghost use Rattle.model.specs.Condition.{encode, analysis};
@@ -230,7 +232,7 @@ pub const CONDITION: usize = 62024;
 
 // The length of the condition file that stands at the start of the output, or the number of the
 // refusal.
-#[derive(Drop)]
+#[derive(Clone, Copy)]
 pub enum Derived {
     Written(usize),
     Refused(u8),

@@ -1,5 +1,7 @@
 // One step of arithmetic on the eight integer types, in whole numbers: its value, or why it
 // overflows; and wrapped to the type, with whether it overflowed.
+#![tactic(auto)]
+
 ghost use Rattle.std.specs.Prelude.{◌≡◌, ℕ, ◌%◌, ◌^◌, ◌<◌, true, not, ◌||◌, ℤ, pos, if◌then◌else◌, int_le};
 ghost use Rattle.arith.specs.declared.Cause.TheVariants.{Above, Below, NoDivisor};
 ghost use Rattle.arith.specs.Types.{Row, IsRow, bits, lowest, limit_of};
@@ -12,21 +14,21 @@ use whole::Whole;
 mod whole;
 
 // A whole number by its sign and its magnitude. Zero may have either sign.
-#[derive(Drop)]
+#[derive(Clone, Copy)]
 pub struct Num {
     pub neg: bool,
     pub mag: u64,
 }
 
 // A type's width in bits, how far its lowest value lies below 0, and its highest value.
-#[derive(Drop)]
+#[derive(Clone, Copy)]
 pub struct Range {
     pub bits: u32,
     pub lowest: u64,
     pub highest: u64,
 }
 
-#[derive(Drop)]
+#[derive(Clone, Copy)]
 pub enum Op {
     Add,
     Sub,
@@ -36,7 +38,7 @@ pub enum Op {
 }
 
 // Why a step overflows in its type: the result is above the type's range, below it, or there is no divisor.
-#[derive(Drop)]
+#[derive(Clone, Copy)]
 pub enum Cause {
     Above,
     Below,
@@ -44,14 +46,14 @@ pub enum Cause {
 }
 
 // What comes of a step: its value, or why it overflows in the type.
-#[derive(Drop)]
+#[derive(Clone, Copy)]
 pub enum Step {
     Value(Num),
     Overflow(Cause),
 }
 
 // The word of a step's result wrapped to the type, and whether the step overflowed.
-#[derive(Drop)]
+#[derive(Clone, Copy)]
 pub struct WrappedWord {
     pub word: u64,
     pub over: bool,

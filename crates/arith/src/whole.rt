@@ -8,7 +8,7 @@ use super::{Num, Op};
 
 // A whole number whose magnitude may pass 64 bits: its sign, whether the magnitude is 2^64 or
 // more, and the magnitude modulo 2^64.
-#[derive(Drop)]
+#[derive(Clone, Copy)]
 pub struct Whole {
     pub neg: bool,
     pub over: bool,

@@ -1,6 +1,8 @@
 // Little-endian numbers read from and written to byte slices. A read equals the model's number at a
 // place; a write leaves the slice with the number's bytes stored from the place on and no other
 // byte changed.
+#![tactic(auto)]
+
 ghost use Rattle.std.specs.Prelude.{◌≡◌, ◌+◌, ◌^◌, ◌≤◌, ◌<◌, length, take};
 ghost use Rattle.model.specs.Bytes.{u16_at, u32_at, u64_at, bytes2, bytes4, bytes8};
 ghost use Rattle.bytes_le.specs.Overlay.{overlay};

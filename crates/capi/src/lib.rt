@@ -2,6 +2,8 @@
 // include/gate.h declares them. A slice passes as a pointer and a length. An answer is one word: the
 // refusal's number times 2^32, or what the operation gives. specs/Words.antt says what each word
 // stands for.
+#![tactic(auto)]
+
 ghost use Rattle.std.specs.Prelude.{◌≡◌, ◌*◌, ◌≤◌, length};
 ghost use Rattle.model.specs.Refusals.{mapped};
 ghost use Rattle.model.specs.Failure.{cause_number, verdict_number, verdict};

@@ -1,6 +1,8 @@
 // The stored cases through the library: the outside vectors and the cases beside them. Each part has a
 // headline and then, for each case that asks for it, what the part's module says. The stored files and
 // what a case asks are in module `stored`.
+#![tactic(auto)]
+
 mod analysing;
 mod converting;
 mod filtering;
@@ -13,7 +15,7 @@ use files::answers::say;
 // How many cases are stored.
 const CASES: usize = 339;
 
-#[derive(Drop)]
+#[derive(Clone, Copy)]
 enum Part {
     Reading,
     Analysing,

@@ -28,7 +28,7 @@ const NUMBER: usize = 4;
 // The most that its kind has.
 const KIND: usize = 12;
 
-#[derive(Drop)]
+#[derive(Clone, Copy)]
 pub(crate) struct Case {
     pub(crate) log: usize,
     pub(crate) asks: u8,

@@ -1,5 +1,7 @@
 // The reader of the condition file: every clause of its form is tested, each by a pass of its own or
 // by one over the conjuncts; and what a filter needs of a condition that is read.
+#![tactic(auto)]
+
 ghost use Rattle.std.specs.Prelude.{◌≡◌, true, ◌&&◌, map, length};
 ghost use Prim.Native.Nat.{ℕ, ◌+◌, ◌*◌, ◌/◌, ◌%◌, ◌≤◌, ◌<◌, compare};
 ghost use Rattle.model.specs.Lists.{every};
@@ -55,7 +57,7 @@ const FILE_KINDS: u8 = 7;
 const WRONG_CONDITION: u8 = 12;
 
 // A node by its numbers.
-#[derive(Drop)]
+#[derive(Clone, Copy)]
 pub struct Node {
     pub kind: u8,
     pub ty: u8,
@@ -64,28 +66,28 @@ pub struct Node {
 }
 
 // A node in its form, or the number of the refusal.
-#[derive(Drop)]
+#[derive(Clone, Copy)]
 enum NodeRead {
     Node(Node),
     Refused(u8),
 }
 
 // A conjunct is in its form, or the number of the refusal.
-#[derive(Drop)]
+#[derive(Clone, Copy)]
 enum ConjunctRead {
     Formed,
     Refused(u8),
 }
 
 // How many conjuncts and fields a condition has.
-#[derive(Drop)]
+#[derive(Clone, Copy)]
 pub struct Counts {
     pub conjuncts: usize,
     pub fields: usize,
 }
 
 // The condition is in its form, or the number of the refusal.
-#[derive(Drop)]
+#[derive(Clone, Copy)]
 pub enum ConditionRead {
     Counts(Counts),
     Refused(u8),

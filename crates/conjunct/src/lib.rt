@@ -1,5 +1,7 @@
 // A conjunct as the first n of lent words, each of them a node (module node): its order, and its changes
 // node by node. Module numbering has the substitution for a variable and the numbers of the atoms.
+#![tactic(auto)]
+
 ghost use Rattle.std.specs.Prelude.{◌≡◌, cond, List, map, length, take, drop};
 ghost use Prim.Native.Nat.{ℕ, ◌+◌, ◌<◌, ◌≤◌, compare};
 ghost use Rattle.model.specs.Conjunct.{Atom, atom, var, ◌then◌, order_numbers, same_atom, on_atom_lem};
@@ -15,7 +17,7 @@ pub mod numbering;
 // the nodes of the longest conjunct
 pub const MOST_NODES: usize = 120;
 
-#[derive(Drop)]
+#[derive(Clone, Copy)]
 pub enum Order {
     Less,
     Same,

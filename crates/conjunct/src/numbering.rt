@@ -12,28 +12,28 @@ ghost use Rattle.conjunct.specs.Behind.{SeenAtoms, RoomBehind, Ranked, Behind, L
 use super::{MOST_NODES, node};
 
 // how many atoms of its source stand before an atom, and whether it is there
-#[derive(Drop)]
+#[derive(Clone, Copy)]
 pub struct Rank {
     pub n: u64,
     pub known: bool,
 }
 
 // a word with its new number, and how many atoms there are then
-#[derive(Drop)]
+#[derive(Clone, Copy)]
 pub struct Noted {
     pub word: u64,
     pub count: usize,
 }
 
 // a right side of an assignment: at most 3 nodes
-#[derive(Drop)]
+#[derive(Clone, Copy)]
 pub struct Right {
     pub len: usize,
     pub nodes: [u64; 3],
 }
 
 // how many nodes a conjunct has after a substitution, or that they are over 120
-#[derive(Drop)]
+#[derive(Clone, Copy)]
 pub enum Substituted {
     Over,
     Nodes(usize),

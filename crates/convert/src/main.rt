@@ -1,6 +1,8 @@
 // convert OLD NEW: writes the recipe of the old form in the new one, each field with all bits of its type, and
 // prints nothing; or prints `refused K` and writes nothing. A file that cannot be read or written is named on
 // standard error.
+#![tactic(auto)]
+
 use files::{FileAnswer, answers};
 use widening::Converted;
 

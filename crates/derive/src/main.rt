@@ -1,5 +1,7 @@
 // derive RECIPE CONDITION: writes the condition of a recipe and prints `conjuncts N`, or prints
 // `refused K` and writes nothing. A file that cannot be read or written is named on standard error.
+#![tactic(auto)]
+
 use analysis::Derived;
 use files::{FileAnswer, answers};
 

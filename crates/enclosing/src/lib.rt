@@ -1,5 +1,7 @@
 // From a statement of a program to its start: the set just before the statement goes back through the
 // blocks around it, the innermost first. A block is known by the labels where it begins and ends.
+#![tactic(auto)]
+
 ghost use Rattle.std.specs.Prelude.{◌≡◌, ℕ, ◌+◌, ◌≤◌, ◌<◌, length};
 ghost use Rattle.model.specs.Code.{Code};
 ghost use Rattle.model.specs.Sizes.{most_rows};
@@ -13,7 +15,7 @@ ghost use Rattle.enclosing.specs.Enclosing.{walk_both_lem, Enclosed, WalksOut, L
 use rules::Answer;
 
 // Where the innermost block begins, at its if or while; or the statement stands in no block.
-#[derive(Drop)]
+#[derive(Clone, Copy)]
 enum Block {
     At(usize),
     Top,

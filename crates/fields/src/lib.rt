@@ -1,4 +1,6 @@
 // The field table, as it lies in a program and in a condition: two bytes a field, its type and 128 plus the number of its bits.
+#![tactic(auto)]
+
 ghost use Rattle.std.specs.Prelude.{◌≡◌, ◌+◌, ◌≤◌, length, get_or};
 ghost use Rattle.model.specs.Lists.{every};
 ghost use Rattle.model.specs.Sizes.{field_size};

@@ -4,6 +4,8 @@
 //
 // A file is read into a buffer one byte longer than any of its form. Of a longer file the library is
 // given the bytes that fill the buffer, which it refuses as it would the whole.
+#![tactic(auto)]
+
 pub mod answers;
 pub mod choice_file;
 
@@ -39,7 +41,7 @@ pub const RECORD: usize = 12;
 pub const LOG: usize = RECORDS * RECORD;
 
 // How many bytes were read or written; or the file could not be, which has been said.
-#[derive(Drop)]
+#[derive(Clone, Copy)]
 pub enum FileAnswer {
     Bytes(usize),
     Failed,
@@ -110,7 +112,7 @@ pub fn read(i: usize, buffer: &mut [u8]) -> FileAnswer
 }
 
 // The files of a run: how many bytes of each were read, or that one could not be.
-#[derive(Drop)]
+#[derive(Clone, Copy)]
 pub enum RunFiles {
     Read {
         recipe: usize,

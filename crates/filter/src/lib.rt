@@ -3,6 +3,8 @@
 // once. Two passes go over all conjuncts: the first works out how many combinations each has, which tells
 // of blank fields (15) and of too many combinations (14); the second evaluates, and only where the first
 // refuses nothing.
+#![tactic(auto)]
+
 ghost use Rattle.std.specs.Prelude.{◌≡◌, ℕ, ◌*◌, ◌≤◌, ◌<◌, length};
 ghost use Rattle.arith.specs.Types.{Row};
 ghost use Rattle.model.specs.Sizes.{most_fields};
@@ -20,7 +22,7 @@ use evaluator::Answer;
 use input::InputRead;
 
 // The input passes, is held, and why it is, or the number of the refusal.
-#[derive(Drop)]
+#[derive(Clone, Copy)]
 pub enum Verdict {
     Pass,
     Held(Cause),
@@ -29,7 +31,7 @@ pub enum Verdict {
 
 // What the numbers of combinations tell of all conjuncts: one reads a field without a reading; none
 // does, but one has too many combinations; neither.
-#[derive(Drop)]
+#[derive(Clone, Copy)]
 enum Combinations {
     Blank,
     TooMany,

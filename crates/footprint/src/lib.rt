@@ -1,5 +1,7 @@
 // Which variables and arrays a set of conjuncts speaks of, and whether a part of a program changes
 // any of them.
+#![tactic(auto)]
+
 ghost use Rattle.std.specs.Prelude.{◌≡◌, true, ◌+◌, ◌≤◌, length};
 ghost use Rattle.code_table.specs.Statements.{stmt_from};
 ghost use Rattle.code_table.specs.Table.{stmts};
@@ -19,7 +21,7 @@ const ARRAYS: usize = 16;
 const STATEMENTS_A_CONJUNCT: usize = 4;
 
 // A flag for each variable, by its number modulo their count, and for each array.
-#[derive(Drop)]
+#[derive(Clone, Copy)]
 pub struct Footprint {
     pub variables: [bool; VARIABLE_FLAGS],
     pub arrays: [bool; ARRAYS],

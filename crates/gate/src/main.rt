@@ -1,5 +1,7 @@
 // gate CONDITION SHEET: whether the readings of a sheet pass a condition. It prints `pass`, `held` with
 // the cause of the first failure, or `refused K`. A file that cannot be read is named on standard error.
+#![tactic(auto)]
+
 use arith::Cause;
 use files::answers::say;
 use files::{FileAnswer, answers};

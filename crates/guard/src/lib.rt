@@ -1,6 +1,8 @@
 // The run behind the filter: a program is run on an input only if the input passes under the
 // program's condition. The analysis writes to a file of its own, whose bytes go to the filter and, once
 // the run has ended, to the condition's output; so the output stays as it was unless the program is run.
+#![tactic(auto)]
+
 ghost use Rattle.std.specs.Prelude.{◌≡◌, ◌≤◌, length};
 ghost use Rattle.model.specs.Condition.{condition_bytes};
 ghost use Rattle.model.specs.Refusals.{ok};
@@ -16,7 +18,7 @@ use interpreter::Ran;
 const LENT_TOO_SHORT: u8 = 1;
 
 // The input is held, or it passed and was run; or a refusal.
-#[derive(Drop)]
+#[derive(Clone, Copy)]
 pub enum Guarded {
     Ended { end: u8, steps: u64, records: u64 },
     Held,

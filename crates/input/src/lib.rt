@@ -2,6 +2,8 @@
 // where the next part begins, and one over the readings of fields that are narrower than their type;
 // a field's readings as a part of the caller's slice; one reading as a number. The fields come as the
 // bytes of their table, as it lies in a program or a condition.
+#![tactic(auto)]
+
 ghost use Rattle.std.specs.Prelude.{◌≡◌, ℕ, ◌+◌, ◌-◌, ◌*◌, ◌/◌, ◌^◌, ◌≤◌, ◌<◌, length};
 ghost use Rattle.arith.specs.Types.{Row, IsRow};
 ghost use Rattle.arith.specs.Whole.{value_of};
@@ -28,28 +30,28 @@ const SIGNED: u8 = 4;
 const WIDTHS: u8 = 4;
 
 // The input is in its form, or the number of the refusal.
-#[derive(Drop)]
+#[derive(Clone, Copy)]
 pub enum InputRead {
     Yes,
     Refused(u8),
 }
 
 // Where the part of a pair ends, or that the pair is wrong.
-#[derive(Drop)]
+#[derive(Clone, Copy)]
 enum PartRead {
     Ends(usize),
     Wrong,
 }
 
 // Where the last part ends, or the number of the first pair that is wrong.
-#[derive(Drop)]
+#[derive(Clone, Copy)]
 enum Pairs {
     AllRight(usize),
     FirstWrong(usize),
 }
 
 // How far what a field's bits hold goes below 0, and how far above.
-#[derive(Drop)]
+#[derive(Clone, Copy)]
 struct Limits {
     low: u64,
     high: u64,

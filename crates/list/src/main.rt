@@ -1,5 +1,7 @@
 // The listing program: reads a recipe on standard input and prints the listing of the condition that
 // the analysis writes for it, or the refusal.
+#![tactic(auto)]
+
 use analysis::Derived;
 use libc::{STDIN_FILENO, STDOUT_FILENO};
 

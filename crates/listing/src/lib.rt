@@ -1,6 +1,8 @@
 // The listing of a condition as text in a lent output: the number of conjuncts, then a line for each
 // with its place and its nodes. Each function puts one part of the text to a place and answers where
 // it ends; the parts join as the model's text does.
+#![tactic(auto)]
+
 ghost use Rattle.std.specs.Prelude.{◌≡◌, cond, ◌+◌, ◌≤◌, ◌<◌, length, drop};
 ghost use mathlib.Core.List.{[], ◌∷◌, ◌++◌, flat_map};
 ghost use Rattle.arith.specs.Types.{signed};

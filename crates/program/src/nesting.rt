@@ -25,7 +25,7 @@ const BLOCK_SIZE: u64 = 0x1000;
 
 // The open blocks: how many procedures are open inside the innermost block that counts, how many blocks count, and
 // these in a word, the innermost lowest.
-#[derive(Drop)]
+#[derive(Clone, Copy)]
 struct Open {
     inner: usize,
     nested: usize,
@@ -33,14 +33,14 @@ struct Open {
 }
 
 // The open blocks behind a statement, or the refusal.
-#[derive(Drop)]
+#[derive(Clone, Copy)]
 enum Passed {
     Open(Open),
     Refused,
 }
 
 // Whether no statement begins a procedure, where the blocks match; or the refusal.
-#[derive(Drop)]
+#[derive(Clone, Copy)]
 pub enum NestingRead {
     Matched(bool),
     Refused,

@@ -18,7 +18,7 @@ use super::statements::{
 use super::{Entry, Layout, statement};
 
 // The variables that a statement names: the first `count` of five.
-#[derive(Drop)]
+#[derive(Clone, Copy)]
 struct Names {
     count: usize,
     first: u64,

@@ -11,21 +11,21 @@ use super::statements::{CALL, ELSE, IF, PROCEDURE, WHILE};
 use super::{Layout, kind_at};
 
 // The label of a procedure's end, or that there is none: it is not closed, or another procedure begins in it.
-#[derive(Drop)]
+#[derive(Clone, Copy)]
 enum EndRead {
     End(usize),
     Refused,
 }
 
 // Where the statements after the procedures begin, and how many procedures there are.
-#[derive(Drop)]
+#[derive(Clone, Copy)]
 pub struct Main {
     pub label: usize,
     pub procedures: usize,
 }
 
 // The parts of a program, or that a procedure stands late or inside another.
-#[derive(Drop)]
+#[derive(Clone, Copy)]
 pub enum PartsRead {
     Main(Main),
     Refused,

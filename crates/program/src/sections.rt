@@ -49,14 +49,14 @@ const TYPE_CODES: u8 = 8;
 const WRONG_SECTIONS: u8 = 2;
 
 // A pair of the section table: where a section is, and how long.
-#[derive(Drop)]
+#[derive(Clone, Copy)]
 struct Pair {
     at: usize,
     len: usize,
 }
 
 // A section by its pair, or the number of the refusal.
-#[derive(Drop)]
+#[derive(Clone, Copy)]
 enum SectionRead {
     Section(Pair),
     Refused(u8),

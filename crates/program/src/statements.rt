@@ -53,7 +53,7 @@ const TYPES_DISAGREE: u8 = 6;
 const WRONG_IMMEDIATE: u8 = 7;
 
 // A statement's entry in its form, or the number of the refusal.
-#[derive(Drop)]
+#[derive(Clone, Copy)]
 enum StatementRead {
     Entry(Entry),
     Refused(u8),

@@ -1,6 +1,8 @@
 // The rule of one statement on a set of conjuncts. Before most statements a conjunct comes to one: that is
 // put in its place, and the set arranged anew. Before a store to an array of several cells it comes to several:
 // these are gathered in another region. `out` and `seen` are room for 120 words each to work in.
+#![tactic(auto)]
+
 ghost use Rattle.std.specs.Prelude.{◌≡◌, ℕ, ◌+◌, ◌*◌, ◌≤◌, ◌<◌, ◌^◌, length, get_or, take};
 ghost use mathlib.Core.List.{List, [], ◌∷◌, map, flat_map};
 ghost use Rattle.model.specs.Conjunct.{Atom, atom, var, atoms, renumber};
@@ -25,7 +27,7 @@ const TOO_MANY_NODES: u8 = 9;
 const TOO_MANY_CONJUNCTS: u8 = 10;
 
 // The set is in its region, or a refusal: 9, 10 or 11.
-#[derive(Drop)]
+#[derive(Clone, Copy)]
 pub enum Answer {
     Done,
     Refused(u8),
@@ -320,7 +322,7 @@ fn add_subsets(
 }
 
 // a store: the array with its length, and the stored variable as a node
-#[derive(Drop)]
+#[derive(Clone, Copy)]
 struct Store {
     array: u64,
     len: u64,

@@ -2,6 +2,8 @@
 // `end E steps S records R`; or it prints `refused K` and writes nothing. A file that cannot be
 // opened, read or written is named on standard error, and choices of more than 524,288 bytes, the
 // limit's among them, are said there. The log has room for 43,690 records.
+#![tactic(auto)]
+
 use files::{RunFiles, answers, at_most, choice_file};
 use interpreter::Ran;
 

@@ -1,5 +1,7 @@
 // Sets of conjuncts in regions of one lent slice; module slots has one conjunct of a region. specs/Region.antt
 // says what a region holds. Every operation leaves what lies outside of the region that it names.
+#![tactic(auto)]
+
 ghost use Rattle.std.specs.Prelude.{◌≡◌, true, [], ◌∷◌, ◌++◌, ◌+◌, ◌*◌, ◌<◌, ◌≤◌, length, get_or, take, drop};
 ghost use Rattle.model.specs.Conjunct.{union_of, same};
 ghost use Rattle.model.specs.Sizes.{most_conjuncts, most_nodes};
@@ -25,7 +27,7 @@ pub const SLOT: usize = 1 + MOST_NODES;
 pub const REGION: usize = 1 + MOST_CONJUNCTS * SLOT;
 
 // where a conjunct goes: it is there, or before a place
-#[derive(Drop)]
+#[derive(Clone, Copy)]
 pub enum Spot {
     Here,
     Before(usize),

@@ -4,6 +4,8 @@
 // second and all after it are the inner walk's. Nothing before a walk's own region changes, so the
 // table stays as it is. A while is first closed by light rounds, which walk only what is new, and then
 // confirmed by one round on all of it (specs/Light.antt).
+#![tactic(auto)]
+
 ghost use Rattle.std.specs.Prelude.{◌≡◌, true, false, ◌+◌, ◌*◌, ◌≤◌, ◌<◌, length};
 ghost use Rattle.model.specs.Conjunct.{union_of, limits};
 ghost use Rattle.model.specs.Sizes.{most_rows, most_nested, most_inside};
@@ -20,7 +22,7 @@ use rules::Answer;
 const MOST_ROUNDS: usize = 16;
 
 // How a round of a while ends: the set is settled, or another round is due, or a refusal.
-#[derive(Drop)]
+#[derive(Clone, Copy)]
 enum Round {
     Settled,
     Again,

@@ -1,5 +1,7 @@
 // The converter (document 02, card 5): a program of the old form, whose fields had a type alone, in the new form, where each has all
 // bits of its type. The new file is made in bytes of its own and read as any program is; only one that is read is copied out.
+#![tactic(auto)]
+
 ghost use Rattle.std.specs.Prelude.{◌≡◌, ℕ, ◌+◌, length};
 ghost use mathlib.Core.List.{flat_map};
 ghost use Rattle.model.specs.Fields.{field_bytes, whole_field};
@@ -35,7 +37,7 @@ const WRONG_SECTIONS: u8 = 2;
 const TOO_MANY_ENTRIES: u8 = 3;
 
 // How many bytes the new file has, or the number of the refusal.
-#[derive(Drop)]
+#[derive(Clone, Copy)]
 pub enum Converted {
     Written(usize),
     Refused(u8),

@@ -1,5 +1,7 @@
 // The condition file of a set of conjuncts, written to the start of a lent output. Every byte past
 // the file stays as it was.
+#![tactic(auto)]
+
 ghost use Rattle.std.specs.Prelude.{◌≡◌, ◌++◌, ◌+◌, ◌*◌, ◌≤◌, length};
 ghost use Rattle.model.specs.Bytes.{bytes4};
 ghost use Rattle.model.specs.Condition.{pair_bytes};
