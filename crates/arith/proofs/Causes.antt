@@ -1,5 +1,5 @@
 -- Why a number does not fit its type: below 0 it is below the range, and else above it.
-use Rattle.std.proofs.Common.{◌≡◌, ℕ, zero, suc, Bool, true, false, cond, not, ◌&&◌, ◌||◌, leb, ◌↔◌, ℤ, pos, negsuc, neg_ℤ, sym, refl, ap, ◌∙◌, true≢false}
+use Rattle.std.proofs.Common.{◌≡◌, ℕ, zero, suc, Bool, true, false, cond, not, ◌&&◌, ◌||◌, ◌↔◌, ℤ, pos, negsuc, neg_ℤ, sym, refl, ap, ◌∙◌, true≢false}
 use mathlib.Core.Bool.{and-true}
 use lib.Dec.{leb-zero}
 use lib.Signed.{le_z}
