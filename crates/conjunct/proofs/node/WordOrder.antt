@@ -10,7 +10,7 @@ use borrow.Author.Tests.{eqb-true, eqb-false}
 use Rattle.model.proofs.Conjuncts.Order.{compare_less, compare_more, compare_same, then_assoc}
 use Rattle.model.proofs.Basics.Tests.{decide}
 use Rattle.model.specs.Bytes.{bytes2, bytes4}
-use Rattle.model.specs.Conjunct.{bytes, source_bytes, ◌then◌, order_numbers, order}
+use Rattle.model.specs.Conjunct.{bytes, source_bytes, ◌then◌, order_numbers}
 use Rattle.model.specs.Values.{add, sub, mul, div}
 use Rattle.conjunct.proofs.node.Shapes.{Shape, number, reading, calc, change, variable, load, shape}
 use Rattle.conjunct.specs.Word.{low4, mid2, node_of, first_load, first_reading, first_sum, first_variable, place2, place3, place4, place5}

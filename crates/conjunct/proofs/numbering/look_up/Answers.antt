@@ -1,0 +1,51 @@
+-- `conjunct::numbering::look_up` meets its contract.
+use mathlib.Core.Path.{◌≡◌}
+use Prim.Native.Nat.{◌≤◌}
+use native.Mathlib.Omega.{arith}
+use lib.ListN.{length, take}
+use lib.Seq.{length-take-le}
+use borrow.Author.Rules.{rules}
+use Rattle.conjunct.proofs.numbering.Ranks.{left-all, left_met, left-past, left-none}
+use Rattle.conjunct.proofs.numbering.look_up.Goals as goal
+
+pub loop-j-init : goal.loop-j-init
+loop-j-init c = (
+  search rules,
+  search rules,
+  c.source-s.ensures,
+  left-all c.args.seen.now c.args.m c.args.w,
+)
+
+pub returns-then-k-w : goal.returns-then-k-w
+returns-then-k-w c =
+    let a = c.args in
+    let p = c.requires in
+    let h : a.m ≤ length a.seen.now = p.0.there in
+    let len : length (take a.m a.seen.now) ≡ a.m = length-take-le a.m a.seen.now (omega arith) in
+    let lp = c.loop-j in
+    let f = left_met a.seen.now a.m a.w (omega arith) p.0.atoms p.1 lp.j lp.n lp.invariant.3 (omega arith) c.if-k-w.true in
+    record { known = f.1; number = f.0; small = omega arith }
+
+pub loop-j-preserved : goal.loop-j-preserved
+loop-j-preserved c =
+    let a = c.args in
+    let p = c.requires in
+    let h : a.m ≤ length a.seen.now = p.0.there in
+    let len : length (take a.m a.seen.now) ≡ a.m = length-take-le a.m a.seen.now (omega arith) in
+    let lp = c.loop-j in (
+      omega arith,
+      omega arith,
+      lp.invariant.2,
+      rw (c.tick-n.ensures.0, lp.invariant.2)
+          (left-past a.seen.now a.m a.w (omega arith) p.0.atoms p.1 lp.j lp.n lp.invariant.3 (omega arith) c.if-k-w.false),
+    )
+
+pub returns : goal.returns
+returns c =
+    let a = c.args in
+    let p = c.requires in
+    let h : a.m ≤ length a.seen.now = p.0.there in
+    let len : length (take a.m a.seen.now) ≡ a.m = length-take-le a.m a.seen.now (omega arith) in
+    let lp = c.loop-j in
+    let f = left-none a.seen.now a.m a.w (omega arith) p.0.atoms p.1 lp.j lp.n lp.invariant.3 (omega arith) (omega arith) in
+    record { known = f.1; number = f.0; small = omega arith }
