@@ -1,0 +1,19 @@
+-- `program::own_variables::main_spared` meets its contract.
+use mathlib.Core.Path.{◌≡◌}
+use Prim.Native.Nat.{◌-◌}
+use lib.ListN.{drop}
+use Rattle.model.specs.Lists.{every}
+use Rattle.model.specs.Procedures.{spares}
+use Rattle.model.specs.Program.{items_of}
+use Rattle.program.specs.Parts.{procedures_in}
+use Rattle.program.specs.Reading.{tables_of}
+use Rattle.program.proofs.own_variables.main_spared.Given as goal
+
+abbrev pub invariant-loop-i : goal.invariant-loop-i
+invariant-loop-i l =
+    let T = tables_of l.program in
+    let f = spares (procedures_in T l.table l.main.procedures) in
+    every f (drop l.main.label (items_of T)) ≡ every f (drop l.i (items_of T))
+
+abbrev pub decreases-loop-i : goal.decreases-loop-i
+decreases-loop-i l = l.n - l.i
