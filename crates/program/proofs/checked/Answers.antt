@@ -3,7 +3,6 @@ use mathlib.Core.Path.{◌≡◌, sym, ap, ◌∙◌}
 use mathlib.Core.Bool.{true}
 use mathlib.Core.List.{List}
 use Prim.Native.Nat.{ℕ}
-use borrow.Author.Tests.{not-true, not-false}
 use Rattle.model.specs.Program.{Layout as Sections, layout_of, counts_right_lem, types_right_lem}
 use Rattle.model.specs.Refusals.{Out}
 use Rattle.program.specs.Reading.{tables_of, layout_from, program_answer, statement_checks, block_checks}

@@ -3,7 +3,6 @@ use mathlib.Core.Path.{sym, subst, ◌∙◌}
 use mathlib.Core.List.{List}
 use Prim.Native.Nat.{ℕ}
 use native.Mathlib.Omega.{arith}
-use borrow.Author.Tests.{not-true, not-false}
 use Rattle.program.specs.Parts.{PartsBy, PartsAre}
 use Rattle.program.specs.Reading.{tables_of}
 use Rattle.program.proofs.procedures_checked.Goals as goal

@@ -3,7 +3,6 @@ use mathlib.Core.Path.{◌≡◌, sym, ap, ◌∙◌}
 use mathlib.Core.Bool.{Bool, ◌&&◌}
 use Prim.Native.Nat.{◌+◌, ◌-◌}
 use lib.Dec.{eqb}
-use borrow.Author.Tests.{not-true, not-false}
 use Rattle.model.specs.Program.{Tables, Statement, alike, call_alike}
 use Rattle.program.specs.Reading.{tables_of, entry_of}
 use Rattle.program.proofs.calls.CallTests.{none-own, few-own, call-alike}

@@ -2,7 +2,7 @@
 use mathlib.Core.Path.{◌≡◌, sym, ◌∙◌}
 use Prim.Native.Nat.{◌*◌, ◌+◌, ◌<◌}
 use native.Mathlib.Omega.{arith}
-use borrow.Author.Tests.{lt-ltb, ltb-true, not-true, not-false}
+use borrow.Author.Tests.{lt-ltb, ltb-true}
 use Rattle.model.specs.Procedures.{nesting}
 use Rattle.model.specs.Sizes.{most_nested}
 use Rattle.program.specs.OpenBlocks.{in_procedures, blocks_in, blocks_of}

@@ -4,7 +4,7 @@ use mathlib.Core.Bool.{Bool}
 use Prim.Native.Nat.{◌≤◌, ◌<◌, ◌-◌, ◌+◌}
 use lib.ListN.{drop}
 use Rattle.model.specs.Lists.{every}
-use Rattle.model.specs.Procedures.{Item, own, Procedure, named, owns, calls_before_lem}
+use Rattle.model.specs.Procedures.{Item, Procedure, named, owns, calls_before_lem}
 use Rattle.program.specs.Parts.{procedure_between}
 use Rattle.program.specs.Reading.{tables_of}
 use Rattle.program.proofs.own_variables.body_right.Given as goal

@@ -1,7 +1,6 @@
 -- `program::own_variables::names_within` meets its contract.
 use mathlib.Core.Path.{◌≡◌, refl, sym, ap, ◌∙◌}
-use Prim.Native.Nat.{◌<◌, ◌-◌}
-use borrow.Author.Tests.{not-true, not-false}
+use Prim.Native.Nat.{◌<◌}
 use lib.ListN.{length, get_or}
 use Rattle.program.specs.Names.{names_of, within}
 use Rattle.model.proofs.Basics.Passes.{pass_fails, pass_goes, pass_ends}

@@ -1,6 +1,5 @@
 -- `program::own_variables::parts_right` meets its contract.
 use mathlib.Core.Path.{sym, ◌∙◌}
-use borrow.Author.Tests.{not-true, not-false}
 use Rattle.model.specs.Procedures.{parts_right_lem}
 use Rattle.program.proofs.own_variables.parts_right.Goals as goal
 

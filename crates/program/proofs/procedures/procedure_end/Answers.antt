@@ -4,7 +4,7 @@ use mathlib.Core.Bool.{true}
 use Prim.Native.Nat.{◌<◌, ◌-◌}
 use native.Mathlib.Omega.{arith}
 use lib.ListN.{length}
-use Rattle.model.specs.Procedures.{Item, inside, begins_none}
+use Rattle.model.specs.Procedures.{Item, begins_none}
 use Rattle.model.specs.Program.{Tables, items_of}
 use Rattle.program.specs.Parts.{item_at, depth_after_lem}
 use Rattle.program.specs.Reading.{statement_of, tables_of, Sized}

@@ -1,6 +1,5 @@
 -- `program::sections::types_right` meets its contract.
 use mathlib.Core.Path.{◌≡◌, sym, ap, ◌∙◌}
-use borrow.Author.Tests.{not-true, not-false}
 use Rattle.model.specs.Lists.{every}
 use Rattle.model.specs.Fields.{field_right}
 use Rattle.model.specs.Program.{Tables, type_right, types_right_lem}

@@ -1,5 +1,4 @@
 -- `program::statements::no_immediate` meets its contract.
-use borrow.Author.Tests.{not-true, not-false}
 use Rattle.program.proofs.statements.no_immediate.Goals as goal
 
 pub returns-then-not-operands : goal.returns-then-not-operands

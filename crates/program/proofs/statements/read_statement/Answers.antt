@@ -1,6 +1,5 @@
 -- `program::statements::read_statement` meets its contract.
 use mathlib.Core.Path.{◌≡◌, sym}
-use borrow.Author.Tests.{not-true, not-false}
 use Rattle.model.specs.Program.{form_right_lem}
 use Rattle.program.specs.Reading.{entry_of, tables_of}
 use Rattle.program.proofs.statements.read_statement.Goals as goal
