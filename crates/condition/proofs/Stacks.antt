@@ -1,5 +1,5 @@
 -- The types on the stack of an expression, kept in a list from the bottom up: what each kind of node does to it.
-use mathlib.Core.Path.{◌≡◌, refl, sym, ◌∙◌, ap, ap₂}
+use mathlib.Core.Path.{◌≡◌, refl, sym, ◌∙◌, ap, ap₂, subst}
 use mathlib.Core.Bool.{false, ◌&&◌}
 use mathlib.Core.List.{List, [], ◌∷◌}
 use Prim.Native.Nat.{ℕ, zero, suc, ◌+◌, ◌*◌, ◌-◌, ◌/◌, ◌≤◌, ◌<◌}
@@ -79,7 +79,8 @@ module _ (ty : ℕ) (l : List ℕ) where
   conversion-right zero k m = absurd (omega arith)
   conversion-right (suc h) k m =
       let e : suc h - 1 ≡ h = omega arith in
-      rw (e, get_or-set_same l h ty 0 (omega arith), stack_set l h ty h (omega arith))
+      subst (λ (i : ℕ). ok (ty ∷ stack_of l h) ≡ ok (stack_of (set l i ty) (suc h))) (sym e)
+      (sym (ap (λ (t : List ℕ). ok t) (ap₂ ◌∷◌ (get_or-set_same l h ty 0 (omega arith)) (stack_set l h ty h (omega arith)))))
 
 -- one value is left
 pub single_stack : (l : List ℕ) (h : ℕ) → single (ok (stack_of l h)) ≡ eqb h 1
