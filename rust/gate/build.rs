@@ -1,5 +1,5 @@
 //! Links the proved archive: of the folder that `GATE_LIB_DIR` names, as `./install` fills it, else of the
-//! repository's target/staticlib, where `rt staticlib capi` writes it.
+//! repository's target/staticlib, where `python/build` puts it.
 
 use std::env;
 use std::path::{Path, PathBuf};
@@ -22,7 +22,7 @@ fn main() {
     let folder = folder();
     let Some((name, file)) = archive(&folder) else {
         panic!(
-            "no libgate.a or libcapi.a in {}: run `rt staticlib capi`, or name the archive's folder in {VARIABLE}",
+            "no libgate.a or libcapi.a in {}: run `./build`, or name the archive's folder in {VARIABLE}",
             folder.display()
         );
     };

@@ -1,4 +1,4 @@
-// The operations for callers in C and Rust, who link the archive that `rt staticlib capi` writes;
+// The operations for callers in C and Rust, who link the archive that `rt lib` makes of this crate;
 // include/gate.h declares them. A slice passes as a pointer and a length. An answer is one word: the
 // refusal's number times 2^32, or what the operation gives. specs/Words.antt says what each word
 // stands for.

@@ -3,48 +3,49 @@
 use super::stored;
 use analysis::Derived;
 use files::answers::say;
+use std::fs::Files;
 
-fn refused(k: u8) {
+fn refused(rt: &impl Print, k: u8) {
     let mut out = [0u8; listing::TEXT];
     let n = listing::refusal(k, &mut out);
-    say(&out[..n]);
+    say(rt, &out[..n]);
 }
 
 // Whether this is the stored condition of the case's recipe.
-fn is_stored(i: usize, condition: &[u8]) -> bool {
+fn is_stored(rt: &(impl Files + Eprint), i: usize, condition: &[u8]) -> bool {
     let mut derived = [0u8; files::CONDITION];
-    let n = stored::read(i, b"derived", &mut derived);
+    let n = stored::read(rt, i, b"derived", &mut derived);
     check::same(&derived[..n], condition)
 }
 
 // A condition of n bytes, which always stand in the output.
-fn written(i: usize, condition: &[u8], n: usize) {
+fn written(rt: &(impl Files + Print + Eprint), i: usize, condition: &[u8], n: usize) {
     let n = files::at_most(n, condition);
     let mut out = [0u8; listing::TEXT];
     let k = listing::text(&condition[..n], &mut out);
-    say(&out[..k]);
-    if !is_stored(i, &condition[..n]) {
-        say(b"not as stored\n");
+    say(rt, &out[..k]);
+    if !is_stored(rt, i, &condition[..n]) {
+        say(rt, b"not as stored\n");
     }
 }
 
-fn derive(i: usize, recipe: &[u8]) {
+fn derive(rt: &(impl Files + Print + Eprint), i: usize, recipe: &[u8]) {
     let mut condition = [0u8; analysis::CONDITION];
     let mut scratch = [0u64; analysis::SCRATCH];
     let derived = analysis::derive(recipe, &mut condition, &mut scratch);
     match derived {
-        Derived::Refused(k) => refused(k),
-        Derived::Written(n) => written(i, &condition, n),
+        Derived::Refused(k) => refused(rt, k),
+        Derived::Written(n) => written(rt, i, &condition, n),
     }
 }
 
-pub(crate) fn show(i: usize, case: stored::Case) {
+pub(crate) fn show(rt: &(impl Files + Print + Eprint), i: usize, case: stored::Case) {
     if case.asks & stored::ANALYSING == 0 {
         return;
     }
     let mut recipe = [0u8; files::RECIPE];
-    let n = stored::read(i, b"recipe", &mut recipe);
-    stored::say_number(i);
-    say(b"\n");
-    derive(i, &recipe[..n]);
+    let n = stored::read(rt, i, b"recipe", &mut recipe);
+    stored::say_number(rt, i);
+    say(rt, b"\n");
+    derive(rt, i, &recipe[..n]);
 }

@@ -2,6 +2,7 @@
 // stored one is said so, and so is an output that has changed behind it.
 use super::stored;
 use files::answers::{line, say};
+use std::fs::Files;
 use widening::Converted;
 
 // What every byte of the output is before the conversion.
@@ -20,50 +21,50 @@ fn is_untouched(output: &[u8], from: usize) -> bool {
     true
 }
 
-fn print_rest(i: usize, output: &[u8], from: usize) {
+fn print_rest(rt: &impl Print, i: usize, output: &[u8], from: usize) {
     if !is_untouched(output, from) {
-        stored::say_number(i);
-        say(b" the output behind the recipe has changed\n");
+        stored::say_number(rt, i);
+        say(rt, b" the output behind the recipe has changed\n");
     }
 }
 
 // Whether this is the stored new recipe of the case.
-fn is_stored(i: usize, recipe: &[u8]) -> bool {
+fn is_stored(rt: &(impl Files + Eprint), i: usize, recipe: &[u8]) -> bool {
     let mut converted = [0u8; files::RECIPE];
-    let n = stored::read(i, b"converted", &mut converted);
+    let n = stored::read(rt, i, b"converted", &mut converted);
     check::same(&converted[..n], recipe)
 }
 
 // A recipe of n bytes, which always stand in the output.
-fn written(i: usize, output: &[u8], n: usize) {
-    line(b" converted ", n as u64);
+fn written(rt: &(impl Files + Print + Eprint), i: usize, output: &[u8], n: usize) {
+    line(rt, b" converted ", n as u64);
     let n = files::at_most(n, output);
-    if !is_stored(i, &output[..n]) {
-        stored::say_number(i);
-        say(b" not as stored\n");
+    if !is_stored(rt, i, &output[..n]) {
+        stored::say_number(rt, i);
+        say(rt, b" not as stored\n");
     }
-    print_rest(i, output, n);
+    print_rest(rt, i, output, n);
 }
 
-fn convert(i: usize, old: &[u8]) {
+fn convert(rt: &(impl Files + Print + Eprint), i: usize, old: &[u8]) {
     let mut output = [UNTOUCHED; widening::PROGRAM];
     let mut scratch = [0u64; widening::SCRATCH];
     let converted = widening::convert(old, &mut output, &mut scratch);
-    stored::say_number(i);
+    stored::say_number(rt, i);
     match converted {
         Converted::Refused(k) => {
-            line(b" refused ", k as u64);
-            print_rest(i, &output, 0);
+            line(rt, b" refused ", k as u64);
+            print_rest(rt, i, &output, 0);
         }
-        Converted::Written(n) => written(i, &output, n),
+        Converted::Written(n) => written(rt, i, &output, n),
     }
 }
 
-pub(crate) fn show(i: usize, case: stored::Case) {
+pub(crate) fn show(rt: &(impl Files + Print + Eprint), i: usize, case: stored::Case) {
     if case.asks & stored::CONVERTING == 0 {
         return;
     }
     let mut old = [0u8; files::RECIPE];
-    let n = stored::read(i, b"old", &mut old);
-    convert(i, &old[..n]);
+    let n = stored::read(rt, i, b"old", &mut old);
+    convert(rt, i, &old[..n]);
 }

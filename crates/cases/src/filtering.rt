@@ -5,47 +5,48 @@ use super::stored::Case;
 use arith::Cause;
 use files::answers::{line, say};
 use filter::Verdict;
+use std::fs::Files;
 
-fn say_cause(cause: Cause) {
+fn say_cause(rt: &impl Print, cause: Cause) {
     match cause {
-        Cause::Above => say(b" too big"),
-        Cause::Below => say(b" too small"),
-        Cause::NoDivisor => say(b" no divisor"),
+        Cause::Above => say(rt, b" too big"),
+        Cause::Below => say(rt, b" too small"),
+        Cause::NoDivisor => say(rt, b" no divisor"),
     }
 }
 
-fn held(cause: Cause) {
-    say(b" held");
-    say_cause(cause);
-    say(b"\n");
+fn held(rt: &impl Print, cause: Cause) {
+    say(rt, b" held");
+    say_cause(rt, cause);
+    say(rt, b"\n");
 }
 
 // The verdict under the condition of a kind.
-fn filter(i: usize, kind: &[u8], condition: &[u8]) {
+fn filter(rt: &(impl Files + Print + Eprint), i: usize, kind: &[u8], condition: &[u8]) {
     let mut sheet = [0u8; files::SHEET];
-    let n = stored::read(i, b"sheet", &mut sheet);
+    let n = stored::read(rt, i, b"sheet", &mut sheet);
     let v = filter::check(condition, &sheet[..n]);
-    stored::say_number(i);
-    say(b" ");
-    say(kind);
+    stored::say_number(rt, i);
+    say(rt, b" ");
+    say(rt, kind);
     match v {
-        Verdict::Pass => say(b" pass\n"),
-        Verdict::Held(cause) => held(cause),
-        Verdict::Refused(k) => line(b" refused ", k as u64),
+        Verdict::Pass => say(rt, b" pass\n"),
+        Verdict::Held(cause) => held(rt, cause),
+        Verdict::Refused(k) => line(rt, b" refused ", k as u64),
     }
 }
 
-fn show_kind(i: usize, kind: &[u8]) {
+fn show_kind(rt: &(impl Files + Print + Eprint), i: usize, kind: &[u8]) {
     let mut condition = [0u8; files::CONDITION];
-    let n = stored::read(i, kind, &mut condition);
-    filter(i, kind, &condition[..n]);
+    let n = stored::read(rt, i, kind, &mut condition);
+    filter(rt, i, kind, &condition[..n]);
 }
 
-pub(crate) fn show(i: usize, case: Case) {
+pub(crate) fn show(rt: &(impl Files + Print + Eprint), i: usize, case: Case) {
     if case.asks & stored::MADE_UP != 0 {
-        show_kind(i, b"condition");
+        show_kind(rt, i, b"condition");
     }
     if case.asks & stored::DERIVED != 0 {
-        show_kind(i, b"derived");
+        show_kind(rt, i, b"derived");
     }
 }

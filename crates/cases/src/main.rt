@@ -11,6 +11,7 @@ mod running;
 mod stored;
 
 use files::answers::say;
+use std::fs::Files;
 
 // How many cases are stored.
 const CASES: usize = 339;
@@ -24,34 +25,34 @@ enum Part {
     Converting,
 }
 
-fn show(part: Part, i: usize) {
-    let case = stored::of_number(i);
+fn show(rt: &(impl Files + Print + Eprint), part: Part, i: usize) {
+    let case = stored::of_number(rt, i);
     match part {
-        Part::Reading => reading::show(i, case),
-        Part::Analysing => analysing::show(i, case),
-        Part::Filtering => filtering::show(i, case),
-        Part::Running => running::show(i, case),
-        Part::Converting => converting::show(i, case),
+        Part::Reading => reading::show(rt, i, case),
+        Part::Analysing => analysing::show(rt, i, case),
+        Part::Filtering => filtering::show(rt, i, case),
+        Part::Running => running::show(rt, i, case),
+        Part::Converting => converting::show(rt, i, case),
     }
 }
 
-fn show_all(part: Part) {
+fn show_all(rt: &(impl Files + Print + Eprint), part: Part) {
     let mut i: usize = 0;
     while i < CASES {
-        show(part, i);
+        show(rt, part, i);
         i += 1;
     }
 }
 
-fn main() {
-    say(b"reading\n");
-    show_all(Part::Reading);
-    say(b"analysing\n");
-    show_all(Part::Analysing);
-    say(b"filtering\n");
-    show_all(Part::Filtering);
-    say(b"running\n");
-    show_all(Part::Running);
-    say(b"converting\n");
-    show_all(Part::Converting);
+fn main(rt: HostRuntime) {
+    say(&rt, b"reading\n");
+    show_all(&rt, Part::Reading);
+    say(&rt, b"analysing\n");
+    show_all(&rt, Part::Analysing);
+    say(&rt, b"filtering\n");
+    show_all(&rt, Part::Filtering);
+    say(&rt, b"running\n");
+    show_all(&rt, Part::Running);
+    say(&rt, b"converting\n");
+    show_all(&rt, Part::Converting);
 }

@@ -5,6 +5,7 @@ ghost use Rattle.io.specs.Counts.{IsPrefixLen};
 
 use files::FileAnswer;
 use files::answers::say;
+use std::fs::Files;
 
 // What a case asks, as bits: the readers on its files.
 pub(crate) const READING: u8 = 1;
@@ -42,14 +43,14 @@ fn digit(i: usize, place: usize) -> u8
 }
 
 // The case's number.
-pub(crate) fn say_number(i: usize) {
+pub(crate) fn say_number(rt: &impl Print, i: usize) {
     let number = [digit(i, 100), digit(i, 10), digit(i, 1)];
-    say(&number);
+    say(rt, &number);
 }
 
 // The bytes of the case's file of a kind. A file that cannot be read is named on standard error, and
 // counts as one of no bytes.
-pub(crate) fn read(i: usize, kind: &[u8], buffer: &mut [u8]) -> usize
+pub(crate) fn read(rt: &(impl Files + Eprint), i: usize, kind: &[u8], buffer: &mut [u8]) -> usize
     ensures { IsPrefixLen result buffer.new }
 {
     let mut path = [b'.'; NUMBER + KIND];
@@ -59,7 +60,7 @@ pub(crate) fn read(i: usize, kind: &[u8], buffer: &mut [u8]) -> usize
     let n = files::at_most(KIND, kind);
     bytes_le::put_bytes(&mut path, NUMBER, kind, n);
     let n = files::at_most(NUMBER + n, &path);
-    let answer = files::read_path(&path[..n], buffer);
+    let answer = files::read_path(rt, &path[..n], buffer);
     match answer {
         FileAnswer::Bytes(k) => files::at_most(k, buffer),
         FileAnswer::Failed => files::at_most(0, buffer),
@@ -67,9 +68,9 @@ pub(crate) fn read(i: usize, kind: &[u8], buffer: &mut [u8]) -> usize
 }
 
 // What the case asks.
-pub(crate) fn of_number(i: usize) -> Case {
+pub(crate) fn of_number(rt: &(impl Files + Eprint), i: usize) -> Case {
     let mut bytes = [0u8; 5];
-    read(i, b"case", &mut bytes);
+    read(rt, i, b"case", &mut bytes);
     let asks = bytes[4];
     let log = bytes_le::u32_at(&bytes, 0) as usize;
     Case {

@@ -13,7 +13,11 @@ ghost use Rattle.std.specs.Prelude.{◌≡◌, min, length};
 ghost use Rattle.io.specs.Counts.{IsPrefixLen};
 ghost use Rattle.files.specs.Answers.{Filled, Whole};
 
-use libc::STDERR_FILENO;
+use std::env::{Env, FillError};
+use std::fmt::InlineText;
+use std::fs::Files;
+use std::io::{Error, ErrorKind, Read, Write};
+use std::{fs, io, str};
 
 // A recipe: its table, 32 fields of 2 bytes, 64 variables, 16 trays of 4 bytes, 1,024 statements of 8.
 const LONGEST_RECIPE: usize = 32 + 32 * 2 + 64 + 16 * 4 + 1024 * 8;
@@ -40,6 +44,13 @@ pub const RECORD: usize = 12;
 
 pub const LOG: usize = RECORDS * RECORD;
 
+// The longest argument that is taken for a path; the system's longest paths are one byte shorter.
+const PATH: usize = 4096;
+// The bytes of what the system says of an error.
+const MESSAGE: usize = 128;
+
+const NO_FILE: &str = "an argument names no file";
+
 // How many bytes were read or written; or the file could not be, which has been said.
 #[derive(Clone, Copy)]
 pub enum FileAnswer {
@@ -57,58 +68,116 @@ pub fn at_most(n: usize, buffer: &[u8]) -> usize
     buffer.len()
 }
 
-// One line: what cannot be done, the file's path, and why.
-fn complain(what: &[u8], path: &[u8]) {
-    io::write_all(STDERR_FILENO, what);
-    os::fail(path);
+// A line on standard error, which may be lost.
+fn note(rt: &impl Eprint, what: &str, path: &str, why: &str) {
+    let _ = eprintln!(rt; "{what}{path}: {why}");
 }
 
-// Whether a read that filled less than its buffer ended for another reason than the file's end, as it
-// does for a folder: then the next read fails.
-fn is_broken(fd: i32, is_full: bool) -> bool {
+// One line: what cannot be done, the file's path, and why, as the system says it.
+fn complain(rt: &impl Eprint, what: &str, path: &[u8], why: &Error) {
+    let text = InlineText::<MESSAGE>::of(why);
+    note(rt, what, shown(path), without_code(text.as_str()));
+}
+
+// A path as text.
+fn shown(path: &[u8]) -> &str {
+    str::from_utf8(path).unwrap_or("a path that is not UTF-8")
+}
+
+// The system's words without the number that std writes behind them.
+fn without_code(text: &str) -> &str {
+    match text.split_once(" (os error ") {
+        Some((words, _)) => words,
+        None => text,
+    }
+}
+
+// Reads until the buffer is full, the file ends or a read fails: how many bytes were put at its start.
+pub fn read_full(file: &mut impl Read, buffer: &mut [u8]) -> usize
+    ensures { IsPrefixLen result buffer.new }
+{
+    let mut done = 0;
+    while done < buffer.len() {
+        let n = file.read(&mut buffer[done..]).unwrap_or(0);
+        if n == 0 {
+            break;
+        }
+        done += n;
+    }
+    done
+}
+
+// Why a read that filled less than its buffer ended, if not at the file's end, as it does for a folder: then
+// the next read fails.
+fn fault(file: &mut impl Read, is_full: bool) -> Option<Error> {
     if is_full {
-        return false;
+        return None;
     }
     let mut next = [0u8; 1];
-    libc::read(fd, &mut next) < 0
+    file.read(&mut next).err()
 }
 
-fn read_open(fd: i32, path: &[u8], buffer: &mut [u8]) -> FileAnswer
+fn read_open(rt: &impl Eprint, file: &mut impl Read, path: &[u8], buffer: &mut [u8]) -> FileAnswer
     ensures { Filled result buffer.new }
 {
-    let n = io::read_full(fd, buffer);
-    if is_broken(fd, n == buffer.len()) {
-        complain(b"cannot read ", path);
+    let n = read_full(file, buffer);
+    if let Some(why) = fault(file, n == buffer.len()) {
+        complain(rt, "cannot read ", path, &why);
         return FileAnswer::Failed;
     }
     FileAnswer::Bytes(n)
 }
 
+// A path as std takes it, which is UTF-8.
+fn text(path: &[u8]) -> io::Result<&str> {
+    match str::from_utf8(path) {
+        Ok(text) => Ok(text),
+        Err(_) => Err(Error::new(ErrorKind::InvalidInput, "the path is not UTF-8")),
+    }
+}
+
+fn open_read<R: Files>(rt: &R, path: &[u8]) -> io::Result<R::File> {
+    fs::open(rt, text(path)?)
+}
+
+// The file is made, or emptied where it is there.
+fn open_overwrite<R: Files>(rt: &R, path: &[u8]) -> io::Result<R::File> {
+    fs::create(rt, text(path)?)
+}
+
 // The bytes of the file at a path, as many as the buffer has room for.
-pub fn read_path(path: &[u8], buffer: &mut [u8]) -> FileAnswer
+pub fn read_path(rt: &(impl Files + Eprint), path: &[u8], buffer: &mut [u8]) -> FileAnswer
     ensures { Filled result buffer.new }
 {
-    let fd = os::open_read(path);
-    if fd < 0 {
-        complain(b"cannot open ", path);
-        return FileAnswer::Failed;
+    match open_read(rt, path) {
+        Ok(mut file) => read_open(rt, &mut file, path, buffer),
+        Err(why) => {
+            complain(rt, "cannot open ", path, &why);
+            FileAnswer::Failed
+        }
     }
-    let answer = read_open(fd, path, buffer);
-    libc::close(fd);
-    answer
+}
+
+// A line for an argument that is missing, or longer than any path.
+fn complain_of_argument(rt: &impl Eprint, why: FillError) {
+    match why {
+        FillError::NotPresent => note(rt, NO_FILE, "", "Invalid argument"),
+        FillError::TooLong => note(rt, NO_FILE, "", "File name too long"),
+    }
 }
 
 // The bytes of the file that the i-th argument names, as many as the buffer has room for.
-pub fn read(i: usize, buffer: &mut [u8]) -> FileAnswer
+pub fn read(rt: &(impl Env + Files + Eprint), i: usize, buffer: &mut [u8]) -> FileAnswer
     ensures { Filled result buffer.new }
 {
-    let mut path = io::buffer();
-    let n = os::arg(i, &mut path);
-    if os::errno() != 0 {
-        os::fail(b"an argument names no file");
-        return FileAnswer::Failed;
+    let mut path = [0u8; PATH];
+    match rt.arg(i, &mut path) {
+        Ok(n) => read_path(rt, &path[..n], buffer),
+        Err(why) => {
+            complain_of_argument(rt, why);
+            FileAnswer::Failed
+        }
     }
-    read_path(&path[..n], buffer)
 }
 
 // The files of a run: how many bytes of each were read, or that one could not be.
@@ -123,21 +192,26 @@ pub enum RunFiles {
 }
 
 // The files that the first three arguments of a run name.
-pub fn read_run(recipe: &mut [u8], sheet: &mut [u8], choices: &mut [u8]) -> RunFiles {
-    let answer = read(1, recipe);
+pub fn read_run(
+    rt: &(impl Env + Files + Eprint),
+    recipe: &mut [u8],
+    sheet: &mut [u8],
+    choices: &mut [u8],
+) -> RunFiles {
+    let answer = read(rt, 1, recipe);
     let FileAnswer::Bytes(n) = answer else {
         return RunFiles::Failed;
     };
-    let answer = read(2, sheet);
+    let answer = read(rt, 2, sheet);
     let FileAnswer::Bytes(k) = answer else {
         return RunFiles::Failed;
     };
-    let answer = read(3, choices);
+    let answer = read(rt, 3, choices);
     let FileAnswer::Bytes(c) = answer else {
         return RunFiles::Failed;
     };
     if LONGEST_CHOICES < c {
-        io::write_all(STDERR_FILENO, b"CHOICES has more than 524288 bytes\n");
+        let _ = eprintln!(rt; "CHOICES has more than 524288 bytes");
         return RunFiles::Failed;
     }
     RunFiles::Read {
@@ -147,43 +221,60 @@ pub fn read_run(recipe: &mut [u8], sheet: &mut [u8], choices: &mut [u8]) -> RunF
     }
 }
 
+// Whether there is an i-th argument, be it empty.
+fn is_argument(rt: &impl Env, i: usize) -> bool {
+    match rt.arg(i, &mut []) {
+        Ok(_) => true,
+        Err(FillError::TooLong) => true,
+        Err(FillError::NotPresent) => false,
+    }
+}
+
+fn is_arguments(rt: &impl Env, n: usize) -> bool {
+    for i in 0..n {
+        if !is_argument(rt, i) {
+            return false;
+        }
+    }
+    !is_argument(rt, n)
+}
+
 // Whether a program has n arguments, its own name among them; else its use is said.
-pub fn has_arguments(n: usize, usage: &[u8]) -> bool {
-    if os::arg_count() == n {
+pub fn has_arguments(rt: &(impl Env + Eprint), n: usize, usage: &[u8]) -> bool {
+    if is_arguments(rt, n) {
         return true;
     }
-    io::write_all(STDERR_FILENO, usage);
+    let _ = rt.eprint(shown(usage));
     false
 }
 
-fn write_path(path: &[u8], bytes: &[u8]) -> FileAnswer
+fn write_path(rt: &(impl Files + Eprint), path: &[u8], bytes: &[u8]) -> FileAnswer
     ensures { Whole result bytes.now }
 {
-    let fd = os::open_overwrite(path);
-    if fd < 0 {
-        complain(b"cannot open ", path);
-        return FileAnswer::Failed;
-    }
-    let is_written = io::write_all(fd, bytes);
-    if !is_written {
-        complain(b"cannot write ", path);
-    }
-    libc::close(fd);
-    if !is_written {
+    let mut file = match open_overwrite(rt, path) {
+        Ok(file) => file,
+        Err(why) => {
+            complain(rt, "cannot open ", path, &why);
+            return FileAnswer::Failed;
+        }
+    };
+    if let Err(why) = file.write_all(bytes) {
+        complain(rt, "cannot write ", path, &why);
         return FileAnswer::Failed;
     }
     FileAnswer::Bytes(bytes.len())
 }
 
 // The bytes to the file that the i-th argument names, in the place of what it had.
-pub fn write(i: usize, bytes: &[u8]) -> FileAnswer
+pub fn write(rt: &(impl Env + Files + Eprint), i: usize, bytes: &[u8]) -> FileAnswer
     ensures { Whole result bytes.now }
 {
-    let mut path = io::buffer();
-    let n = os::arg(i, &mut path);
-    if os::errno() != 0 {
-        os::fail(b"an argument names no file");
-        return FileAnswer::Failed;
+    let mut path = [0u8; PATH];
+    match rt.arg(i, &mut path) {
+        Ok(n) => write_path(rt, &path[..n], bytes),
+        Err(why) => {
+            complain_of_argument(rt, why);
+            FileAnswer::Failed
+        }
     }
-    write_path(&path[..n], bytes)
 }

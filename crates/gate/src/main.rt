@@ -7,38 +7,38 @@ use files::answers::say;
 use files::{FileAnswer, answers};
 use filter::Verdict;
 
-fn print_cause(cause: Cause) {
+fn print_cause(rt: &impl Print, cause: Cause) {
     match cause {
-        Cause::Above => say(b"held too big\n"),
-        Cause::Below => say(b"held too small\n"),
-        Cause::NoDivisor => say(b"held no divisor\n"),
+        Cause::Above => say(rt, b"held too big\n"),
+        Cause::Below => say(rt, b"held too small\n"),
+        Cause::NoDivisor => say(rt, b"held no divisor\n"),
     }
 }
 
-fn print(v: Verdict) {
+fn print(rt: &impl Print, v: Verdict) {
     match v {
-        Verdict::Pass => say(b"pass\n"),
-        Verdict::Held(cause) => print_cause(cause),
-        Verdict::Refused(k) => answers::refused(k),
+        Verdict::Pass => say(rt, b"pass\n"),
+        Verdict::Held(cause) => print_cause(rt, cause),
+        Verdict::Refused(k) => answers::refused(rt, k),
     }
 }
 
-fn main() {
-    if !files::has_arguments(3, b"usage: gate CONDITION SHEET\n") {
+fn main(rt: HostRuntime) {
+    if !files::has_arguments(&rt, 3, b"usage: gate CONDITION SHEET\n") {
         return;
     }
     let mut condition = [0u8; files::CONDITION];
-    let read = files::read(1, &mut condition);
+    let read = files::read(&rt, 1, &mut condition);
     let FileAnswer::Bytes(n) = read else {
         return;
     };
     let mut sheet = [0u8; files::SHEET];
-    let read = files::read(2, &mut sheet);
+    let read = files::read(&rt, 2, &mut sheet);
     let FileAnswer::Bytes(k) = read else {
         return;
     };
     let n = files::at_most(n, &condition);
     let k = files::at_most(k, &sheet);
     let v = filter::check(&condition[..n], &sheet[..k]);
-    print(v);
+    print(&rt, v);
 }

@@ -7,9 +7,11 @@
 
 use files::{RunFiles, answers, at_most, choice_file};
 use guard::Guarded;
+use std::env::Env;
+use std::fs::Files;
 
 // The guarded run with the choice file's limit and choices.
-fn guarded(recipe: &[u8], sheet: &[u8], file: &[u8]) {
+fn guarded(rt: &(impl Env + Files + Print + Eprint), recipe: &[u8], sheet: &[u8], file: &[u8]) {
     let mut log = [0u8; files::LOG];
     let mut condition = [0u8; analysis::CONDITION];
     let mut scratch = [0u64; analysis::SCRATCH];
@@ -25,24 +27,24 @@ fn guarded(recipe: &[u8], sheet: &[u8], file: &[u8]) {
         &mut scratch,
     );
     match answer {
-        Guarded::Held => answers::say(b"held\n"),
-        Guarded::Refused(k) => answers::refused(k),
+        Guarded::Held => answers::say(rt, b"held\n"),
+        Guarded::Refused(k) => answers::refused(rt, k),
         Guarded::Ended {
             end,
             steps,
             records,
-        } => answers::save(4, &log, end, steps, records),
+        } => answers::save(rt, 4, &log, end, steps, records),
     }
 }
 
-fn main() {
-    if !files::has_arguments(5, b"usage: guarded RECIPE SHEET CHOICES LOG\n") {
+fn main(rt: HostRuntime) {
+    if !files::has_arguments(&rt, 5, b"usage: guarded RECIPE SHEET CHOICES LOG\n") {
         return;
     }
     let mut recipe = [0u8; files::RECIPE];
     let mut sheet = [0u8; files::SHEET];
     let mut file = [0u8; files::CHOICES];
-    let read = files::read_run(&mut recipe, &mut sheet, &mut file);
+    let read = files::read_run(&rt, &mut recipe, &mut sheet, &mut file);
     let RunFiles::Read {
         recipe: n,
         sheet: k,
@@ -54,5 +56,5 @@ fn main() {
     let n = at_most(n, &recipe);
     let k = at_most(k, &sheet);
     let c = at_most(c, &file);
-    guarded(&recipe[..n], &sheet[..k], &file[..c]);
+    guarded(&rt, &recipe[..n], &sheet[..k], &file[..c]);
 }

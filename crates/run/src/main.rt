@@ -6,32 +6,34 @@
 
 use files::{RunFiles, answers, at_most, choice_file};
 use interpreter::Ran;
+use std::env::Env;
+use std::fs::Files;
 
 // The run with the choice file's limit and choices.
-fn run(recipe: &[u8], sheet: &[u8], file: &[u8]) {
+fn run(rt: &(impl Env + Files + Print + Eprint), recipe: &[u8], sheet: &[u8], file: &[u8]) {
     let mut log = [0u8; files::LOG];
     let mut scratch = [0u64; interpreter::SCRATCH];
     let limit = choice_file::limit(file);
     let choices = choice_file::choices(file);
     let ran = interpreter::run(recipe, sheet, limit, choices, &mut log, &mut scratch);
     match ran {
-        Ran::Refused(k) => answers::refused(k),
+        Ran::Refused(k) => answers::refused(rt, k),
         Ran::Ended {
             end,
             steps,
             records,
-        } => answers::save(4, &log, end, steps, records),
+        } => answers::save(rt, 4, &log, end, steps, records),
     }
 }
 
-fn main() {
-    if !files::has_arguments(5, b"usage: run RECIPE SHEET CHOICES LOG\n") {
+fn main(rt: HostRuntime) {
+    if !files::has_arguments(&rt, 5, b"usage: run RECIPE SHEET CHOICES LOG\n") {
         return;
     }
     let mut recipe = [0u8; files::RECIPE];
     let mut sheet = [0u8; files::SHEET];
     let mut file = [0u8; files::CHOICES];
-    let read = files::read_run(&mut recipe, &mut sheet, &mut file);
+    let read = files::read_run(&rt, &mut recipe, &mut sheet, &mut file);
     let RunFiles::Read {
         recipe: n,
         sheet: k,
@@ -43,5 +45,5 @@ fn main() {
     let n = at_most(n, &recipe);
     let k = at_most(k, &sheet);
     let c = at_most(c, &file);
-    run(&recipe[..n], &sheet[..k], &file[..c]);
+    run(&rt, &recipe[..n], &sheet[..k], &file[..c]);
 }
