@@ -2,16 +2,15 @@
 use mathlib.Core.Path.{◌≡◌, refl, sym, ap, ◌∙◌}
 use mathlib.Core.Bool.{Bool, true, false}
 use mathlib.Core.List.{List, [], ◌∷◌, ◌++◌, flat_map}
-use Prim.Native.Nat.{ℕ, zero, suc, ◌+◌, ◌*◌, ◌^◌, ◌/◌, ◌%◌, ◌≤◌, ◌<◌}
+use Prim.Native.Nat.{ℕ, zero, suc, ◌*◌, ◌^◌, ◌/◌, ◌%◌, ◌≤◌, ◌<◌}
 use native.Mathlib.Omega.{arith}
 use borrow.Author.Tests.{leb-true, leb-false}
-use lib.Dec.{leb, ltb}
+use lib.Dec.{leb}
 use lib.IntN.{ℤ, pos, negsuc}
 use lib.ListN.{length, get_or, length-append}
 use Rattle.arith.specs.Types.{bits}
 use Rattle.arith.specs.Words.{immediate}
-use Rattle.model.specs.Bytes.{entries}
-use Rattle.model.specs.Conjunct.{Source, field, cell, Atom, Node, const, atom, var, op, conv, Conj, Conjuncts}
+use Rattle.model.specs.Conjunct.{Source, field, cell, Node, const, atom, var, op, conv, Conj, Conjuncts}
 use Rattle.model.specs.Condition.{Condition, read_condition, node_at}
 use Rattle.model.specs.Decimal.{places, decimal, number}
 use Rattle.model.specs.Listing.{type_text_lem, operation_text, atom_text, node_name, node_type, node_text_lem}
@@ -20,9 +19,9 @@ use Rattle.model.specs.Refusals.{Out, ok, refused, mapped}
 use Rattle.model.specs.Values.{Operation, add, sub, mul, div}
 use Rattle.model.proofs.Files.Parts.{length-entries}
 use Rattle.model.proofs.Basics.Results.{mapped-ok}
-use Rattle.condition.specs.Answers.{part_nodes, pair_part, pair_place, sizes, ConditionIsRead, conjuncts_of}
+use Rattle.condition.specs.Answers.{pair_part, pair_place, sizes, ConditionIsRead, conjuncts_of}
 use Rattle.condition.specs.declared.Counts.{Counts}
-use Rattle.condition.proofs.Table.{form_by, form-many, counted-read, conjuncts-count, conjunct-nodes, conjunct-short, condition-read}
+use Rattle.condition.proofs.Table.{form-many, counted-read, conjuncts-count, conjunct-nodes, conjunct-short, condition-read}
 use Rattle.listing.specs.Text.{Room, text_most}
 use Rattle.listing.proofs.Texts.{length-decimal, places-most, places-one, places_more}
 

@@ -167,9 +167,6 @@ type_text ty letter width e w = let m : ty % 4 % 4 ≡ ty % 4 = omega arith in r
 pub name_by : (v : Node) (k : ℕ) → v.kind ≡ k → node_name (node_by k v.ty v.field v.imm) ≡ node_name (node_from v)
 name_by v k e = rw e refl
 
-pub at-least_six : (k : ℕ) → (k ≡ 0 → ⊥) → (k ≡ 1 → ⊥) → (k ≡ 2 → ⊥) → (k ≡ 3 → ⊥) → (k ≡ 4 → ⊥) → (k ≡ 5 → ⊥) → 6 ≤ k
-at-least_six k a b c d e f = omega arith
-
 -- a conversion has the kinds from 6 on
 pub name_last : (v : Node) → 6 ≤ v.kind → (116 ∷ 111 ∷ []) ≡ node_name (node_from v)
 unfolding node_name node_by
