@@ -12,10 +12,6 @@ pub bounds-out-at : goal.bounds-out-at
 unfolding node_text_lem
 bounds-out-at c = search rules
 
-pub overflow_add-at : goal.overflow_add-at
-unfolding node_text_lem
-overflow_add-at c = search rules
-
 pub put_name-next-requires : goal.put_name-next-requires
 put_name-next-requires c = room-part _ (room-first (room_as (sym (node_text c.args.v)) c.requires))
 

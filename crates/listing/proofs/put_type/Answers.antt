@@ -20,10 +20,6 @@ pub bounds-out-at : goal.bounds-out-at
 unfolding type_text_lem
 bounds-out-at c = search rules
 
-pub overflow_add-next : goal.overflow_add-next
-unfolding type_text_lem
-overflow_add-next c = search rules
-
 pub bounds-out-next : goal.bounds-out-next
 unfolding type_text_lem
 bounds-out-next c = simp length-set (omega arith)
