@@ -1,5 +1,5 @@
 -- What the answers about a file stand for.
-use Rattle.std.specs.Prelude.{◌≡◌, List, ℕ, ◌≤◌, length, take}
+use Rattle.std.specs.Prelude.{◌≡◌, List, ℕ, length}
 use Rattle.io.specs.Counts.{IsPrefixLen}
 use Rattle.files.specs.declared.FileAnswer.{FileAnswer}
 use Rattle.files.specs.declared.FileAnswer.TheVariants.{Bytes, Failed}
