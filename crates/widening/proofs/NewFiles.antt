@@ -1,21 +1,19 @@
 -- The parts of the new file, stored one behind the other.
 use mathlib.Core.Path.{◌≡◌, refl, sym, ap, ◌∙◌}
-use mathlib.Core.List.{List, [], ◌∷◌, ◌++◌, map, flat_map, append-nil, append_assoc}
-use Prim.Native.Nat.{ℕ, zero, suc, ◌+◌, ◌*◌, ◌-◌, ◌≤◌, ◌<◌, ◌%◌, ◌^◌}
+use mathlib.Core.List.{List, [], ◌∷◌, ◌++◌, map, flat_map}
+use Prim.Native.Nat.{ℕ, zero, suc, ◌+◌, ◌*◌, ◌-◌, ◌≤◌, ◌<◌, ◌%◌}
 use native.Mathlib.Numerals.{add-one}
 use native.Mathlib.Omega.{arith}
-use lib.ListN.{length, get_or, take, drop, set, length-append, length-map, length-drop}
+use lib.ListN.{length, get_or, take, drop, set, length-append, length-drop}
 use lib.Seq.{take_all, take-take, length-take-le}
 use Rattle.arith.specs.Types.{bits}
-use Rattle.model.specs.Sizes.{most_fields, most_program}
 use Rattle.model.specs.Bytes.{u32_at, bytes4, part}
-use Rattle.model.specs.Fields.{Field, field_bytes, whole_field}
-use Rattle.model.specs.OldForm.{most_old, old_count, old_fields, later_pair, new_table, new_form}
-use Rattle.model.proofs.Files.OldForms.{OldSections, old_sections, new-length}
+use Rattle.model.specs.Fields.{field_bytes, whole_field}
+use Rattle.model.specs.OldForm.{old_count, old_fields, later_pair, new_table, new_form}
+use Rattle.model.proofs.Files.OldForms.{OldSections}
 use Rattle.model.proofs.Files.Parts.{length_part, get_d_part}
 use Rattle.bytes_le.specs.Overlay.{overlay}
-use Rattle.bytes_le.proofs.Overlays.{overlay-append, overlay-none, overlay_2, overlay_read, stored_then}
-use Rattle.widening.specs.Converting.{OldTable, Widenable, LaterPair, Widened}
+use Rattle.bytes_le.proofs.Overlays.{overlay-none, overlay_2, overlay_read, stored_then}
 
 pub four : (v : ℕ) → length (bytes4 v) ≡ 4
 unfolding bytes4

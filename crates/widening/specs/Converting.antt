@@ -1,5 +1,5 @@
 -- What the converter's answer stands for, and what it leaves in the output and in scratch.
-use Rattle.std.specs.Prelude.{◌&&◌, true, List, ◌≡◌, ℕ, ◌+◌, ◌≤◌, ◌<◌, ◌^◌, leb, length, take}
+use Rattle.std.specs.Prelude.{◌&&◌, true, List, ◌≡◌, ℕ, ◌+◌, ◌≤◌, ◌<◌, ◌^◌, leb, length}
 use Rattle.model.specs.Sizes.{most_program, most_fields, section_table, pair_size_lem}
 use Rattle.model.specs.Refusals.{Out, ok, refused, mapped, check, lent_too_short, wrong_blocks}
 use Rattle.model.specs.Demands.{ResultOrRefusal, OrLent, OldRefusal}

@@ -1,0 +1,51 @@
+-- `widening::convert_few` meets its contract.
+use mathlib.Core.Path.{◌≡◌, ap, ◌∙◌}
+use mathlib.Core.List.{List}
+use Prim.Native.Nat.{ℕ, ◌-◌}
+use native.Mathlib.Omega.{arith}
+use lib.ListN.{length, take}
+use Rattle.model.specs.OldForm.{new_form}
+use Rattle.model.proofs.Files.Lent.{documented_part}
+use Rattle.code_table.specs.Table.{table_words}
+use Rattle.program.specs.Reading.{ProgramIsRead}
+use Rattle.program.proofs.Known.{is_read}
+use Rattle.widening.proofs.Answers.{new-refused, new_copied}
+use Rattle.widening.proofs.NewFiles.{file-first}
+use Rattle.widening.proofs.convert_few.Goals as goal
+use Rattle.widening.proofs.convert_few.Goals.{After-widen-n}
+
+-- the bytes of the new file, which are read
+abbrev new : After-widen-n → List ℕ
+new c = take (c.widen-n.result - 0) c.widen-n.new.file
+
+is-new : (c : After-widen-n) → new c ≡ new_form c.args.old.now
+is-new c =
+    let w = c.widen-n.ensures in
+    let old = c.args.old.now in
+    let whole : c.widen-n.result - 0 ≡ length (new_form old) = omega (arith, w.all) in
+    ap (λ n. take n c.widen-n.new.file) whole ∙ file-first _ c.widen-n.new.file (new_form old) w.bytes (omega (arith, w.most, w.all))
+
+pub copy_read-requires : goal.copy_read-requires
+copy_read-requires c =
+    let p = c.requires.1 in
+    let l : length (new (goal.at.copy_read-requires c).After-widen-n) ≡ length (new_form c.args.old.now) = ap length (is-new (goal.at.copy_read-requires c).After-widen-n) in (
+      is_read (new (goal.at.copy_read-requires c).After-widen-n) c.read-read.result c.in-Read.layout c.read-read.ensures c.in-Read.is,
+      record {
+        bytes = omega (arith, l, c.widen-n.ensures.all, c.widen-n.ensures.most, p.bytes);
+        words = documented_part table_words c.args.scratch.now p.words;
+      },
+    )
+
+pub returns-in-Refused : goal.returns-in-Refused
+returns-in-Refused c =
+    let a = c.args in
+    new-refused a.old.now a.count c.requires.0 (new (goal.at.returns-in-Refused c).After-widen-n) (is-new (goal.at.returns-in-Refused c).After-widen-n) c.read-read.result c.in-Refused.k a.output.now a.scratch.now
+    c.read-read.ensures c.in-Refused.is
+
+pub returns-in-Read : goal.returns-in-Read
+returns-in-Read c =
+    let a = c.args in
+    let known : ProgramIsRead (new (goal.at.returns-in-Read c).After-widen-n) c.in-Read.layout =
+    is_read (new (goal.at.returns-in-Read c).After-widen-n) c.read-read.result c.in-Read.layout c.read-read.ensures c.in-Read.is in
+    new_copied a.old.now a.count c.requires.0 (new (goal.at.returns-in-Read c).After-widen-n) (is-new (goal.at.returns-in-Read c).After-widen-n) known.outline known.read c.copy_read.result a.output.now
+    c.copy_read.new.output c.copy_read.new.scratch a.scratch.now c.copy_read.ensures c.copy_read.auto.scratch c.requires.1.words
