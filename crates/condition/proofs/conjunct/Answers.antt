@@ -18,11 +18,10 @@ pub overflow_add-fields-2 : goal.overflow_add-fields-2
 overflow_add-fields-2 c = omega (arith, (counted-read c.args.condition.now c.args.counts c.requires.0).table)
 
 pub part_at-requires : goal.part_at-requires
-part_at-requires c =
-    (
-      omega (arith, (counted-read c.args.condition.now c.args.counts c.requires.0).table),
-      conjunct-inside c.args.condition.now c.args.counts c.requires.0 c.args.i c.requires.1,
-    )
+part_at-requires c = (
+  omega (arith, (counted-read c.args.condition.now c.args.counts c.requires.0).table),
+  conjunct-inside c.args.condition.now c.args.counts c.requires.0 c.args.i c.requires.1,
+)
 
 pub returns : goal.returns
 returns c =

@@ -49,15 +49,14 @@ returns-then-i-eq0 c =
     c.if-kind-ne-READING.false c.if-i-eq0.true)
 
 pub loop-k-preserved-then-i-last : goal.loop-k-preserved-then-i-last
-loop-k-preserved-then-i-last c =
-    (
-      omega arith,
-      refl,
-      c.loop-k.invariant.2,
-      c.loop-k.invariant.3
-          ∙ counted_met c.args.part.now (length c.args.part.now / node_size) c.loop-k.k c.node_at-v.result c.node_at-v.ensures c.loop-k-test.true (types_in (fields_in c.args.fields.now)) c.loop-k.seen
-          c.requires.1 c.if-kind-ne-READING.false c.if-i-eq0.false c.if-i-last.true,
-    )
+loop-k-preserved-then-i-last c = (
+  omega arith,
+  refl,
+  c.loop-k.invariant.2,
+  c.loop-k.invariant.3
+      ∙ counted_met c.args.part.now (length c.args.part.now / node_size) c.loop-k.k c.node_at-v.result c.node_at-v.ensures c.loop-k-test.true (types_in (fields_in c.args.fields.now)) c.loop-k.seen
+      c.requires.1 c.if-kind-ne-READING.false c.if-i-eq0.false c.if-i-last.true,
+)
 
 pub returns-then-i-last-2 : goal.returns-then-i-last-2
 returns-then-i-last-2 c =
@@ -72,15 +71,14 @@ pub bounds-seen-f-in-loop-k : goal.bounds-seen-f-in-loop-k
 bounds-seen-f-in-loop-k c = omega (arith, few c.args.fields.now c.args.part.now c.loop-k.k c.node_at-v.result c.loop-k.seen c.node_at-v.ensures c.loop-k-test.true c.requires.1 c.requires.0 c.if-kind-ne-READING.false)
 
 pub loop-k-preserved : goal.loop-k-preserved
-loop-k-preserved c =
-    (
-      omega arith,
-      refl,
-      simp length-set c.loop-k.invariant.2,
-      c.loop-k.invariant.3
-          ∙ counted_next c.args.part.now (length c.args.part.now / node_size) c.loop-k.k c.node_at-v.result c.node_at-v.ensures c.loop-k-test.true (types_in (fields_in c.args.fields.now)) c.loop-k.seen
-          c.requires.1 c.if-kind-ne-READING.false (omega (arith, types-length c.args.fields.now)) c.if-i-last.false c.if-i-last-2.false,
-    )
+loop-k-preserved c = (
+  omega arith,
+  refl,
+  simp length-set c.loop-k.invariant.2,
+  c.loop-k.invariant.3
+      ∙ counted_next c.args.part.now (length c.args.part.now / node_size) c.loop-k.k c.node_at-v.result c.node_at-v.ensures c.loop-k-test.true (types_in (fields_in c.args.fields.now)) c.loop-k.seen
+      c.requires.1 c.if-kind-ne-READING.false (omega (arith, types-length c.args.fields.now)) c.if-i-last.false c.if-i-last-2.false,
+)
 
 pub returns : goal.returns
 returns c = sym (c.loop-k.invariant.3 ∙ counted-end _ _ _ _ c.loop-k-test.false)

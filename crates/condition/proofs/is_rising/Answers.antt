@@ -34,17 +34,16 @@ returns-then-not-before c =
     ∙ c.if-not-before.true))
 
 pub loop-i-preserved : goal.loop-i-preserved
-loop-i-preserved c =
-    (
-      omega arith,
-      c.loop-i.invariant.1,
-      c.loop-i.invariant.2 ∙ rising_on c.args.condition.now (counts_size + field_size * c.args.fields) c.args.count c.loop-i.i
-          c.loop-i-test.true
-          (ap is_before (order_neighbours c.args.condition.now c.args.fields c.args.count c.requires.0 c.requires.1
-          (λ i. omega (arith, c.type_inv.condition i)) c.loop-i.i c.loop-i-test.true _ _
-          c.part_at-a.ensures c.part_at-b.ensures) ∙ sym c.comes_before-before.ensures
-          ∙ c.if-not-before.false),
-    )
+loop-i-preserved c = (
+  omega arith,
+  c.loop-i.invariant.1,
+  c.loop-i.invariant.2 ∙ rising_on c.args.condition.now (counts_size + field_size * c.args.fields) c.args.count c.loop-i.i
+      c.loop-i-test.true
+      (ap is_before (order_neighbours c.args.condition.now c.args.fields c.args.count c.requires.0 c.requires.1
+      (λ i. omega (arith, c.type_inv.condition i)) c.loop-i.i c.loop-i-test.true _ _
+      c.part_at-a.ensures c.part_at-b.ensures) ∙ sym c.comes_before-before.ensures
+      ∙ c.if-not-before.false),
+)
 
 pub returns : goal.returns
 returns c = sym (c.loop-i.invariant.2 ∙ rising-end _ _ _ _ c.loop-i-test.false)

@@ -16,21 +16,19 @@ loop-f-init c =
     (omega arith, c.requires.1, refl, refl, decoded_none (input_in (fields_in a.fields.now) a.input.now) a.counts.now a.mags.now a.negs.now)
 
 pub put_field-requires : goal.put_field-requires
-put_field-requires c =
-    (
-      record {
-        read = c.requires.0.read;
-        typed = c.requires.0.typed;
-        magnitudes = omega (arith, c.requires.0.magnitudes, c.loop-f.invariant.2);
-        signs = omega (arith, c.requires.0.signs, c.loop-f.invariant.3);
-      },
-      c.loop-f-test.true,
-    )
+put_field-requires c = (
+  record {
+    read = c.requires.0.read;
+    typed = c.requires.0.typed;
+    magnitudes = omega (arith, c.requires.0.magnitudes, c.loop-f.invariant.2);
+    signs = omega (arith, c.requires.0.signs, c.loop-f.invariant.3);
+  },
+  c.loop-f-test.true,
+)
 
 pub loop-f-preserved : goal.loop-f-preserved
 loop-f-preserved c =
-    let a = c.args in
-    (
+    let a = c.args in (
       omega arith,
       length-set c.loop-f.counts c.loop-f.f c.put_field.result ∙ c.loop-f.invariant.1,
       c.put_field.auto.mags ∙ c.loop-f.invariant.2,

@@ -61,12 +61,12 @@ loop-i-preserved c = (
       let so_far = c.loop-i.invariant.1 I n in
       let full = sym (readings_told (goal.at.loop-i-preserved c).After-product-p I n) ∙ lt-ltb 0 r (omega (arith, c.if-p-eq0.false)) in
       elim c.if-p-gt-LIMIT.branch [
-        then-p-gt-LIMIT w ↦
-          let above = sym (combinations_told (goal.at.loop-i-preserved c).After-product-p I n) ∙ lt-leb r most_combinations (omega (arith, w.if-p-gt-LIMIT.true)) in
-          subst (ToldTo I S (c.loop-i.i + 1)) (sym w.many-is) (told_many I S c.loop-i.i c.loop-i.many so_far (next (goal.at.loop-i-preserved c).After-product-p) (is-next (goal.at.loop-i-preserved c).After-product-p) full above)
-      | else-p-gt-LIMIT w ↦
-          let within = sym (combinations_told (goal.at.loop-i-preserved c).After-product-p I n) ∙ le-leb r most_combinations (omega (arith, w.if-p-gt-LIMIT.false)) in
-          subst (ToldTo I S (c.loop-i.i + 1)) (sym w.many-is) (told_few I S c.loop-i.i c.loop-i.many so_far (next (goal.at.loop-i-preserved c).After-product-p) (is-next (goal.at.loop-i-preserved c).After-product-p) full within)
+        | then-p-gt-LIMIT w ↦
+            let above = sym (combinations_told (goal.at.loop-i-preserved c).After-product-p I n) ∙ lt-leb r most_combinations (omega (arith, w.if-p-gt-LIMIT.true)) in
+            subst (ToldTo I S (c.loop-i.i + 1)) (sym w.many-is) (told_many I S c.loop-i.i c.loop-i.many so_far (next (goal.at.loop-i-preserved c).After-product-p) (is-next (goal.at.loop-i-preserved c).After-product-p) full above)
+        | else-p-gt-LIMIT w ↦
+            let within = sym (combinations_told (goal.at.loop-i-preserved c).After-product-p I n) ∙ le-leb r most_combinations (omega (arith, w.if-p-gt-LIMIT.false)) in
+            subst (ToldTo I S (c.loop-i.i + 1)) (sym w.many-is) (told_few I S c.loop-i.i c.loop-i.many so_far (next (goal.at.loop-i-preserved c).After-product-p) (is-next (goal.at.loop-i-preserved c).After-product-p) full within)
       ],
 )
 

@@ -32,8 +32,7 @@ put_reading-requires c =
 
 pub loop-k-preserved : goal.loop-k-preserved
 loop-k-preserved c =
-    let a = c.args in
-    (
+    let a = c.args in (
       omega arith,
       omega (arith, c.put_reading.auto.mags, c.loop-k.invariant.1),
       omega (arith, c.put_reading.auto.negs, c.loop-k.invariant.2),

@@ -61,7 +61,6 @@ loop-place-preserved c = (
   refl,
   λ I d.
       c.loop-place.invariant.1 I d ∙ rw (is-next (goal.at.loop-place-preserved c).After-conjunct-part, failure_is (goal.at.loop-place-preserved c).After-first_failure-answer _ c.in_default.is I d),
-
 )
 
 pub returns : goal.returns
