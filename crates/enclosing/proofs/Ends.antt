@@ -3,7 +3,7 @@ use mathlib.Core.Path.{◌≡◌, refl, sym, subst}
 use Prim.Native.Nat.{ℕ, ◌-◌, ◌≤◌, ◌<◌}
 use native.Mathlib.Decide.{dec_lt}
 use native.Mathlib.Omega.{arith}
-use Rattle.model.specs.Code.{Stmt, if, while}
+use Rattle.model.specs.Code.{Stmt, while}
 use Rattle.model.specs.Kinds.{Kind, a_number, a_copy, an_operation, a_conversion, a_read, a_load, a_store, a_site, an_if, an_else, an_end, a_while, a_procedure, a_call, no_kind_lem, kind_of}
 use Rattle.model.proofs.Files.KindNumbers.{IsNumber, kind-number}
 use Rattle.code_table.specs.declared.Decoded.{Decoded}

@@ -13,7 +13,7 @@ use Rattle.model.specs.Refusals.{◌>>=◌}
 use Rattle.model.specs.Sizes.{most_nested, most_rows}
 use Rattle.model.specs.Walk.{walk}
 use Rattle.model.proofs.Walks.Rising.{enclosing_end}
-use Rattle.code_table.specs.Table.{table_of, row_in, stmt_in, mate_in}
+use Rattle.code_table.specs.Table.{row_in, stmt_in, mate_in}
 use Rattle.code_table.proofs.Meanings.{while-stmt}
 use Rattle.rules.specs.Answers.{answered}
 use Rattle.rules.specs.declared.Answer.{Answer}

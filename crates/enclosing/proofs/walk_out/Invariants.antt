@@ -1,0 +1,9 @@
+-- `enclosing::walk_out` meets its contract. The invariant: the walk from the label goes on from the block where the code stands.
+use Rattle.enclosing.proofs.WalkingOut.{Outward}
+use Rattle.enclosing.proofs.walk_out.Given as goal
+
+abbrev pub invariant-loop-s : goal.invariant-loop-s
+invariant-loop-s l = Outward l.initial.s l.b l.i l.s l.at
+
+abbrev pub decreases-loop-s : goal.decreases-loop-s
+decreases-loop-s l = l.at
