@@ -12,7 +12,7 @@ use Rattle.model.specs.Sizes.{most_inside}
 use Rattle.model.specs.TidySets.{Tidy}
 use Rattle.model.specs.Walk.{walk}
 use Rattle.code_table.specs.Table.{table_words, table_of, stmts, mates}
-use Rattle.rules.specs.Answers.{answered, Below}
+use Rattle.rules.specs.Answers.{Below}
 use Rattle.rules.specs.declared.Answer.TheVariants.{Done}
 use Rattle.rules.specs.declared.Answer.{Answer}
 use Rattle.sets.specs.Region.{region_words, set_of, Within}
