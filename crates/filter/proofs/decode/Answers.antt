@@ -1,6 +1,5 @@
 -- `filter::decode` meets its contract. The loop's invariant: the first f fields are decoded.
 use mathlib.Core.Path.{subst, ◌≡◌, refl, ◌∙◌}
-use Prim.Native.Nat.{◌-◌}
 use native.Mathlib.Omega.{arith}
 use lib.ListN.{length-set}
 use Rattle.model.specs.Sizes.{most_fields}

@@ -1,7 +1,6 @@
 -- `filter::judge` meets its contract: what the numbers of combinations tell decides, or lets the evaluations decide.
 use mathlib.Core.Path.{◌≡◌, sym, ap, subst, ◌∙◌}
 use Rattle.model.specs.Refusals.{ok}
-use Rattle.model.specs.Conjunct.{Conjuncts}
 use Rattle.model.specs.Input.{Input}
 use Rattle.condition.specs.Answers.{conjuncts_of}
 use Rattle.plan.specs.Readings.{Counted, Decoded}

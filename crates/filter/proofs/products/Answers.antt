@@ -1,15 +1,14 @@
 -- `filter::products` meets its contract. The loop's invariant: what is told of the conjuncts before (`FirstPass`); the number of
 -- combinations of the next tells of it (`Calls` of the evaluator).
 use mathlib.Core.Path.{◌≡◌, refl, sym, subst, ◌∙◌}
-use mathlib.Core.Logic.{⊎_elim}
 use mathlib.Core.List.{[], ◌∷◌}
-use Prim.Native.Nat.{◌+◌, ◌-◌}
+use Prim.Native.Nat.{◌+◌}
 use native.Mathlib.Omega.{arith}
 use lib.Dec.{ltb, leb}
 use lib.ListN.{drop}
 use borrow.Author.Tests.{lt-ltb, le-ltb, le-leb, lt-leb}
 use Rattle.model.specs.Sizes.{most_combinations}
-use Rattle.model.specs.Conjunct.{Conj, Conjuncts}
+use Rattle.model.specs.Conjunct.{Conj}
 use Rattle.model.specs.Input.{Input}
 use Rattle.model.specs.Filter.{few_combinations, has_readings}
 use Rattle.condition.specs.Answers.{conjuncts_of}

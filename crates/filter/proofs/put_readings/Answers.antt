@@ -1,6 +1,6 @@
 -- `filter::put_readings` meets its contract. The loop's invariant: the first k readings stand in their places.
 use mathlib.Core.Path.{subst, ◌≡◌, refl}
-use Prim.Native.Nat.{◌*◌, ◌-◌}
+use Prim.Native.Nat.{◌*◌}
 use native.Mathlib.Omega.{arith}
 use lib.ListN.{length}
 use Rattle.model.specs.Input.{width, reading_at_lem}

@@ -1,9 +1,9 @@
 -- `filter::try_all` meets its contract. The loop's invariant: what is left to be evaluated answers for all.
 use mathlib.Core.Path.{◌≡◌, refl, sym, ap, subst, ◌∙◌}
 use mathlib.Core.List.{◌∷◌}
-use Prim.Native.Nat.{◌+◌, ◌-◌}
+use Prim.Native.Nat.{◌+◌}
 use lib.ListN.{drop}
-use Rattle.model.specs.Conjunct.{Conj, Conjuncts}
+use Rattle.model.specs.Conjunct.{Conj}
 use Rattle.model.specs.Input.{Input}
 use Rattle.model.specs.Failure.{first, failure_in}
 use Rattle.condition.specs.Answers.{conjuncts_of}
