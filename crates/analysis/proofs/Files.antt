@@ -1,5 +1,5 @@
 -- The answers of a derivation, from what the reader, the sites and the writer answer.
-use mathlib.Core.Bool.{true, false, ◌&&◌, true≢false}
+use mathlib.Core.Bool.{◌&&◌}
 use mathlib.Core.List.{List, ◌++◌}
 use mathlib.Core.Path.{◌≡◌, refl, sym, ap, subst, ◌∙◌}
 use Prim.Native.Nat.{ℕ, ◌≤◌, ◌<◌}
@@ -13,9 +13,9 @@ use Rattle.model.specs.Fields.{types_in}
 use Rattle.model.specs.Conjunct.{Conjuncts}
 use Rattle.model.specs.Lists.{All}
 use Rattle.model.specs.Program.{Program, Tables, Outline, layout_of, read_outline, read_program}
-use Rattle.model.specs.Refusals.{Out, ok, refused, ◌>>=◌, mapped, wrong_blocks}
+use Rattle.model.specs.Refusals.{ok, refused, ◌>>=◌, mapped, wrong_blocks}
 use Rattle.model.proofs.Basics.Results.{mapped-refused}
-use Rattle.model.specs.Demands.{AnalysisRefusal, Demand1}
+use Rattle.model.specs.Demands.{AnalysisRefusal}
 use Rattle.model.specs.Walk.{derived}
 use Rattle.model.specs.Formed.{Formed}
 use Rattle.model.proofs.Demand1.{lent-answer, demand1}

@@ -1,17 +1,17 @@
 -- A site that repeats an earlier one adds nothing: both have the same set at the program's start, and the union has that of the earlier.
-use mathlib.Core.Bool.{true, false, ◌||◌}
+use mathlib.Core.Bool.{false, ◌||◌}
 use mathlib.Core.List.{List, [], ◌∷◌}
 use mathlib.Core.Path.{◌≡◌, refl, sym, ap, subst, ◌∙◌}
-use Prim.Native.Nat.{ℕ, ◌+◌, ◌≤◌, ◌<◌}
+use Prim.Native.Nat.{ℕ, ◌+◌, ◌<◌}
 use native.Mathlib.Omega.{arith}
 use lib.Dec.{eqb}
 use borrow.Author.Tests.{eqb-true, eqb-false}
 use Rattle.model.specs.Code.{Instr, assign, store, site, done, step, Stmt, plain, if, else, end, while}
 use Rattle.model.specs.Conjunct.{Conjuncts, union_of, limits, var}
 use Rattle.model.specs.Kinds.{Kind, a_number, a_copy, an_operation, a_conversion, a_read, a_load, a_store, a_site, an_if, an_else, an_end, a_while, a_procedure, a_call, no_kind_lem, kind_of}
-use Rattle.model.specs.Refusals.{Out, ok, ◌>>=◌}
+use Rattle.model.specs.Refusals.{ok, ◌>>=◌}
 use Rattle.model.specs.TidySets.{Mem, Sub, Tidy}
-use Rattle.model.specs.Touch.{is_var, is_load_lem, some, writes, touches}
+use Rattle.model.specs.Touch.{is_var, some, writes, touches}
 use Rattle.model.specs.Walk.{back, start}
 use Rattle.model.proofs.Walks.Backward.{LeftAlone, same_way_out}
 use Rattle.model.proofs.Conjuncts.Canonical.{union_comm, union_absorb, union_left, union_right}

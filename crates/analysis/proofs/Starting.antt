@@ -7,8 +7,7 @@ use Prim.Native.Nat.{ℕ, ◌+◌, ◌≤◌, ◌<◌}
 use native.Mathlib.Omega.{arith}
 use lib.ListN.{length, get_or, take, length-map}
 use lib.Seq.{take-length, length-take-le}
-use borrow.Author.Tests.{le-ltb}
-use Rattle.model.specs.Conjunct.{Conj, Conjuncts, with_conjunct, union_of, long, atom, atoms, renamed, on_atom_lem, renumber}
+use Rattle.model.specs.Conjunct.{Conj, Conjuncts, with_conjunct, union_of, atom, atoms, renamed, on_atom_lem, renumber}
 use Rattle.model.specs.Lists.{All}
 use Rattle.model.specs.Refusals.{ok}
 use Rattle.model.specs.Sizes.{most_nodes}
@@ -17,8 +16,7 @@ use Rattle.model.specs.TidySets.{Fine}
 use Rattle.model.proofs.Conjuncts.Canonical.{insert_length}
 use Rattle.model.proofs.Conjuncts.Gather.{gather-every}
 use Rattle.model.proofs.Conjuncts.Limits.{fine-limits, all_short}
-use Rattle.conjunct.specs.Word.{node_of, nodes_of_lem}
-use Rattle.sets.specs.Region.{region_words, few, slot_at, rows_from, rows_of, set_of, Within, Inserted}
+use Rattle.sets.specs.Region.{region_words, set_of, Within, Inserted}
 use Rattle.sets.proofs.Rows.{set-few, frame}
 use Rattle.rules.proofs.Gathering.{gather_none, gather-next}
 use Rattle.rules.proofs.Limiting.{set-short}

@@ -16,7 +16,7 @@ use Rattle.model.proofs.Conjuncts.Limits.{fine-limits, all_short}
 use Rattle.model.proofs.Basics.Results.{gives_ok}
 use Rattle.model.proofs.Basics.Tests.{true→T}
 use Rattle.model.proofs.Walks.Tidied.{start-tidy, union_tidy}
-use Rattle.sets.specs.Region.{region_words, few, set_of, Inserted, Joined}
+use Rattle.sets.specs.Region.{region_words, set_of, Inserted, Joined}
 use Rattle.sets.proofs.Rows.{few-most, set-few, set_same}
 use Rattle.rules.specs.Answers.{Below}
 use Rattle.rules.proofs.Limiting.{set-short}

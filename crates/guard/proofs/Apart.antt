@@ -5,7 +5,7 @@ use mathlib.Core.List.{List}
 use Prim.Native.Nat.{ℕ}
 use lib.Dec.{leb}
 use lib.ListN.{length, take}
-use Rattle.model.specs.Refusals.{Out, ok, lent_too_short}
+use Rattle.model.specs.Refusals.{ok, lent_too_short}
 use Rattle.model.specs.Condition.{condition_bytes, analysis}
 use Rattle.model.specs.Failure.{verdict}
 use Rattle.model.specs.Run.{Ran, run}

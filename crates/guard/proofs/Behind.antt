@@ -1,6 +1,6 @@
 -- The guard's answers, from those of the three operations.
 use mathlib.Core.Path.{◌≡◌, refl, sym, ap, subst, ◌∙◌}
-use mathlib.Core.Bool.{Bool, true, false, ◌&&◌}
+use mathlib.Core.Bool.{Bool, true, ◌&&◌}
 use mathlib.Core.List.{List}
 use Prim.Native.Nat.{ℕ, ◌≤◌, ◌<◌}
 use lib.Dec.{leb}
@@ -13,16 +13,15 @@ use Rattle.model.specs.Condition.{condition_bytes, analysis}
 use Rattle.model.specs.Filter.{pass_number, held_number, filter_input}
 use Rattle.model.specs.Run.{Ran, run}
 use Rattle.model.specs.Guarded.{Guarded as ModelGuarded, held, passed, admitted, guarded}
-use Rattle.model.specs.Demands.{GuardedRefusal, Demand1, Exact}
+use Rattle.model.specs.Demands.{GuardedRefusal, Exact}
 use Rattle.model.specs.Lent.{ScratchLeft}
 use Rattle.model.proofs.Demand1.{lent-answer, demand1, accepted_refusals}
-use Rattle.model.proofs.Files.Lent.{scratch_as_it_was, scratch-both}
 use Rattle.model.proofs.Basics.Results.{check-ok}
 use Rattle.model.proofs.Basics.Tests.{case, and_right}
 use Rattle.analysis.specs.Deriving.{analysis_words, derivation}
 use Rattle.interpreter.specs.Answers.{run_lent}
 use Rattle.interpreter.specs.Progress.{scratch_words}
-use Rattle.guard.specs.Answers.{guarding, GuardingAnswers, guarded_answer, Guards}
+use Rattle.guard.specs.Answers.{guarding, GuardingAnswers, Guards}
 use Rattle.guard.specs.declared.Guarded.{Guarded}
 use Rattle.guard.specs.declared.Guarded.TheVariants.{Ended, Held, Refused}
 

@@ -3,7 +3,6 @@ use Rattle.std.specs.Prelude.{◌≡◌, ◌&&◌, List, ℕ, ◌≤◌, leb, le
 use Rattle.bytes_le.specs.Overlay.{overlay}
 use Rattle.model.specs.Refusals.{Out, ok, refused, check, lent_too_short, wrong_blocks}
 use Rattle.model.specs.Condition.{condition_bytes, analysis}
-use Rattle.model.specs.Run.{Ran}
 use Rattle.model.specs.Guarded.{Guarded as ModelGuarded, held, passed, guarded}
 use Rattle.model.specs.Demands.{ResultOrRefusal, OrLent, GuardedRefusal, Exact}
 use Rattle.model.specs.Lent.{left_by_run, ScratchLeft}

@@ -1,7 +1,6 @@
 -- `analysis::gather_start` meets its contract: after k turns the room has what the first k conjuncts come to.
 use mathlib.Core.List.{map}
 use mathlib.Core.Path.{refl, sym, ap, ◌∙◌}
-use Prim.Native.Nat.{◌-◌}
 use native.Mathlib.Omega.{arith}
 use Rattle.model.specs.Conjunct.{renumber}
 use Rattle.model.specs.Walk.{zeroed}

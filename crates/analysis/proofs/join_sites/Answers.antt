@@ -1,6 +1,5 @@
 -- `analysis::join_sites` meets its contract. The invariant: the sites before the label are joined.
 use mathlib.Core.Path.{◌≡◌, refl, subst, sym, ◌∙◌}
-use Prim.Native.Nat.{◌-◌}
 use native.Mathlib.Omega.{arith}
 use Rattle.code_table.specs.Table.{table_of, KnownBelow}
 use Rattle.sets.specs.Region.{set_of}
@@ -18,18 +17,17 @@ clear_table c =
     (within-below union_at union_at c.args.s.now c.clear.new.s (omega arith) c.clear.ensures.1)
 
 pub loop-i-init : goal.loop-i-init
-loop-i-init c =
-    (
-      record {
-        same_length = refl;
-        most = omega arith;
-        tidy = empty-tidy (set_of c.clear.new.s union_at) c.clear.ensures.0;
-        table = refl;
-        left = left-all (table_of 0 c.clear.new.s) c.args.n (set_of c.clear.new.s union_at) c.clear.ensures.0;
-        all = λ j q x ty w h. absurd (omega (arith, h));
-      },
-      refl,
-    )
+loop-i-init c = (
+  record {
+    same_length = refl;
+    most = omega arith;
+    tidy = empty-tidy (set_of c.clear.new.s union_at) c.clear.ensures.0;
+    table = refl;
+    left = left-all (table_of 0 c.clear.new.s) c.args.n (set_of c.clear.new.s union_at) c.clear.ensures.0;
+    all = λ j q x ty w h. absurd (omega (arith, h));
+  },
+  refl,
+)
 
 pub pass-a-requires : goal.pass-a-requires
 pass-a-requires c =

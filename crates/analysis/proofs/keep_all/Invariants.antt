@@ -1,5 +1,5 @@
 -- `analysis::keep_all` meets its contract: from the last label back, every statement so far keeps the variable.
-use Prim.Native.Nat.{◌-◌, ◌≤◌}
+use Prim.Native.Nat.{◌≤◌}
 use Rattle.code_table.specs.Table.{table_of}
 use Rattle.analysis.specs.Joining.{KeptFrom}
 use Rattle.analysis.proofs.keep_all.Given as goal

@@ -28,15 +28,14 @@ site_walks c n =
     (single-table (goal.at.After-walk_out-a c).After-single) (c.walk_out-a.ensures.0 n)
 
 pub walk_out-a-requires : goal.walk_out-a-requires
-walk_out-a-requires c =
-    (
-      record {
-        behind = omega arith;
-        room = omega (arith, c.requires.words.room, c.single.auto.s);
-        tidy = region-tidy c.args.x c.args.ty (node_of c.variable-w.result) c.single.new.s c.variable-w.ensures c.single.ensures.0;
-      },
-      (c.requires.statements, subst (λ k. Enclosed k c.requires.statements c.args.i) (sym (single-table (goal.at.walk_out-a-requires c).After-single)) c.requires.enclosed),
-    )
+walk_out-a-requires c = (
+  record {
+    behind = omega arith;
+    room = omega (arith, c.requires.words.room, c.single.auto.s);
+    tidy = region-tidy c.args.x c.args.ty (node_of c.variable-w.result) c.single.new.s c.variable-w.ensures c.single.ensures.0;
+  },
+  (c.requires.statements, subst (λ k. Enclosed k c.requires.statements c.args.i) (sym (single-table (goal.at.walk_out-a-requires c).After-single)) c.requires.enclosed),
+)
 
 pub join_next-requires : goal.join_next-requires
 join_next-requires c =
