@@ -1,6 +1,6 @@
 -- Demand 3 of the exported functions called one after the other, by the contracts of their words alone.
 use mathlib.Core.Path.{◌≡◌, refl, sym, ap, subst, ◌∙◌}
-use mathlib.Core.Logic.{◌⊎◌, inl, inr}
+use mathlib.Core.Logic.{inl, inr}
 use mathlib.Core.List.{List}
 use Prim.Native.Nat.{ℕ, ◌≤◌, ◌<◌}
 use native.Mathlib.Omega.{arith}
@@ -8,12 +8,11 @@ use lib.ListN.{length, take}
 use Rattle.model.specs.Refusals.{Out, ok, refused, mapped}
 use Rattle.arith.specs.declared.Cause.{Cause}
 use Rattle.arith.specs.declared.Cause.TheVariants.{Above, Below, NoDivisor}
-use Rattle.model.specs.Filter.{pass_number, filter_input}
-use Rattle.model.specs.Failure.{Found, nothing, found, answer_number, verdict_number, verdict}
+use Rattle.model.specs.Filter.{pass_number}
+use Rattle.model.specs.Failure.{Found, nothing, found, verdict_number, verdict}
 use Rattle.model.specs.Run.{Ran}
-use Rattle.model.specs.Demands.{FromTo, ResultOrRefusal, OrLent, AnalysisRefusal, FilterRefusal, RunRefusal, Exact, Demand1, Causes}
+use Rattle.model.specs.Demands.{ResultOrRefusal, OrLent, AnalysisRefusal, FilterRefusal, RunRefusal, Exact}
 use Rattle.model.specs.Lent.{left_by}
-use Rattle.model.proofs.Demand1.{demand1}
 use Rattle.model.proofs.Demand3.{demand3}
 use Rattle.model.proofs.Basics.Results.{refused-ok}
 use Rattle.model.proofs.Filters.Verdicts.{verdict-answer}
