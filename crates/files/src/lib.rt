@@ -68,6 +68,14 @@ pub fn at_most(n: usize, buffer: &[u8]) -> usize
     buffer.len()
 }
 
+// A buffer of zeros. Of a buffer that a function answers, a proof knows the length alone; a long one that is
+// written out would be counted byte by byte.
+pub fn zeros<const N: usize>() -> [u8; N]
+    ensures { length result ≡ N }
+{
+    [0; N]
+}
+
 // A line on standard error, which may be lost.
 fn note(rt: &impl Eprint, what: &str, path: &str, why: &str) {
     let _ = eprintln!(rt; "{what}{path}: {why}");

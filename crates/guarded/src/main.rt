@@ -12,7 +12,7 @@ use std::fs::Files;
 
 // The guarded run with the choice file's limit and choices.
 fn guarded(rt: &(impl Env + Files + Print + Eprint), recipe: &[u8], sheet: &[u8], file: &[u8]) {
-    let mut log = [0u8; files::LOG];
+    let mut log: [u8; files::LOG] = files::zeros();
     let mut condition = [0u8; analysis::CONDITION];
     let mut scratch = [0u64; analysis::SCRATCH];
     let limit = choice_file::limit(file);
@@ -43,7 +43,7 @@ fn main(rt: HostRuntime) {
     }
     let mut recipe = [0u8; files::RECIPE];
     let mut sheet = [0u8; files::SHEET];
-    let mut file = [0u8; files::CHOICES];
+    let mut file: [u8; files::CHOICES] = files::zeros();
     let read = files::read_run(&rt, &mut recipe, &mut sheet, &mut file);
     let RunFiles::Read {
         recipe: n,

@@ -11,7 +11,7 @@ use std::fs::Files;
 
 // The run with the choice file's limit and choices.
 fn run(rt: &(impl Env + Files + Print + Eprint), recipe: &[u8], sheet: &[u8], file: &[u8]) {
-    let mut log = [0u8; files::LOG];
+    let mut log: [u8; files::LOG] = files::zeros();
     let mut scratch = [0u64; interpreter::SCRATCH];
     let limit = choice_file::limit(file);
     let choices = choice_file::choices(file);
@@ -32,7 +32,7 @@ fn main(rt: HostRuntime) {
     }
     let mut recipe = [0u8; files::RECIPE];
     let mut sheet = [0u8; files::SHEET];
-    let mut file = [0u8; files::CHOICES];
+    let mut file: [u8; files::CHOICES] = files::zeros();
     let read = files::read_run(&rt, &mut recipe, &mut sheet, &mut file);
     let RunFiles::Read {
         recipe: n,
