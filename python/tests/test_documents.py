@@ -47,6 +47,11 @@ class Recipes(unittest.TestCase):
                 self.assertIn(re.sub(r"[ \t]+", " ", line.strip()), bare)
 
 
+class Refusals(unittest.TestCase):
+    def test_the_package_has_the_page_of_the_documents(self):
+        self.assertEqual(load(ROOT, "python", "survey_gate", "REFUSALS.md"), load(ROOT, "docs", "REFUSALS.md"))
+
+
 class Mends(unittest.TestCase):
     """Each mend of 9, 10 and 11, beside what it mends."""
 
