@@ -25,7 +25,7 @@ IF, WHILE, LOAD, STORE, SITE, PROCEDURE, CALL = 11, 14, 8, 9, 10, 15, 16
 ENDS = ("finished", "step limit", "field without readings", "choices used up", "log full")
 HEAD = """# The stored cases
 
-What each stored case is there for. `rt check` and `.ci/run` run the programs below over their stored files (`crates/NAME/data`, `stdin`, `args`) and hold what they print to `crates/NAME/stdout`. `cases/generators/table.py` writes this file from the cases, the other generators the cases from the outside vectors (`rust/vectors`, whose README says where those come from).
+What each stored case is there for. `.ci/run` runs the programs below over their stored files (`crates/NAME/data`, `stdin`, `args`) and holds what they print to `crates/NAME/stdout`. `cases/generators/table.py` writes this file from the cases, the other generators the cases from the outside vectors (`rust/vectors`, whose README says where those come from).
 
 | program | cases | what it shows |
 |---|---|---|

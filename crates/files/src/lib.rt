@@ -1,6 +1,7 @@
 // What the programs share: the files that a program's arguments name, the limit and the choices of a
 // choice file, and the lines that are printed. Where a file cannot be opened, read or written, a line
-// on standard error names it by its path, as the argument has it.
+// on standard error names it by its path, as the argument has it. A path that is not UTF-8 cannot be opened,
+// and the line says that in the path's place.
 //
 // A file is read into a buffer one byte longer than any of its form. Of a longer file the library is
 // given the bytes that fill the buffer, which it refuses as it would the whole.
