@@ -47,12 +47,10 @@ pub fn all_right(table: &[u8]) -> bool
     ensures { result ≡ every field_right (fields_in table.now) }
 {
     let n = table.len() / SIZE;
-    let mut f: usize = 0;
-    while f < n {
+    for f in 0..n {
         if !entry_right(table, SIZE * f) {
             return false;
         }
-        f += 1;
     }
     true
 }

@@ -18,7 +18,7 @@ returns-then-not-entry_right c =
     let f = c.loop-f.f in
     let in_table = inside table f (omega arith) in
     let wrong : field_right (get_or (fields_in table) f none) ≡ false = rw (field_in table f none (omega arith)) (sym c.entry_right.ensures ∙ c.if-not-entry_right.true) in
-    sym (pass_fails field_right none (fields_in table) f in_table c.loop-f.invariant.1 wrong)
+    sym (pass_fails field_right none (fields_in table) f in_table c.loop-f.invariant wrong)
 
 pub loop-f-preserved : goal.loop-f-preserved
 loop-f-preserved c =
@@ -26,9 +26,9 @@ loop-f-preserved c =
     let f = c.loop-f.f in
     let in_table = inside table f (omega arith) in
     let right : field_right (get_or (fields_in table) f none) ≡ true = rw (field_in table f none (omega arith)) (sym c.entry_right.ensures ∙ c.if-not-entry_right.false) in
-    (omega arith, pass_goes field_right none (fields_in table) f in_table c.loop-f.invariant.1 right)
+    pass_goes field_right none (fields_in table) f in_table c.loop-f.invariant right
 
 pub returns : goal.returns
 returns c =
     let table = c.args.table.now in
-    sym (pass_ends field_right none (fields_in table) c.loop-f.f (rw (fields-length table) (omega arith)) c.loop-f.invariant.1)
+    sym (pass_ends field_right none (fields_in table) c.loop-f.f (rw (fields-length table) (omega arith)) c.loop-f.invariant)
