@@ -1,11 +1,10 @@
 -- One step of arithmetic: its whole-number result, what comes of it in a type, and how it wraps.
-use Rattle.std.specs.Prelude.{ℕ, suc, ◌-◌, ◌%◌, ◌^◌, Bool, true, false, cond, not, ◌&&◌, ◌||◌, ℤ, pos, negsuc, ◌+ℤ◌, ◌-ℤ◌, ◌*ℤ◌, ◌==◌, int_div, int_le, unsigned_abs}
+use Rattle.std.specs.Prelude.{ℕ, suc, ◌-◌, ◌%◌, ◌^◌, Bool, true, false, cond, not, ◌&&◌, ◌||◌, ℤ, pos, negsuc, ◌+ℤ◌, ◌-ℤ◌, ◌*ℤ◌, ◌==◌, int_div, int_le, unsigned_abs, Result, Ok, Err}
 use Rattle.arith.specs.declared.Op.{Op}
 use Rattle.arith.specs.declared.Op.TheVariants.{Add, Sub, Mul, Div, Convert}
 use Rattle.arith.specs.declared.Cause.{Cause}
 use Rattle.arith.specs.declared.Cause.TheVariants.{Above, Below, NoDivisor}
-use Rattle.arith.specs.declared.Step.{Step}
-use Rattle.arith.specs.declared.Step.TheVariants.{Value, Overflow}
+use Rattle.arith.specs.declared.Num.{Num}
 use Rattle.arith.specs.Types.{bits, lowest, highest}
 use Rattle.arith.specs.Whole.{value_of}
 
@@ -41,6 +40,12 @@ overflows o t a b = lacks_divisor o b || not (fits t (exact_of_lem o a b))
 abbrev pub cause_of_lem : Op → ℕ → ℤ → ℤ → Cause
 cause_of_lem o t a b = cond (lacks_divisor o b) NoDivisor (cond (int_le (lowest t) (exact_of_lem o a b)) Above Below)
 
+-- the number of a cause: 1 too big, 2 too small, 3 no divisor
+abbrev pub cause_number : Cause → ℕ
+cause_number Above = 1
+cause_number Below = 2
+cause_number NoDivisor = 3
+
 -- what comes of a step: its value, or why it overflows
 pub data Outcome : Type 0 where
   value : ℤ → Outcome
@@ -55,9 +60,9 @@ abbrev pub step_of : Op → ℕ → ℤ → ℤ → Outcome
 step_of o t a b = cond (overflows o t a b) (overflow (cause_of_lem o t a b)) (value (exact_of_lem o a b))
 
 -- the outcome that the code's answer stands for
-abbrev pub outcome_of : Step → Outcome
-outcome_of (Value n) = value (value_of n)
-outcome_of (Overflow c) = overflow c
+abbrev pub outcome_of : Result Num Cause → Outcome
+outcome_of (Ok n) = value (value_of n)
+outcome_of (Err c) = overflow c
 
 -- the remainder of z by m, from 0 to m - 1
 abbrev pub residue : ℕ → ℤ → ℕ

@@ -2,12 +2,12 @@
 // overflows; and wrapped to the type, with whether it overflowed.
 #![tactic(auto)]
 
-ghost use Rattle.std.specs.Prelude.{◌≡◌, ℕ, ◌%◌, ◌^◌, ◌<◌, true, not, ◌||◌, ℤ, pos, if◌then◌else◌, int_le};
+ghost use Rattle.std.specs.Prelude.{◌≡◌, ℕ, ◌%◌, ◌^◌, ◌<◌, ◌≤◌, true, not, ◌||◌, ℤ, pos, if◌then◌else◌, int_le};
 ghost use Rattle.arith.specs.declared.Cause.TheVariants.{Above, Below, NoDivisor};
 ghost use Rattle.arith.specs.Types.{Row, IsRow, bits, lowest, limit_of};
 ghost use Rattle.arith.specs.Whole.{value_of, Holds};
 ghost use Rattle.arith.specs.Words.{word_of, value_at, immediate};
-ghost use Rattle.arith.specs.Step.{op_of, exact_of_lem, lacks_divisor, fits, step_of, outcome_of, wrap, overflows};
+ghost use Rattle.arith.specs.Step.{op_of, exact_of_lem, lacks_divisor, fits, cause_number, step_of, outcome_of, wrap, overflows};
 
 use whole::Whole;
 
@@ -28,7 +28,7 @@ pub struct Range {
     pub highest: u64,
 }
 
-#[derive(Clone, Copy)]
+#[derive(Clone, Copy, Debug, PartialEq, Eq)]
 pub enum Op {
     Add,
     Sub,
@@ -38,18 +38,24 @@ pub enum Op {
 }
 
 // Why a step overflows in its type: the result is above the type's range, below it, or there is no divisor.
-#[derive(Clone, Copy)]
+#[derive(Clone, Copy, Debug, PartialEq, Eq)]
 pub enum Cause {
     Above,
     Below,
     NoDivisor,
 }
 
-// What comes of a step: its value, or why it overflows in the type.
-#[derive(Clone, Copy)]
-pub enum Step {
-    Value(Num),
-    Overflow(Cause),
+// A cause's number: 1 too big, 2 too small, 3 no divisor.
+impl From<Cause> for u64 {
+    ghost from_gives = { λ c n. (n ≡ cause_number c) × (n ≤ 3) };
+
+    fn from(cause: Cause) -> u64 {
+        match cause {
+            Cause::Above => 1,
+            Cause::Below => 2,
+            Cause::NoDivisor => 3,
+        }
+    }
 }
 
 // The word of a step's result wrapped to the type, and whether the step overflowed.
@@ -108,8 +114,7 @@ pub fn range_of(ty: u8) -> Range
     requires { ty < 8 }
     ensures { Row ty result }
 {
-    let i = ty as usize;
-    RANGES[i]
+    RANGES[ty as usize]
 }
 
 // The same for a step that is worked over and over: for an index that is known at run time only the
@@ -165,14 +170,14 @@ fn cause_of(op: Op, b: Num, w: Whole) -> Cause
 
 // One step in whole numbers, on values that need not be of the type: its value, or why it
 // overflows in the type.
-pub fn checked_step(op: Op, range: Range, a: Num, b: Num) -> Step
+pub fn checked_step(op: Op, range: Range, a: Num, b: Num) -> Result<Num, Cause>
     ensures { (ty : ℕ) → Row ty range → outcome_of result ≡ step_of op ty (value_of a) (value_of b) }
 {
     let w = whole::exact(op, a, b);
     if overflowed(op, range, b, w) {
-        return Step::Overflow(cause_of(op, b, w));
+        return Err(cause_of(op, b, w));
     }
-    Step::Value(Num {
+    Ok(Num {
         neg: w.neg,
         mag: w.low,
     })
@@ -208,14 +213,10 @@ fn fold(range: Range, w: Whole) -> Num
 pub fn to_word(n: Num) -> u64
     ensures { result ≡ word_of (value_of n) }
 {
-    let m = n.mag;
     if n.neg {
-        if m == 0 {
-            return 0;
-        }
-        return u64::MAX - m + 1;
+        return n.mag.wrapping_neg();
     }
-    m
+    n.mag
 }
 
 // The number that the lowest bits of w stand for in a type: a reading, an immediate, a word.
@@ -249,7 +250,7 @@ fn from_word(ty: u8, w: u64) -> Num
     }
     Num {
         neg: true,
-        mag: u64::MAX - w + 1,
+        mag: w.wrapping_neg(),
     }
 }
 
@@ -285,8 +286,8 @@ fn word_in(range: Range, w: Whole) -> u64
         neg: w.neg,
         mag: w.low,
     });
-    let t = low_bits(range, std::num::wrapping_add_u64(v, d));
-    std::num::wrapping_sub_u64(t, d)
+    let t = low_bits(range, v.wrapping_add(d));
+    t.wrapping_sub(d)
 }
 
 // One step on words whose type is from, wrapped to the type with this range, and whether it

@@ -23,12 +23,8 @@ fn sum(a: Num, b: Num) -> Whole
     let y = b.mag;
     let s = a.neg;
     if s == b.neg {
-        let low = std::num::wrapping_add_u64(x, y);
-        return Whole {
-            neg: s,
-            over: low < x,
-            low,
-        };
+        let (low, over) = x.overflowing_add(y);
+        return Whole { neg: s, over, low };
     }
     if x < y {
         return Whole {
@@ -56,39 +52,12 @@ fn difference(a: Num, b: Num) -> Whole
     )
 }
 
-// x * y modulo 2^64, by halves of 32 bits. The product of the upper halves does not count.
-fn low_product(x: u64, y: u64) -> u64
-    ensures { result ≡ x * y % 2 ^ 64 }
-{
-    let x0 = x % 0x1_0000_0000;
-    let x1 = x / 0x1_0000_0000;
-    let y0 = y % 0x1_0000_0000;
-    let y1 = y / 0x1_0000_0000;
-    let p = x1 * y0 % 0x1_0000_0000;
-    let q = x0 * y1 % 0x1_0000_0000;
-    let mid = (p + q) % 0x1_0000_0000;
-    std::num::wrapping_add_u64(mid * 0x1_0000_0000, x0 * y0)
-}
-
-// Whether x * y is 2^64 or more.
-fn too_large(x: u64, y: u64) -> bool
-    ensures { result ≡ nat_le (2 ^ 64) (x * y) }
-{
-    if y == 0 {
-        return false;
-    }
-    u64::MAX / y < x
-}
-
 fn product(a: Num, b: Num) -> Whole
     ensures { Holds result (exact_of_lem Op.Mul (value_of a) (value_of b)) }
 {
-    let over = too_large(a.mag, b.mag);
-    let low = low_product(a.mag, b.mag);
-    let s = a.neg;
-    let t = b.neg;
+    let (low, over) = a.mag.overflowing_mul(b.mag);
     Whole {
-        neg: s != t,
+        neg: a.neg != b.neg,
         over,
         low,
     }
@@ -98,11 +67,7 @@ fn product(a: Num, b: Num) -> Whole
 fn quotient(a: Num, b: Num) -> Whole
     ensures { Holds result (exact_of_lem Op.Div (value_of a) (value_of b)) }
 {
-    let s = a.neg;
-    let t = b.neg;
-    let x = a.mag;
-    let y = b.mag;
-    if y == 0 {
+    if b.mag == 0 {
         return Whole {
             neg: false,
             over: false,
@@ -110,9 +75,9 @@ fn quotient(a: Num, b: Num) -> Whole
         };
     }
     Whole {
-        neg: s != t,
+        neg: a.neg != b.neg,
         over: false,
-        low: x / y,
+        low: a.mag / b.mag,
     }
 }
 
@@ -143,11 +108,8 @@ pub fn lacks(op: Op, b: Num) -> bool
     ensures { result ≡ lacks_divisor op (value_of b) }
 {
     match op {
-        Op::Add => false,
-        Op::Sub => false,
-        Op::Mul => false,
         Op::Div => b.mag == 0,
-        Op::Convert => false,
+        _ => false,
     }
 }
 

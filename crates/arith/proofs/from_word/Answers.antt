@@ -1,5 +1,5 @@
 -- `arith::from_word` meets its contract.
-use Rattle.std.proofs.Common.{◌≡◌, ◌+◌, ◌-◌, arith, rules, le-leb}
+use Rattle.std.proofs.Common.{◌≡◌, ◌-◌, arith, rules, le-leb}
 use borrow.Author.Tests.{lt-leb}
 use Rattle.arith.specs.Types.{signed}
 use Rattle.arith.specs.Words.{wide_of, value_at}
@@ -19,5 +19,5 @@ pub returns : goal.returns
 unfolding value_at wide_of signed
 returns c =
     let w = c.args.w in
-    let e : 18446744073709551615 - w + 1 ≡ 18446744073709551616 - w = omega arith in
+    let e : c.wrapping_neg.result ≡ 18446744073709551616 - w = omega arith in
     rw (le-leb 4 c.args.ty c.if-ty-lt4.false, e) (negative_word w c.if-w-lt9223372036854775808.false (search rules))
