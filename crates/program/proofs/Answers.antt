@@ -3,7 +3,6 @@ use mathlib.Core.Path.{◌≡◌, refl, sym, ap, ◌∙◌}
 use mathlib.Core.Bool.{Bool, true, false}
 use mathlib.Core.List.{List, []}
 use Prim.Native.Nat.{ℕ}
-use native.Mathlib.Omega.{arith}
 use Rattle.model.specs.Lists.{every}
 use Rattle.model.specs.Procedures.{open_after, all_closed, Parts, between, parts_from, parts_right_lem}
 use Rattle.model.specs.Program.{Layout as Sections, Outline, layout_of, items_of, read_outline}
@@ -11,8 +10,13 @@ use Rattle.model.specs.Program.{sections_right, counts_right_lem, types_right_le
 use Rattle.model.specs.Refusals.{Out, ok, refused, ◌>>=◌, mapped, check}
 use Rattle.model.specs.Refusals.{wrong_sections, too_many_entries, wrong_types, wrong_statement, types_disagree, wrong_immediate, wrong_procedures}
 use Rattle.model.proofs.Basics.Results.{check-mapped, mapped-check, refused-ok}
+use Rattle.std.specs.Prelude.{Option, Some, None, Result, Ok, Err, is_ok}
+use Rattle.std.specs.Option.{ok_or}
+use Rattle.std.proofs.Common.{true≢false}
+use Rattle.refusals.specs.Answers.{number_of}
+use Rattle.refusals.specs.declared.Refusal.{Refusal}
 use Rattle.program.specs.declared.Layout.{Layout}
-use Rattle.program.specs.Reading.{layout_from, Placed, tables_of, statement_checks, procedure_checks, table_checks}
+use Rattle.program.specs.Reading.{program_answer, layout_from, tables_of, procedure_checks, table_checks}
 
 -- ---- a test, and the result that goes with it
 
@@ -29,10 +33,24 @@ pub check-number : {A : Type 0} (b : Bool) (n m : ℕ) (y : A) → refused m ≡
 check-number true n m y e = cc
 check-number false n m y e = cc
 
+-- a layout was read exactly where the test passes
+pub is_ok-check : (b : Bool) (n : ℕ) (r : Result Layout Refusal) (y : Sections) → program_answer r ≡ check b n (ok y) → is_ok r ≡ b
+is_ok-check b n (Ok L) y h = sym (check-ok b n (layout_from L) y h).0
+is_ok-check b n (Err f) y h = sym (check-refused b n (number_of f) y h)
+
+-- what an option was, by the result that a refusal in place of None makes of it
+pub taken_of : {A : Type 0} (o : Option A) (f : Refusal) (a : A) → Ok a ≡ ok_or o f → o ≡ Some a
+taken_of None f a h = cc
+taken_of (Some b) f a h = cc
+
+pub refused_of : {A : Type 0} (o : Option A) (f g : Refusal) → Err g ≡ ok_or o f → (o ≡ None) × (g ≡ f)
+refused_of None f g h = (refl, cc)
+refused_of (Some b) f g h = (cc, cc)
+
 -- where a test has refused, it refuses whatever follows it
-pub handed_on : {A : Type 0} (b : Bool) (n m : ℕ) (y : A) (o x : Out A) → x ≡ refused m → x ≡ check b n (ok y) → x ≡ check b n o
-handed_on true n m y o x e h = cc
-handed_on false n m y o x e h = h
+pub handed_on : {A : Type 0} (b : Bool) (n m : ℕ) (y : A) (o : Out A) → refused m ≡ check b n (ok y) → refused m ≡ check b n o
+handed_on true n m y o h = let z : true ≡ false = cc in absurd (true≢false z)
+handed_on false n m y o h = h
 
 -- ---- the whole
 
@@ -72,65 +90,3 @@ by_checks s =
     ∙ ap (check form wrong_statement) (check-mapped g agree types_disagree in₇
     ∙ ap (check agree types_disagree) (check-mapped g inside wrong_immediate blocks
     ∙ ap (check inside wrong_immediate) in₈)))))
-
--- ---- checks 5 to 7
-
--- the three tests in their order, and then o
-abbrev three : {A : Type 0} → (form agree inside : Bool) → Out A → Out A
-three f a m o = check f wrong_statement (check a types_disagree (check m wrong_immediate o))
-
-three_pass : {A : Type 0} (f a m : Bool) (x y : A) → ok x ≡ three f a m (ok y) → (f ≡ true) × (a ≡ true) × (m ≡ true) × (x ≡ y)
-three_pass true true true x y e = (refl, refl, refl, cc)
-three_pass true true false x y e = absurd (refused-ok wrong_immediate x (sym e))
-three_pass true false m x y e = absurd (refused-ok types_disagree x (sym e))
-three_pass false a m x y e = absurd (refused-ok wrong_statement x (sym e))
-
-three_refused : {A : Type 0} (f a m : Bool) (n : ℕ) (y : A) (o x : Out A) → x ≡ refused n → x ≡ three f a m (ok y) → x ≡ three f a m o
-three_refused true true true n y o x e h = cc
-three_refused true true false n y o x e h = h
-three_refused true false m n y o x e h = h
-three_refused false a m n y o x e h = h
-
-module _ (s : List ℕ) where
-  -- the tests, by their numbers
-  abbrev form : Bool
-  form = every (form_right_lem (tables_of s)) (tables_of s).statements
-
-  abbrev agree : Bool
-  agree = every (types_agree_lem (tables_of s)) (tables_of s).statements
-
-  abbrev inside : Bool
-  inside = every (immediate_right_lem (tables_of s)) (tables_of s).statements
-
-  -- where they pass, what follows them counts
-  pub statements_pass : (x y : Sections) → ok x ≡ statement_checks s (ok y) → ((o : Out Sections) → o ≡ statement_checks s o) × (x ≡ y)
-  statements_pass x y e =
-      let k = three_pass form agree inside x y e in
-      (λ o. rw (k.0, k.1, k.2), k.3)
-
-  -- where one refuses, it refuses whatever follows
-  pub statements-refused : (m : ℕ) (y : Sections) (o x : Out Sections) → x ≡ refused m → x ≡ statement_checks s (ok y)
-      → x ≡ statement_checks s o
-  statements-refused m y o x e h = three_refused form agree inside m y o x e h
-
--- ---- a layout that is the byte string's own, twice
-
-pub placed_same : (s : List ℕ) (K L : Layout) → layout_from K ≡ layout_of s → Placed s L → Placed s K
-placed_same s K L e h =
-    let same : layout_from K ≡ layout_from L = e ∙ sym h.layout in
-    let e₁ : K.fields_at ≡ L.fields_at = ap (λ (M : Sections). M.fields_at) same in
-    let e₂ : K.fields ≡ L.fields = ap (λ (M : Sections). M.fields) same in
-    let e₃ : K.variables_at ≡ L.variables_at = ap (λ (M : Sections). M.variables_at_lem) same in
-    let e₄ : K.variables ≡ L.variables = ap (λ (M : Sections). M.variables) same in
-    let e₅ : K.arrays_at ≡ L.arrays_at = ap (λ (M : Sections). M.arrays_at_lem) same in
-    let e₆ : K.arrays ≡ L.arrays = ap (λ (M : Sections). M.arrays) same in
-    let e₇ : K.statements_at ≡ L.statements_at = ap (λ (M : Sections). M.statements_at_lem) same in
-    let e₈ : K.statements ≡ L.statements = ap (λ (M : Sections). M.statements) same in
-    record {
-      layout = e;
-      fields = omega (arith, h.fields);
-      variables = omega (arith, h.variables);
-      arrays = omega (arith, h.arrays);
-      statements = omega (arith, h.statements);
-      small = h.small;
-    }

@@ -16,13 +16,13 @@ use Rattle.model.proofs.Basics.Every.{every-at}
 use Rattle.model.proofs.Files.Checked.{Outlined, outline_checked, program_checked}
 use Rattle.program.specs.Reading.{program_answer, layout_from, tables_of, no_statement, statement_of, Placed, ProgramIsRead}
 use Rattle.program.specs.declared.Layout.{Layout}
-use Rattle.program.specs.declared.ProgramRead.{ProgramRead}
-use Rattle.program.specs.declared.ProgramRead.TheVariants.{Read}
+use Rattle.std.specs.Prelude.{Result, Ok}
+use Rattle.refusals.specs.declared.Refusal.{Refusal}
 use Rattle.program.proofs.sections.Chain.{placed}
 use Rattle.program.proofs.Tables.{sized}
 
 -- the reader's answer, where it is a layout
-pub is_read : (s : List ℕ) (r : ProgramRead) (L : Layout) → program_answer r ≡ mapped (λ O. layout_of s) (read_outline s) → r ≡ Read L
+pub is_read : (s : List ℕ) (r : Result Layout Refusal) (L : Layout) → program_answer r ≡ mapped (λ O. layout_of s) (read_outline s) → r ≡ Ok L
     → ProgramIsRead s L
 is_read s r L h e =
     let k = mapped-ok (λ O. layout_of s) (read_outline s) (layout_from L) (sym h ∙ ap program_answer e) in

@@ -1,5 +1,5 @@
 -- The procedures of a program in a table of words, two for each: the labels of its beginning and of its end.
-use Rattle.std.specs.Prelude.{◌≡◌, Bool, ◌&&◌, List, [], ◌∷◌, ◌++◌, ℕ, zero, suc, ◌+◌, ◌-◌, ◌*◌, ◌≤◌, ◌<◌, length, get_or, take, drop}
+use Rattle.std.specs.Prelude.{◌≡◌, Bool, ◌&&◌, List, [], ◌∷◌, ◌++◌, ℕ, zero, suc, Option, Some, None, ◌+◌, ◌-◌, ◌*◌, ◌≤◌, ◌<◌, length, get_or, take, drop}
 use Rattle.model.specs.Lists.{every}
 use Rattle.model.specs.Sizes.{most_statements}
 use Rattle.model.specs.Refusals.{ok, refused, wrong_procedures}
@@ -9,11 +9,7 @@ use Rattle.model.specs.Program.{Tables, items_of}
 use Rattle.program.specs.Numbers.{procedure_kind}
 use Rattle.program.specs.Reading.{statement_of, tables_of, Placed}
 use Rattle.program.specs.declared.Layout.{Layout}
-use Rattle.program.specs.declared.procedures.EndRead.{EndRead}
-use Rattle.program.specs.declared.procedures.EndRead.TheVariants.{End, Refused as NoEnd}
-use Rattle.program.specs.declared.procedures.Main.{Main as AfterProcedures}
-use Rattle.program.specs.declared.procedures.PartsRead.{PartsRead}
-use Rattle.program.specs.declared.procedures.PartsRead.TheVariants.{Main, Refused}
+use Rattle.program.specs.declared.procedures.Main.{Main}
 
 -- the statement with a label; past the last one an end
 abbrev pub item_at : Tables → ℕ → Item
@@ -69,9 +65,9 @@ pub record EndsAt (T : Tables) (b e : ℕ) : Type 0 where
   pub read : (ps : List Procedure) → parts_from b ps between (drop b (items_of T)) ≡ parts_from (e + 1) (ps ++ (procedure_between T b e ∷ [])) between (drop (e + 1) (items_of T))
 
 -- where it ends, or that it does not
-abbrev pub EndIs : Tables → ℕ → EndRead → Type 0
-EndIs T b (End e) = EndsAt T b e
-EndIs T b NoEnd = (ps : List Procedure) → parts_from b ps between (drop b (items_of T)) ≡ refused wrong_procedures
+abbrev pub EndIs : Tables → ℕ → Option ℕ → Type 0
+EndIs T b (Some e) = EndsAt T b e
+EndIs T b None = (ps : List Procedure) → parts_from b ps between (drop b (items_of T)) ≡ refused wrong_procedures
 
 -- ---- all of them
 
@@ -108,12 +104,12 @@ pub record PartsAre (T : Tables) (t : List ℕ) (l n : ℕ) : Type 0 where
   pub each : (p : ℕ) → p < n → Between T l (begin_in t p) (end_in t p)
 
 -- the parts by an answer, or that they are refused
-abbrev pub PartsBy : Tables → List ℕ → PartsRead → Type 0
-PartsBy T t (Main m) = PartsAre T t m.label m.procedures
-PartsBy T t Refused = parts_from 0 [] between (items_of T) ≡ refused wrong_procedures
+abbrev pub PartsBy : Tables → List ℕ → Option Main → Type 0
+PartsBy T t (Some m) = PartsAre T t m.label m.procedures
+PartsBy T t None = parts_from 0 [] between (items_of T) ≡ refused wrong_procedures
 
 -- the parts of a program that is placed, in a table that has room for them
-pub record PartsListed (s t : List ℕ) (L : Layout) (m : AfterProcedures) : Type 0 where
+pub record PartsListed (s t : List ℕ) (L : Layout) (m : Main) : Type 0 where
   pub placed : Placed s L
   pub room : L.statements ≤ length t
   pub parts : PartsAre (tables_of s) t m.label m.procedures

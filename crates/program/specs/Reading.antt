@@ -1,5 +1,5 @@
 -- What the reader's answers and entries stand for, and what its functions may assume of a layout.
-use Rattle.std.specs.Prelude.{◌≡◌, Bool, ◌&&◌, List, [], map, ℕ, ◌+◌, ◌*◌, ◌%◌, ◌≤◌, ◌<◌, ◌^◌, eqb, length, get_or}
+use Rattle.std.specs.Prelude.{◌≡◌, Bool, ◌&&◌, List, [], map, ℕ, Result, Ok, Err, ◌+◌, ◌*◌, ◌%◌, ◌≤◌, ◌<◌, ◌^◌, eqb, length, get_or}
 use Rattle.model.specs.Lists.{every}
 use Rattle.model.specs.Refusals.{Out, ok, refused, ◌>>=◌, check, too_many_entries, wrong_types, wrong_statement, types_disagree, wrong_immediate, wrong_procedures}
 use Rattle.model.specs.Sizes.{most_program, field_size, array_size, statement_size}
@@ -11,13 +11,9 @@ use Rattle.model.specs.Procedures.{open_after, all_closed, between, parts_from, 
 use Rattle.program.specs.Numbers.{fields_pair, arrays_pair, statements_pair, end_kind}
 use Rattle.program.specs.declared.Layout.{Layout}
 use Rattle.program.specs.declared.Entry.{Entry}
-use Rattle.program.specs.declared.ProgramRead.{ProgramRead}
-use Rattle.program.specs.declared.ProgramRead.TheVariants.{Read, Refused}
 use Rattle.program.specs.declared.sections.Pair.{Pair}
-use Rattle.program.specs.declared.sections.SectionRead.{SectionRead}
-use Rattle.program.specs.declared.sections.SectionRead.TheVariants.{Section, Refused as NoSection}
-use Rattle.program.specs.declared.statements.StatementRead.{StatementRead}
-use Rattle.program.specs.declared.statements.StatementRead.TheVariants.{Entry as AnEntry, Refused as NoEntry}
+use Rattle.refusals.specs.Answers.{number_of, out_of}
+use Rattle.refusals.specs.declared.Refusal.{Refusal}
 
 -- the model's layout that the code's is
 abbrev pub layout_from : Layout → Sections
@@ -33,9 +29,17 @@ layout_from L = record {
 }
 
 -- the reader's answer: where the sections are, or the number of the refusal
-abbrev pub program_answer : ProgramRead → Out Sections
-program_answer (Read L) = ok (layout_from L)
-program_answer (Refused n) = refused n
+abbrev pub program_answer : Result Layout Refusal → Out Sections
+program_answer r = out_of layout_from r
+
+-- the answer of checks: that they pass, and then o, or the number of the refusal
+abbrev pub followed : Result (Unit {0}) Refusal → Out Sections → Out Sections
+followed (Ok u) o = o
+followed (Err r) o = refused (number_of r)
+
+-- the same of the last checks: the byte string's own layout follows
+abbrev pub checks_answer : List ℕ → Result (Unit {0}) Refusal → Out Sections
+checks_answer s r = followed r (ok (layout_of s))
 
 -- the pair that stands at a place: two numbers of 4 bytes
 pub record PairIs (p : Pair) (s : List ℕ) (place : ℕ) : Type 0 where
@@ -45,14 +49,13 @@ pub record PairIs (p : Pair) (s : List ℕ) (place : ℕ) : Type 0 where
   pub length-small : p.len < 2 ^ 32
 
 -- a section's pair, or the number of the refusal
-abbrev pub section_of : SectionRead → Out ModelPair
-section_of (Section p) = ok (record { offset = p.at; len = p.len })
-section_of (NoSection n) = refused n
+abbrev pub section_of : Result Pair Refusal → Out ModelPair
+section_of r = out_of (λ p. record { offset = p.at; len = p.len }) r
 
 -- both numbers of 4 bytes
-abbrev pub InFourBytes : SectionRead → Type 0
-InFourBytes (Section p) = (p.at < 2 ^ 32) × (p.len < 2 ^ 32)
-InFourBytes (NoSection n) = Unit {0}
+abbrev pub InFourBytes : Result Pair Refusal → Type 0
+InFourBytes (Ok p) = (p.at < 2 ^ 32) × (p.len < 2 ^ 32)
+InFourBytes (Err r) = Unit {0}
 
 -- the sections of fields, of this size, of arrays and of statements are whole entries
 abbrev pub whole_entries : ℕ → List ℕ → Bool
@@ -65,9 +68,8 @@ abbrev pub entry_of : Entry → Statement
 entry_of q = record { kind = q.kind; a = q.a; b = q.b; c = q.c; imm = q.imm }
 
 -- a statement's entry, or the number of the refusal
-abbrev pub statement_from : StatementRead → Out Statement
-statement_from (AnEntry q) = ok (entry_of q)
-statement_from (NoEntry n) = refused n
+abbrev pub statement_from : Result Entry Refusal → Out Statement
+statement_from r = out_of entry_of r
 
 -- the tables of a byte string at its own layout
 abbrev pub tables_of : List ℕ → Tables

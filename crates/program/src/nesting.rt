@@ -7,7 +7,7 @@ ghost use Rattle.model.specs.Program.{Statement, Tables, item_of};
 ghost use Rattle.program.specs.OpenBlocks.{block_of, blocks_of, passed_of, Packed, Opens, PackedIf, NestingIs};
 ghost use Rattle.program.specs.Reading.{tables_of, Placed};
 
-use super::statements::{CALL, ELSE, IF, PROCEDURE, WHILE, both};
+use super::statements::{CALL, ELSE, IF, PROCEDURE, WHILE};
 use super::{Layout, kind_at};
 
 // the blocks that may be open at once
@@ -32,18 +32,11 @@ struct Open {
     word: u64,
 }
 
-// The open blocks behind a statement, or the refusal.
-#[derive(Clone, Copy)]
-enum Passed {
-    Open(Open),
-    Refused,
-}
-
-// Whether no statement begins a procedure, where the blocks match; or the refusal.
-#[derive(Clone, Copy)]
-pub enum NestingRead {
-    Matched(bool),
-    Refused,
+// What a program's blocks are: plain where no statement begins a procedure.
+#[derive(Clone, Copy, Debug, PartialEq, Eq)]
+pub enum Blocks {
+    Plain,
+    WithProcedures,
 }
 
 // ---- one statement
@@ -57,7 +50,7 @@ fn has_room(blocks: Open) -> bool
 }
 
 // An if or a while opens a block, if there is room for one more.
-fn open_block(blocks: Open, code: u64) -> Passed
+fn open_block(blocks: Open, code: u64) -> Option<Open>
     requires { Opens blocks code }
     ensures { (passed_of result ≡ opening (block_of code) (blocks_of blocks)) × PackedIf result }
 {
@@ -65,9 +58,9 @@ fn open_block(blocks: Open, code: u64) -> Passed
     let nested = blocks.nested;
     let word = blocks.word;
     if !has_room(blocks) {
-        return Passed::Refused;
+        return None;
     }
-    Passed::Open(Open {
+    Some(Open {
         inner: 0,
         nested: nested + 1,
         word: word * BLOCK_SIZE + (inner * BLOCK_CODES + code),
@@ -75,7 +68,7 @@ fn open_block(blocks: Open, code: u64) -> Passed
 }
 
 // An else turns an if.
-fn turn_block(blocks: Open) -> Passed
+fn turn_block(blocks: Open) -> Option<Open>
     requires { Packed blocks }
     ensures { (passed_of result ≡ turning (blocks_of blocks)) × PackedIf result }
 {
@@ -83,15 +76,15 @@ fn turn_block(blocks: Open) -> Passed
     let nested = blocks.nested;
     let word = blocks.word;
     if inner != 0 {
-        return Passed::Refused;
+        return None;
     }
     if nested == 0 {
-        return Passed::Refused;
+        return None;
     }
     if word % BLOCK_CODES != IF_CODE {
-        return Passed::Refused;
+        return None;
     }
-    Passed::Open(Open {
+    Some(Open {
         inner,
         nested,
         word: word + 1,
@@ -99,7 +92,7 @@ fn turn_block(blocks: Open) -> Passed
 }
 
 // An end closes anything but an if without its else.
-fn close_block(blocks: Open) -> Passed
+fn close_block(blocks: Open) -> Option<Open>
     requires { Packed blocks }
     ensures { (passed_of result ≡ closing (blocks_of blocks)) × PackedIf result }
 {
@@ -107,19 +100,19 @@ fn close_block(blocks: Open) -> Passed
     let nested = blocks.nested;
     let word = blocks.word;
     if inner != 0 {
-        return Passed::Open(Open {
+        return Some(Open {
             inner: inner - 1,
             nested,
             word,
         });
     }
     if nested == 0 {
-        return Passed::Refused;
+        return None;
     }
     if word % BLOCK_CODES == IF_CODE {
-        return Passed::Refused;
+        return None;
     }
-    Passed::Open(Open {
+    Some(Open {
         inner: (word % BLOCK_SIZE / BLOCK_CODES) as usize,
         nested: nested - 1,
         word: word / BLOCK_SIZE,
@@ -127,11 +120,11 @@ fn close_block(blocks: Open) -> Passed
 }
 
 // A procedure begins.
-fn open_procedure(blocks: Open) -> Passed
+fn open_procedure(blocks: Open) -> Option<Open>
     requires { Packed blocks × (blocks.inner < most_statements) }
     ensures { (passed_of result ≡ ok (procedure_block ∷ blocks_of blocks)) × PackedIf result }
 {
-    Passed::Open(Open {
+    Some(Open {
         inner: blocks.inner + 1,
         nested: blocks.nested,
         word: blocks.word,
@@ -139,19 +132,19 @@ fn open_procedure(blocks: Open) -> Passed
 }
 
 // The open blocks behind a statement of a kind, from those before it.
-fn pass_statement(blocks: Open, kind: u8) -> Passed
+fn pass_statement(blocks: Open, kind: u8) -> Option<Open>
     requires { Packed blocks × (blocks.inner < most_statements) }
     ensures { ((T : Tables) (q : Statement) → q.kind ≡ kind → passed_of result ≡ passing (item_of T q) (blocks_of blocks)) × PackedIf result }
 {
     if kind < IF {
-        return Passed::Open(blocks);
+        return Some(blocks);
     }
     match kind {
         IF => open_block(blocks, IF_CODE),
         ELSE => turn_block(blocks),
         WHILE => open_block(blocks, WHILE_CODE),
         PROCEDURE => open_procedure(blocks),
-        CALL => Passed::Open(blocks),
+        CALL => Some(blocks),
         _ => close_block(blocks),
     }
 }
@@ -159,7 +152,7 @@ fn pass_statement(blocks: Open, kind: u8) -> Passed
 // ---- check 8
 
 // From the first statement to the last: every block that is opened is closed, and at the end none is open.
-pub fn nesting_right(program: &[u8], layout: Layout) -> NestingRead
+pub fn nesting_right(program: &[u8], layout: Layout) -> Option<Blocks>
     requires { Placed program.now layout × (layout.statements ≤ most_statements) }
     ensures { NestingIs (tables_of program.now) result }
 {
@@ -169,26 +162,22 @@ pub fn nesting_right(program: &[u8], layout: Layout) -> NestingRead
         nested: 0,
         word: 0,
     };
-    let mut plain = true;
-    let mut i: usize = 0;
-    while i < n {
+    let mut found = Blocks::Plain;
+    for i in 0..n {
         let kind = kind_at(program, layout, i);
-        i += 1;
         if kind < IF {
             continue;
         }
-        plain = both(plain, kind != PROCEDURE);
-        let passed = pass_statement(blocks, kind);
-        let Passed::Open(next) = passed else {
-            return NestingRead::Refused;
-        };
-        blocks = next;
+        if kind == PROCEDURE {
+            found = Blocks::WithProcedures;
+        }
+        blocks = pass_statement(blocks, kind)?;
     }
     if blocks.inner != 0 {
-        return NestingRead::Refused;
+        return None;
     }
     if blocks.nested != 0 {
-        return NestingRead::Refused;
+        return None;
     }
-    NestingRead::Matched(plain)
+    Some(found)
 }

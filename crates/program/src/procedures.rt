@@ -10,25 +10,11 @@ ghost use Rattle.program.specs.Reading.{tables_of, Placed};
 use super::statements::{CALL, ELSE, IF, PROCEDURE, WHILE};
 use super::{Layout, kind_at};
 
-// The label of a procedure's end, or that there is none: it is not closed, or another procedure begins in it.
-#[derive(Clone, Copy)]
-enum EndRead {
-    End(usize),
-    Refused,
-}
-
 // Where the statements after the procedures begin, and how many procedures there are.
-#[derive(Clone, Copy)]
+#[derive(Clone, Copy, Debug, PartialEq, Eq)]
 pub struct Main {
     pub label: usize,
     pub procedures: usize,
-}
-
-// The parts of a program, or that a procedure stands late or inside another.
-#[derive(Clone, Copy)]
-pub enum PartsRead {
-    Main(Main),
-    Refused,
 }
 
 // ---- one procedure
@@ -51,26 +37,24 @@ fn depth_after(depth: usize, kind: u8) -> usize
     }
 }
 
-// The end of the procedure that begins at a label.
-fn procedure_end(program: &[u8], layout: Layout, begin: usize) -> EndRead
+// The label of the end of the procedure that begins at a label; none where it is not closed, or another begins in it.
+fn procedure_end(program: &[u8], layout: Layout, begin: usize) -> Option<usize>
     requires { Begins program.now layout begin }
     ensures { EndIs (tables_of program.now) begin result }
 {
     let n = layout.statements;
     let mut depth: usize = 1;
-    let mut i = begin + 1;
-    while i < n {
+    for i in begin + 1..n {
         let kind = kind_at(program, layout, i);
         if kind == PROCEDURE {
-            return EndRead::Refused;
+            return None;
         }
         depth = depth_after(depth, kind);
         if depth == 0 {
-            return EndRead::End(i);
+            return Some(i);
         }
-        i += 1;
     }
-    EndRead::Refused
+    None
 }
 
 // ---- all of them
@@ -92,38 +76,34 @@ fn none_begins(program: &[u8], layout: Layout, from: usize) -> bool
     ensures { result ≡ every begins_none (drop from (items_of (tables_of program.now))) }
 {
     let n = layout.statements;
-    let mut i = from;
-    while i < n {
+    for i in from..n {
         if begins_procedure(program, layout, i) {
             return false;
         }
-        i += 1;
     }
     true
 }
 
 // The procedures into a table, two words for each, the labels of its beginning and of its end; and the statements after
-// them.
-pub fn parts(program: &[u8], layout: Layout, table: &mut [u64]) -> PartsRead
+// them. None where a procedure stands late or inside another.
+pub fn parts(program: &[u8], layout: Layout, table: &mut [u64]) -> Option<Main>
     requires { Tabled program.now layout table.old }
     ensures { PartsBy (tables_of program.now) table.new result }
 {
     let mut count: usize = 0;
     let mut i: usize = 0;
+    // A while: the label moves behind the end of the procedure that is read.
     while begins_procedure(program, layout, i) {
-        let ended = procedure_end(program, layout, i);
-        let EndRead::End(end) = ended else {
-            return PartsRead::Refused;
-        };
+        let end = procedure_end(program, layout, i)?;
         table[2 * count] = i as u64;
         table[2 * count + 1] = end as u64;
         count += 1;
         i = end + 1;
     }
     if !none_begins(program, layout, i) {
-        return PartsRead::Refused;
+        return None;
     }
-    PartsRead::Main(Main {
+    Some(Main {
         label: i,
         procedures: count,
     })

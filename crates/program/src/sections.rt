@@ -1,14 +1,15 @@
 // The section table and the tables of types: checks 2 to 4 of a program file.
-ghost use Rattle.std.specs.Prelude.{◌≡◌, ℕ, ◌+◌, ◌*◌, ◌≤◌, ◌<◌, eqb, length};
+ghost use Rattle.std.specs.Prelude.{◌≡◌, ◌+◌, ◌*◌, ◌≤◌, ◌<◌, eqb, length};
 ghost use Rattle.model.specs.Sizes.{section_table, pair_size_lem, array_size};
-ghost use Rattle.model.specs.Refusals.{ok, refused, check, wrong_sections};
+ghost use Rattle.model.specs.Refusals.{ok, check, wrong_sections};
 ghost use Rattle.model.specs.Bytes.{u32_at, pair_at, part, entries};
 ghost use Rattle.model.specs.Lists.{every};
 ghost use Rattle.model.specs.Program.{Tables, array_at, layout_of, sections_in, sections_right, counts_right_lem, type_right, array_right_lem, types_right_lem};
 ghost use Rattle.model.specs.OldForm.{most_old, old_field_size};
 ghost use Rattle.program.specs.Reading.{program_answer, PairIs, section_of, InFourBytes, whole_entries, tables_of, Placed, Sized};
 
-use super::{ARRAY_SIZE, FIELD_SIZE, Layout, MOST_STATEMENTS, ProgramRead, STATEMENT_SIZE};
+use super::{ARRAY_SIZE, FIELD_SIZE, Layout, MOST_STATEMENTS, STATEMENT_SIZE};
+use refusals::Refusal;
 
 const SECTIONS: usize = 4;
 
@@ -46,20 +47,11 @@ const MOST_CELLS: u64 = 256;
 // how many type codes there are
 const TYPE_CODES: u8 = 8;
 
-const WRONG_SECTIONS: u8 = 2;
-
 // A pair of the section table: where a section is, and how long.
 #[derive(Clone, Copy)]
 struct Pair {
     at: usize,
     len: usize,
-}
-
-// A section by its pair, or the number of the refusal.
-#[derive(Clone, Copy)]
-enum SectionRead {
-    Section(Pair),
-    Refused(u8),
 }
 
 // ---- check 2
@@ -75,30 +67,20 @@ fn pair_at(program: &[u8], place: usize) -> Pair
 }
 
 // The section whose pair stands at a place, if it starts where the one before ends.
-fn section_at(program: &[u8], place: usize, start: usize) -> SectionRead
+fn section_at(program: &[u8], place: usize, start: usize) -> Result<Pair, Refusal>
     requires { place + pair_size_lem ≤ length program.now }
     ensures { (section_of result ≡ check (eqb (u32_at program.now place) start) wrong_sections (ok (pair_at program.now place)))
         × InFourBytes result }
 {
     let pair = pair_at(program, place);
     if pair.at != start {
-        return SectionRead::Refused(WRONG_SECTIONS);
+        return Err(Refusal::WrongSections);
     }
-    SectionRead::Section(pair)
-}
-
-// The number that the answer of the section reader holds, where it is a refusal.
-fn section_refusal(read: SectionRead) -> u8
-    ensures { (n : ℕ) → section_of read ≡ refused n → result ≡ n }
-{
-    match read {
-        SectionRead::Section(_) => 0,
-        SectionRead::Refused(n) => n,
-    }
+    Ok(pair)
 }
 
 // The layout that the section table gives, if the sections are whole entries, a field's of this size.
-fn read_layout(program: &[u8], entry: usize) -> ProgramRead
+fn read_layout(program: &[u8], entry: usize) -> Result<Layout, Refusal>
     requires { (section_table ≤ length program.now) × (0 < entry) }
     ensures { program_answer result ≡ check (whole_entries entry program.now) wrong_sections (ok (layout_of program.now)) }
 {
@@ -107,15 +89,15 @@ fn read_layout(program: &[u8], entry: usize) -> ProgramRead
     let arrays = pair_at(program, ARRAYS_PAIR);
     let statements = pair_at(program, STATEMENTS_PAIR);
     if fields.len % entry != 0 {
-        return ProgramRead::Refused(WRONG_SECTIONS);
+        return Err(Refusal::WrongSections);
     }
     if arrays.len % ARRAY_SIZE != 0 {
-        return ProgramRead::Refused(WRONG_SECTIONS);
+        return Err(Refusal::WrongSections);
     }
     if statements.len % STATEMENT_SIZE != 0 {
-        return ProgramRead::Refused(WRONG_SECTIONS);
+        return Err(Refusal::WrongSections);
     }
-    ProgramRead::Read(Layout {
+    Ok(Layout {
         fields_at: fields.at,
         fields: fields.len / FIELD_SIZE,
         variables_at: variables.at,
@@ -128,34 +110,29 @@ fn read_layout(program: &[u8], entry: usize) -> ProgramRead
 }
 
 // The section table of a file of at most so many bytes: each section starts where the one before ends, and the last ends the file.
-fn read_table(program: &[u8], most: usize, entry: usize) -> ProgramRead
+fn read_table(program: &[u8], most: usize, entry: usize) -> Result<Layout, Refusal>
     requires { 0 < entry }
     ensures { program_answer result ≡ check (sections_in most entry program.now) wrong_sections (ok (layout_of program.now)) }
 {
     if program.len() < SECTION_TABLE {
-        return ProgramRead::Refused(WRONG_SECTIONS);
+        return Err(Refusal::WrongSections);
     }
     if most < program.len() {
-        return ProgramRead::Refused(WRONG_SECTIONS);
+        return Err(Refusal::WrongSections);
     }
     let mut end = SECTION_TABLE;
-    let mut i: usize = 0;
-    while i < SECTIONS {
-        let read = section_at(program, PAIR_SIZE * i, end);
-        let SectionRead::Section(pair) = read else {
-            return ProgramRead::Refused(section_refusal(read));
-        };
+    for i in 0..SECTIONS {
+        let pair = section_at(program, PAIR_SIZE * i, end)?;
         end = pair.at + pair.len;
-        i += 1;
     }
     if end != program.len() {
-        return ProgramRead::Refused(WRONG_SECTIONS);
+        return Err(Refusal::WrongSections);
     }
     read_layout(program, entry)
 }
 
 // The section table of a program.
-pub fn read_sections(program: &[u8]) -> ProgramRead
+pub fn read_sections(program: &[u8]) -> Result<Layout, Refusal>
     ensures { program_answer result ≡ check (sections_right program.now) wrong_sections (ok (layout_of program.now)) }
 {
     read_table(program, MOST_PROGRAM, FIELD_SIZE)
@@ -165,10 +142,7 @@ pub fn read_sections(program: &[u8]) -> ProgramRead
 pub fn old_sections_right(program: &[u8]) -> bool
     ensures { result ≡ sections_in most_old old_field_size program.now }
 {
-    match read_table(program, MOST_OLD, OLD_FIELD_SIZE) {
-        ProgramRead::Read(_) => true,
-        ProgramRead::Refused(_) => false,
-    }
+    read_table(program, MOST_OLD, OLD_FIELD_SIZE).is_ok()
 }
 
 // ---- check 3
@@ -195,12 +169,10 @@ fn are_types(program: &[u8], at: usize, n: usize) -> bool
     requires { at + n ≤ length program.now }
     ensures { result ≡ every type_right (part program.now at n) }
 {
-    let mut i: usize = 0;
-    while i < n {
+    for i in 0..n {
         if TYPE_CODES <= program[at + i] {
             return false;
         }
-        i += 1;
     }
     true
 }
@@ -228,12 +200,10 @@ fn are_arrays(program: &[u8], at: usize, n: usize) -> bool
     requires { at + array_size * n ≤ length program.now }
     ensures { result ≡ every array_right_lem (entries array_at array_size program.now at n) }
 {
-    let mut i: usize = 0;
-    while i < n {
+    for i in 0..n {
         if !array_right(program, at + ARRAY_SIZE * i) {
             return false;
         }
-        i += 1;
     }
     true
 }

@@ -1,12 +1,13 @@
 // The statements one by one: their forms, the agreement of their types and their immediates, checks 5 to 7 of a
 // program file.
-ghost use Rattle.std.specs.Prelude.{◌≡◌, true, ◌&&◌, ℕ, ◌<◌, eqb, ltb};
-ghost use Rattle.model.specs.Refusals.{ok, refused};
-ghost use Rattle.model.specs.Program.{layout_of, types_right_lem, form_right_lem, alike, cell_alike, types_agree_lem, immediate_right_lem};
-ghost use Rattle.program.specs.Reading.{program_answer, form_checked, statement_checks, entry_of, statement_from, tables_of, Placed};
+ghost use Rattle.std.specs.Prelude.{◌≡◌, true, ◌&&◌, ◌<◌, eqb, ltb};
+ghost use Rattle.model.specs.Refusals.{Out};
+ghost use Rattle.model.specs.Program.{Layout as Sections, types_right_lem, form_right_lem, alike, cell_alike, types_agree_lem, immediate_right_lem};
+ghost use Rattle.program.specs.Reading.{followed, form_checked, statement_checks, entry_of, statement_from, tables_of, Placed};
 
 use super::calls::{call_agrees, call_form, procedure_form};
-use super::{Entry, Layout, ProgramRead, array_type, field_type, statement, variable_type};
+use super::{Entry, Layout, array_type, field_type, statement, variable_type};
+use refusals::Refusal;
 
 // the kinds of statements; those before the if are plain
 pub const NUMBER: u8 = 0;
@@ -45,19 +46,6 @@ pub const CALL: u8 = 16;
 
 // the type codes below this one are unsigned
 const UNSIGNED_CODES: u8 = 4;
-
-const WRONG_STATEMENT: u8 = 5;
-
-const TYPES_DISAGREE: u8 = 6;
-
-const WRONG_IMMEDIATE: u8 = 7;
-
-// A statement's entry in its form, or the number of the refusal.
-#[derive(Clone, Copy)]
-enum StatementRead {
-    Entry(Entry),
-    Refused(u8),
-}
 
 // ---- check 5
 
@@ -117,15 +105,15 @@ fn form_right(program: &[u8], layout: Layout, q: Entry) -> bool
 }
 
 // The statement with a label, if its form is right.
-fn read_statement(program: &[u8], layout: Layout, i: usize) -> StatementRead
+fn read_statement(program: &[u8], layout: Layout, i: usize) -> Result<Entry, Refusal>
     requires { Placed program.now layout × (i < layout.statements) }
     ensures { statement_from result ≡ form_checked (tables_of program.now) i }
 {
     let q = statement(program, layout, i);
     if !form_right(program, layout, q) {
-        return StatementRead::Refused(WRONG_STATEMENT);
+        return Err(Refusal::WrongStatement);
     }
-    StatementRead::Entry(q)
+    Ok(q)
 }
 
 // ---- check 6
@@ -199,50 +187,24 @@ fn immediate_right(program: &[u8], layout: Layout, q: Entry) -> bool
 
 // ---- checks 5 to 7
 
-// The number that the answer of the statement reader holds, where it is a refusal.
-fn statement_refusal(read: StatementRead) -> u8
-    ensures { (n : ℕ) → statement_from read ≡ refused n → result ≡ n }
-{
-    match read {
-        StatementRead::Entry(_) => 0,
-        StatementRead::Refused(n) => n,
-    }
-}
-
-// Whether both tests pass.
-pub fn both(a: bool, b: bool) -> bool
-    ensures { result ≡ (a && b) }
-{
-    if a {
-        return b;
-    }
-    false
-}
-
 // Each statement is read by its form; of the entry that the reader gives the types and the immediate
 // are looked at. Of the three checks the first that some statement fails counts.
-pub fn read_statements(program: &[u8], layout: Layout) -> ProgramRead
+pub fn statements_right(program: &[u8], layout: Layout) -> Result<(), Refusal>
     requires { Placed program.now layout × (types_right_lem (tables_of program.now) ≡ true) }
-    ensures { program_answer result ≡ statement_checks program.now (ok (layout_of program.now)) }
+    ensures { (o : Out Sections) → followed result o ≡ statement_checks program.now o }
 {
-    let n = layout.statements;
     let mut agree = true;
     let mut inside = true;
-    let mut i: usize = 0;
-    while i < n {
-        let read = read_statement(program, layout, i);
-        let StatementRead::Entry(q) = read else {
-            return ProgramRead::Refused(statement_refusal(read));
-        };
-        agree = both(agree, types_agree(program, layout, q));
-        inside = both(inside, immediate_right(program, layout, q));
-        i += 1;
+    for i in 0..layout.statements {
+        let q = read_statement(program, layout, i)?;
+        agree &= types_agree(program, layout, q);
+        inside &= immediate_right(program, layout, q);
     }
     if !agree {
-        return ProgramRead::Refused(TYPES_DISAGREE);
+        return Err(Refusal::TypesDisagree);
     }
     if !inside {
-        return ProgramRead::Refused(WRONG_IMMEDIATE);
+        return Err(Refusal::WrongImmediate);
     }
-    ProgramRead::Read(layout)
+    Ok(())
 }

@@ -1,27 +1,31 @@
 -- `program::blocks_checked` meets its contract.
-use mathlib.Core.Path.{sym, subst, ◌∙◌}
+use Rattle.std.proofs.Common.{sym, ap, subst, ◌∙◌}
+use Rattle.std.proofs.lemmas.Result.{err_from_is_err_and}
 use Rattle.model.specs.Program.{items_of}
-use Rattle.program.specs.OpenBlocks.{NestingIs, BlocksMatch}
+use Rattle.refusals.specs.declared.Refusal.TheVariants.{WrongBlocks}
+use Rattle.program.specs.OpenBlocks.{NestingIs, BlocksMatch, is_plain}
 use Rattle.program.specs.Reading.{tables_of}
+use Rattle.program.proofs.Answers.{taken_of, refused_of}
 use Rattle.program.proofs.Listing.{parts-plain, right-plain}
 use Rattle.program.proofs.blocks_checked.Goals as goal
-use Rattle.program.proofs.blocks_checked.Goals.{In-Matched}
+use Rattle.program.proofs.blocks_checked.Goals.{In_ok-ok_or}
 
-matched : (c : In-Matched) → BlocksMatch (tables_of c.args.program.now) c.in-Matched.plain
+matched : (c : In_ok-ok_or) → BlocksMatch (tables_of c.args.program.now) (is_plain c.in_ok-ok_or.field-0)
 matched c =
-    subst (NestingIs (tables_of c.args.program.now)) c.in-Matched.is c.nesting_right-nested.ensures
+    subst (NestingIs (tables_of c.args.program.now)) (taken_of c.nesting_right-nested.result WrongBlocks c.in_ok-ok_or.field-0 c.in_ok-ok_or.ensures.value) c.nesting_right-nested.ensures
 
-pub returns-in_default : goal.returns-in_default
-returns-in_default c =
-    let s = c.args.program.now in
-    let wrong = subst (NestingIs (tables_of s)) c.in_default.is c.nesting_right-nested.ensures in
-    rw wrong
+pub returns-in_err-ok_or : goal.returns-in_err-ok_or
+returns-in_err-ok_or c =
+    let none = refused_of c.nesting_right-nested.result WrongBlocks c.in_err-ok_or.field-0.0 c.in_err-ok_or.ensures.value in
+    let p = err_from_is_err_and c.from_residual.result c.from_residual.ensures.1 in
+    rw (p.1, p.2, none.1, subst (NestingIs (tables_of c.args.program.now)) none.0 c.nesting_right-nested.ensures)
 
-pub returns-then-plain : goal.returns-then-plain
-returns-then-plain c =
-    let s = c.args.program.now in
-    let none = sym (matched (goal.at.returns-then-plain c).In-Matched).none ∙ c.if-plain.true in
-    rw ((matched (goal.at.returns-then-plain c).In-Matched).closed, parts-plain (tables_of s) none, right-plain (items_of (tables_of s)), c.requires.0.layout)
+pub returns-in-Plain : goal.returns-in-Plain
+returns-in-Plain c =
+    let T = tables_of c.args.program.now in
+    let match = matched (goal.at.returns-in-Plain c).In_ok-ok_or in
+    let none = sym match.none ∙ ap is_plain c.in-Plain.is in
+    rw (match.closed, parts-plain T none, right-plain (items_of T))
 
-pub returns : goal.returns
-returns c = rw (matched (goal.at.returns c).In-Matched).closed c.procedures_checked.ensures
+pub returns-in-WithProcedures : goal.returns-in-WithProcedures
+returns-in-WithProcedures c = rw (matched (goal.at.returns-in-WithProcedures c).In_ok-ok_or).closed c.procedures_checked.ensures

@@ -1,26 +1,34 @@
 -- `program::read` meets its contract: the reader is a chain of checks, and each hands its refusal on.
-use mathlib.Core.Path.{sym, ap, ◌∙◌}
+use Rattle.std.proofs.Common.{sym, ◌∙◌}
+use Rattle.std.proofs.lemmas.Result.{err_from_is_err_and}
 use Rattle.model.specs.Program.{layout_of, sections_right}
 use Rattle.model.specs.Refusals.{wrong_sections}
-use Rattle.program.specs.Reading.{program_answer, table_checks}
+use Rattle.refusals.specs.Answers.{number_of}
+use Rattle.program.specs.Reading.{table_checks}
 use Rattle.program.proofs.Answers.{handed_on, by_checks}
 use Rattle.program.proofs.sections.Chain.{table-read}
 use Rattle.program.proofs.read.Goals as goal
 
-pub returns-in_default : goal.returns-in_default
-returns-in_default c =
+pub returns-in_err-layout : goal.returns-in_err-layout
+returns-in_err-layout c =
     let s = c.args.program.now in
-    let answer = program_answer c.read_sections-table.result in
-    handed_on (sections_right s) wrong_sections c.in_default.field-0 (layout_of s) (table_checks s) answer (ap program_answer c.in_default.is) c.read_sections-table.ensures
-    ∙ sym (by_checks s)
+    let p = err_from_is_err_and c.from_residual.result c.from_residual.ensures.1 in
+    rw (p.1, p.2)
+    (handed_on (sections_right s) wrong_sections (number_of c.in_err-layout.field-0.0) (layout_of s) (table_checks s) c.in_err-layout.ensures
+    ∙ sym (by_checks s))
 
 pub checked-requires : goal.checked-requires
-checked-requires c =
+checked-requires c = (table-read c.args.program.now c.in_ok-layout.layout c.in_ok-layout.ensures).1
+
+pub returns-in_err-checked : goal.returns-in_err-checked
+returns-in_err-checked c =
     let s = c.args.program.now in
-    (table-read s c.read_sections-table.result c.in-Read.layout c.read_sections-table.ensures c.in-Read.is).1
+    let p = err_from_is_err_and c.from_residual-in_err-checked.result c.from_residual-in_err-checked.ensures.1 in
+    let right = (table-read s c.in_ok-layout.layout c.in_ok-layout.ensures).0 in
+    rw (p.1, p.2, by_checks s, right) c.in_err-checked.ensures
 
 pub returns : goal.returns
 returns c =
     let s = c.args.program.now in
-    let right = (table-read s c.read_sections-table.result c.in-Read.layout c.read_sections-table.ensures c.in-Read.is).0 in
-    rw (by_checks s, right) c.checked.ensures
+    let read = table-read s c.in_ok-layout.layout c.in_ok-layout.ensures in
+    rw (by_checks s, read.0, read.1.layout) c.in_ok-checked.ensures

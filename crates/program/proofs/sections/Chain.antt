@@ -1,27 +1,23 @@
 -- The section table: one pair behind the other, and that the sections of a right table lie in the byte string.
-use mathlib.Core.Path.{◌≡◌, sym, ap, subst, ◌∙◌}
+use mathlib.Core.Path.{◌≡◌, ap, subst, ◌∙◌}
 use mathlib.Core.Bool.{Bool, true, false, ◌&&◌}
 use mathlib.Core.List.{List, ◌∷◌}
-use Prim.Native.Nat.{ℕ, ◌+◌, ◌*◌, ◌-◌, ◌/◌, ◌%◌, ◌≤◌, ◌<◌, ◌^◌}
+use Prim.Native.Nat.{ℕ, ◌+◌, ◌*◌, ◌-◌, ◌/◌, ◌%◌, ◌≤◌, ◌<◌}
 use native.Mathlib.Nat.{zero-add}
 use native.Mathlib.Omega.{arith}
 use borrow.Author.Tests.{leb-true, eqb-true, eq-eqb, ne_eqb, eqb-false, le-leb, lt-leb}
 use lib.Dec.{leb, eqb}
 use lib.ListN.{length}
 use Rattle.model.specs.Sizes.{section_table, most_program, pair_size_lem, field_size, array_size, statement_size}
-use Rattle.model.specs.Refusals.{ok, refused, check, wrong_sections}
+use Rattle.model.specs.Refusals.{Out, ok, refused, check, wrong_sections}
 use Rattle.model.specs.Bytes.{u32_at, Pair as ModelPair, pair_at, entries, pairs_at, chained}
 use Rattle.model.specs.Program.{Layout as Sections, layout_of, sections_in, sections_right}
 use Rattle.model.proofs.Basics.Tests.{and_left, and_right}
 use Rattle.model.proofs.Files.Parts.{entries-step, entries-get_or, length-entries, chained-inside}
 use Rattle.program.specs.Numbers.{sections, fields_pair, variables_pair, arrays_pair, statements_pair}
-use Rattle.program.specs.Reading.{section_of, InFourBytes, whole_entries, layout_from, program_answer, Placed}
+use Rattle.program.specs.Reading.{whole_entries, layout_from, Placed}
 use Rattle.program.specs.declared.Layout.{Layout}
-use Rattle.program.specs.declared.ProgramRead.{ProgramRead}
-use Rattle.program.specs.declared.ProgramRead.TheVariants.{Read}
 use Rattle.program.specs.declared.sections.Pair.{Pair}
-use Rattle.program.specs.declared.sections.SectionRead.{SectionRead}
-use Rattle.program.specs.declared.sections.SectionRead.TheVariants.{Section, Refused}
 use Rattle.program.proofs.Answers.{check-ok, check-refused, check-number}
 
 -- ---- one section
@@ -32,12 +28,15 @@ pub record Starts (s : List ℕ) (place start : ℕ) (p : Pair) : Type 0 where
   pub offset : p.at ≡ u32_at s place
   pub len : p.len ≡ u32_at s (place + 4)
 
-module _ (s : List ℕ) (place start : ℕ) (r : SectionRead)
-    (h : section_of r ≡ check (eqb (u32_at s place) start) wrong_sections (ok (pair_at s place))) where
-  pub section_taken : (p : Pair) → r ≡ Section p → Starts s place start p
-  section_taken p e =
+module _ (s : List ℕ) (place start : ℕ) where
+  -- what the reader of a section says of its answer
+  abbrev Answered : Out ModelPair → Type 0
+  Answered o = o ≡ check (eqb (u32_at s place) start) wrong_sections (ok (pair_at s place))
+
+  pub section_taken : (p : Pair) → Answered (ok (record { offset = p.at; len = p.len })) → Starts s place start p
+  section_taken p h =
       let q : ModelPair = record { offset = p.at; len = p.len } in
-      let k = check-ok (eqb (u32_at s place) start) wrong_sections q (pair_at s place) (sym (ap section_of e) ∙ h) in
+      let k = check-ok (eqb (u32_at s place) start) wrong_sections q (pair_at s place) h in
       record {
         starts = eqb-true (u32_at s place) start k.0;
         offset = ap (λ (x : ModelPair). x.offset) k.1;
@@ -45,14 +44,10 @@ module _ (s : List ℕ) (place start : ℕ) (r : SectionRead)
       }
 
   -- a section that is refused does not start where it has to, and the number is its refusal's
-  pub section_refused : (n : ℕ) → r ≡ Refused n → (u32_at s place ≡ start → ⊥) × (n ≡ wrong_sections)
-  section_refused n e =
+  pub section_refused : (n : ℕ) → Answered (refused n) → (u32_at s place ≡ start → ⊥) × (n ≡ wrong_sections)
+  section_refused n h =
       let b = eqb (u32_at s place) start in
-      let k : refused n ≡ check b wrong_sections (ok (pair_at s place)) = sym (ap section_of e) ∙ h in
-      (eqb-false (u32_at s place) start (check-refused b wrong_sections n (pair_at s place) k), check-number b wrong_sections n (pair_at s place) k)
-
-pub section_short : (r : SectionRead) (p : Pair) → InFourBytes r → r ≡ Section p → (p.at < 2 ^ 32) × (p.len < 2 ^ 32)
-section_short r p h e = subst InFourBytes e h
+      (eqb-false (u32_at s place) start (check-refused b wrong_sections n (pair_at s place) h), check-number b wrong_sections n (pair_at s place) h)
 
 -- ---- one after the other
 
@@ -150,8 +145,8 @@ module _ (s : List ℕ) where
         record { layout = e; fields = omega arith; variables = omega arith; arrays = omega arith; statements = omega arith; small = short }
 
 -- the answer to check 2, where it is a layout
-pub table-read : (s : List ℕ) (r : ProgramRead) (L : Layout) → program_answer r ≡ check (sections_right s) wrong_sections (ok (layout_of s))
-    → r ≡ Read L → (sections_right s ≡ true) × Placed s L
-table-read s r L h e =
-    let k = check-ok (sections_right s) wrong_sections (layout_from L) (layout_of s) (sym (ap program_answer e) ∙ h) in
+pub table-read : (s : List ℕ) (L : Layout) → ok (layout_from L) ≡ check (sections_right s) wrong_sections (ok (layout_of s))
+    → (sections_right s ≡ true) × Placed s L
+table-read s L h =
+    let k = check-ok (sections_right s) wrong_sections (layout_from L) (layout_of s) h in
     (k.0, placed s k.0 L k.1)

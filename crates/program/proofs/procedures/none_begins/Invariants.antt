@@ -1,6 +1,5 @@
 -- `program::procedures::none_begins` meets its contract.
 use mathlib.Core.Path.{◌≡◌}
-use Prim.Native.Nat.{◌-◌}
 use lib.ListN.{drop}
 use Rattle.model.specs.Lists.{every}
 use Rattle.model.specs.Procedures.{begins_none}
@@ -12,6 +11,3 @@ abbrev pub invariant-loop-i : goal.invariant-loop-i
 invariant-loop-i l =
     let is = items_of (tables_of l.program) in
     every begins_none (drop l.from is) ≡ every begins_none (drop l.i is)
-
-abbrev pub decreases-loop-i : goal.decreases-loop-i
-decreases-loop-i l = l.n - l.i

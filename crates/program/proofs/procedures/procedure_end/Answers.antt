@@ -44,13 +44,13 @@ deep c =
 pub loop-i-init : goal.loop-i-init
 loop-i-init c =
     let T = tables_of c.args.program.now in
-    (omega arith, omega arith, omega arith, omega arith, procedure-begins T c.args.begin c.requires.kind (omega (arith, all (goal.at.loop-i-init c).Start)))
+    (omega arith, omega arith, omega arith, procedure-begins T c.args.begin c.requires.kind (omega (arith, all (goal.at.loop-i-init c).Start)))
 
 pub returns-then-kind-eq-PROCEDURE : goal.returns-then-kind-eq-PROCEDURE
 returns-then-kind-eq-PROCEDURE c =
     let lp = c.loop-i in
     let same = sym c.kind_at-kind.ensures ∙ c.if-kind-eq-PROCEDURE.true in
-    procedure-inside (tables (goal.at.returns-then-kind-eq-PROCEDURE c).At-loop-i) c.args.begin lp.i lp.invariant.0 (in_list (goal.at.returns-then-kind-eq-PROCEDURE c).In-loop-i) lp.depth lp.invariant.2 lp.invariant.4 same
+    procedure-inside (tables (goal.at.returns-then-kind-eq-PROCEDURE c).At-loop-i) c.args.begin lp.i lp.invariant.0 (in_list (goal.at.returns-then-kind-eq-PROCEDURE c).In-loop-i) lp.depth lp.invariant.1 lp.invariant.3 same
 
 pub returns-then-depth-eq0 : goal.returns-then-depth-eq0
 returns-then-depth-eq0 c =
@@ -59,7 +59,7 @@ returns-then-depth-eq0 c =
     record {
       later = lp.invariant.0;
       inside = rw (counts (goal.at.returns-then-depth-eq0 c).Start).statements (omega arith);
-      read = procedure-closed (tables (goal.at.returns-then-depth-eq0 c).At-loop-i) c.args.begin lp.i lp.invariant.0 (in_list (goal.at.returns-then-depth-eq0 c).In-loop-i) lp.depth lp.invariant.2 lp.invariant.4 (none-begun (goal.at.returns-then-depth-eq0 c).Else-kind-eq-PROCEDURE) out;
+      read = procedure-closed (tables (goal.at.returns-then-depth-eq0 c).At-loop-i) c.args.begin lp.i lp.invariant.0 (in_list (goal.at.returns-then-depth-eq0 c).In-loop-i) lp.depth lp.invariant.1 lp.invariant.3 (none-begun (goal.at.returns-then-depth-eq0 c).Else-kind-eq-PROCEDURE) out;
     }
 
 pub loop-i-preserved : goal.loop-i-preserved
@@ -67,15 +67,14 @@ loop-i-preserved c =
     let lp = c.loop-i in
     let more = depth_grows lp.depth (item (goal.at.loop-i-preserved c).At-loop-i) in
     let e = deep (goal.at.loop-i-preserved c).After-depth_after-depth in
-    let goes = procedure-goes (tables (goal.at.loop-i-preserved c).At-loop-i) c.args.begin lp.i lp.invariant.0 (in_list (goal.at.loop-i-preserved c).In-loop-i) lp.depth lp.invariant.2 lp.invariant.4 (none-begun (goal.at.loop-i-preserved c).Else-kind-eq-PROCEDURE) (omega (arith, e, c.if-depth-eq0.false)) in (
-      omega arith,
+    let goes = procedure-goes (tables (goal.at.loop-i-preserved c).At-loop-i) c.args.begin lp.i lp.invariant.0 (in_list (goal.at.loop-i-preserved c).In-loop-i) lp.depth lp.invariant.1 lp.invariant.3 (none-begun (goal.at.loop-i-preserved c).Else-kind-eq-PROCEDURE) (omega (arith, e, c.if-depth-eq0.false)) in (
       omega arith,
       omega (arith, c.if-depth-eq0.false),
-      omega (arith, e, more, lp.invariant.3),
+      omega (arith, e, more, lp.invariant.2),
       λ ps. rw e (goes ps),
     )
 
 pub returns : goal.returns
 returns c =
     let lp = c.loop-i in
-    procedure_unclosed (tables (goal.at.returns c).At-loop-i) c.args.begin lp.i (lp.depth - 1) lp.invariant.4 (omega (arith, all (goal.at.returns c).Start))
+    procedure_unclosed (tables (goal.at.returns c).At-loop-i) c.args.begin lp.i (lp.depth - 1) lp.invariant.3 (omega (arith, all (goal.at.returns c).Start))

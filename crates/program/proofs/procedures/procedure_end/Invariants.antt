@@ -13,8 +13,5 @@ abbrev pub invariant-loop-i : goal.invariant-loop-i
 invariant-loop-i l =
     let T = tables_of l.program in
     let is = items_of T in
-    (l.begin < l.i) × (l.i ≤ l.n) × (1 ≤ l.depth) × (l.depth ≤ l.i)
+    (l.begin < l.i) × (1 ≤ l.depth) × (l.depth ≤ l.i)
     × ((ps : List Procedure) → parts_from l.begin ps between (drop l.begin is) ≡ parts_from l.i ps (inside (procedure_between T l.begin l.i) (l.depth - 1)) (drop l.i is))
-
-abbrev pub decreases-loop-i : goal.decreases-loop-i
-decreases-loop-i l = l.n - l.i

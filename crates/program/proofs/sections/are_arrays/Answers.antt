@@ -4,7 +4,6 @@ use mathlib.Core.Bool.{true, false}
 use mathlib.Core.List.{List}
 use Prim.Native.Nat.{◌+◌, ◌*◌, ◌<◌}
 use native.Mathlib.Omega.{arith}
-use borrow.Author.Rules.{rules}
 use lib.ListN.{length, get_or}
 use Rattle.model.specs.Sizes.{array_size}
 use Rattle.model.specs.Bytes.{entries}
@@ -35,18 +34,18 @@ entry c =
 
 -- ---- the answers
 pub loop-i-init : goal.loop-i-init
-loop-i-init c = (search rules, refl)
+loop-i-init c = refl
 
 pub returns-then-not-array_right : goal.returns-then-not-array_right
 returns-then-not-array_right c =
     let wrong : array_right_lem (get_or (arrays (goal.at.returns-then-not-array_right c).At-loop-i) c.loop-i.i none) ≡ false = rw (entry (goal.at.returns-then-not-array_right c).In-loop-i) (sym c.array_right.ensures ∙ c.if-not-array_right.true) in
-    sym (pass_fails array_right_lem none (arrays (goal.at.returns-then-not-array_right c).At-loop-i) c.loop-i.i (inside (goal.at.returns-then-not-array_right c).In-loop-i) c.loop-i.invariant.1 wrong)
+    sym (pass_fails array_right_lem none (arrays (goal.at.returns-then-not-array_right c).At-loop-i) c.loop-i.i (inside (goal.at.returns-then-not-array_right c).In-loop-i) c.loop-i.invariant wrong)
 
 pub loop-i-preserved : goal.loop-i-preserved
 loop-i-preserved c =
     let right : array_right_lem (get_or (arrays (goal.at.loop-i-preserved c).At-loop-i) c.loop-i.i none) ≡ true = rw (entry (goal.at.loop-i-preserved c).In-loop-i) (sym c.array_right.ensures ∙ c.if-not-array_right.false) in
-    (omega arith, pass_goes array_right_lem none (arrays (goal.at.loop-i-preserved c).At-loop-i) c.loop-i.i (inside (goal.at.loop-i-preserved c).In-loop-i) c.loop-i.invariant.1 right)
+    (pass_goes array_right_lem none (arrays (goal.at.loop-i-preserved c).At-loop-i) c.loop-i.i (inside (goal.at.loop-i-preserved c).In-loop-i) c.loop-i.invariant right)
 
 pub returns : goal.returns
 returns c =
-    sym (pass_ends array_right_lem none (arrays (goal.at.returns c).At-loop-i) c.loop-i.i (rw (all (goal.at.returns c).At-loop-i) (omega arith)) c.loop-i.invariant.1)
+    sym (pass_ends array_right_lem none (arrays (goal.at.returns c).At-loop-i) c.loop-i.i (rw (all (goal.at.returns c).At-loop-i) (omega arith)) c.loop-i.invariant)

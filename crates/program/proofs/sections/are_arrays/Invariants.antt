@@ -1,6 +1,5 @@
 -- `program::sections::are_arrays` meets its contract.
 use mathlib.Core.Path.{◌≡◌}
-use Prim.Native.Nat.{◌-◌, ◌≤◌}
 use lib.ListN.{drop}
 use Rattle.model.specs.Sizes.{array_size}
 use Rattle.model.specs.Bytes.{entries}
@@ -10,8 +9,4 @@ use Rattle.program.proofs.sections.are_arrays.Given as goal
 
 abbrev pub invariant-loop-i : goal.invariant-loop-i
 invariant-loop-i l =
-    (l.i ≤ l.n)
-    × (every array_right_lem (entries array_at array_size l.program l.at l.n) ≡ every array_right_lem (drop l.i (entries array_at array_size l.program l.at l.n)))
-
-abbrev pub decreases-loop-i : goal.decreases-loop-i
-decreases-loop-i l = l.n - l.i
+    every array_right_lem (entries array_at array_size l.program l.at l.n) ≡ every array_right_lem (drop l.i (entries array_at array_size l.program l.at l.n))

@@ -3,7 +3,6 @@ use mathlib.Core.Path.{◌≡◌, refl, sym}
 use mathlib.Core.List.{List}
 use Prim.Native.Nat.{ℕ, ◌+◌, ◌<◌}
 use native.Mathlib.Omega.{arith}
-use borrow.Author.Rules.{rules}
 use borrow.Author.Tests.{lt-ltb, le-ltb}
 use lib.ListN.{length, get_or}
 use Rattle.model.specs.Bytes.{part}
@@ -31,16 +30,16 @@ byte c =
 
 -- ---- the answers
 pub loop-i-init : goal.loop-i-init
-loop-i-init c = (search rules, refl)
+loop-i-init c = refl
 
 pub returns-then-program-at-ge-TYPE_CODES : goal.returns-then-program-at-ge-TYPE_CODES
 returns-then-program-at-ge-TYPE_CODES c =
-    sym (pass_fails type_right 0 (types (goal.at.returns-then-program-at-ge-TYPE_CODES c).At-loop-i) c.loop-i.i (inside (goal.at.returns-then-program-at-ge-TYPE_CODES c).In-loop-i) c.loop-i.invariant.1 (rw (byte (goal.at.returns-then-program-at-ge-TYPE_CODES c).In-loop-i) (le-ltb _ _ c.if-program-at-ge-TYPE_CODES.true)))
+    sym (pass_fails type_right 0 (types (goal.at.returns-then-program-at-ge-TYPE_CODES c).At-loop-i) c.loop-i.i (inside (goal.at.returns-then-program-at-ge-TYPE_CODES c).In-loop-i) c.loop-i.invariant (rw (byte (goal.at.returns-then-program-at-ge-TYPE_CODES c).In-loop-i) (le-ltb _ _ c.if-program-at-ge-TYPE_CODES.true)))
 
 pub loop-i-preserved : goal.loop-i-preserved
 loop-i-preserved c =
-    (omega arith, pass_goes type_right 0 (types (goal.at.loop-i-preserved c).At-loop-i) c.loop-i.i (inside (goal.at.loop-i-preserved c).In-loop-i) c.loop-i.invariant.1 (rw (byte (goal.at.loop-i-preserved c).In-loop-i) (lt-ltb _ _ c.if-program-at-ge-TYPE_CODES.false)))
+    (pass_goes type_right 0 (types (goal.at.loop-i-preserved c).At-loop-i) c.loop-i.i (inside (goal.at.loop-i-preserved c).In-loop-i) c.loop-i.invariant (rw (byte (goal.at.loop-i-preserved c).In-loop-i) (lt-ltb _ _ c.if-program-at-ge-TYPE_CODES.false)))
 
 pub returns : goal.returns
 returns c =
-    sym (pass_ends type_right 0 (types (goal.at.returns c).At-loop-i) c.loop-i.i (rw (all (goal.at.returns c).At-loop-i) (omega arith)) c.loop-i.invariant.1)
+    sym (pass_ends type_right 0 (types (goal.at.returns c).At-loop-i) c.loop-i.i (rw (all (goal.at.returns c).At-loop-i) (omega arith)) c.loop-i.invariant)
