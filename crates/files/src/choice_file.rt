@@ -13,10 +13,7 @@ const USUAL_LIMIT: u32 = 10000;
 fn byte_at(file: &[u8], i: usize) -> u64
     ensures { (result ≡ byte_at file.now i) × (result < 256) }
 {
-    if file.len() <= i {
-        return 0;
-    }
-    file[i] as u64
+    u64::from(file.get(i).copied().unwrap_or(0))
 }
 
 // The limit of the run.
@@ -35,8 +32,5 @@ pub fn limit(file: &[u8]) -> u32
 pub fn choices(file: &[u8]) -> &[u8]
     ensures { result.now ≡ drop limit_size file.now }
 {
-    if file.len() < LIMIT_SIZE {
-        return &file[..0];
-    }
-    &file[LIMIT_SIZE..]
+    &file[LIMIT_SIZE.min(file.len())..]
 }

@@ -12,7 +12,7 @@ pub mod choice_file;
 
 ghost use Rattle.std.specs.Prelude.{◌≡◌, min, length};
 ghost use Rattle.io.specs.Counts.{IsPrefixLen};
-ghost use Rattle.files.specs.Answers.{Filled, Whole};
+ghost use Rattle.files.specs.Answers.{Filled, FilledAll, Whole};
 
 use std::env::{Env, FillError};
 use std::fmt::InlineText;
@@ -52,21 +52,11 @@ const MESSAGE: usize = 128;
 
 const NO_FILE: &str = "an argument names no file";
 
-// How many bytes were read or written; or the file could not be, which has been said.
-#[derive(Clone, Copy)]
-pub enum FileAnswer {
-    Bytes(usize),
-    Failed,
-}
-
 // A number of the buffer's bytes: n, or all of them.
 pub fn at_most(n: usize, buffer: &[u8]) -> usize
     ensures { IsPrefixLen result buffer.now × (result ≡ min n (length buffer.now)) }
 {
-    if n < buffer.len() {
-        return n;
-    }
-    buffer.len()
+    n.min(buffer.len())
 }
 
 // A buffer of zeros. Of a buffer that a function answers, a proof knows the length alone; a long one that is
@@ -77,6 +67,9 @@ pub fn zeros<const N: usize>() -> [u8; N]
     [0; N]
 }
 
+// The functions below answer how many bytes were read or written, or None where that could not be, which has
+// then been said.
+
 // A line on standard error, which may be lost.
 fn note(rt: &impl Eprint, what: &str, path: &str, why: &str) {
     let _ = eprintln!(rt; "{what}{path}: {why}");
@@ -86,6 +79,22 @@ fn note(rt: &impl Eprint, what: &str, path: &str, why: &str) {
 fn complain(rt: &impl Eprint, what: &str, path: &[u8], why: &Error) {
     let text = InlineText::<MESSAGE>::of(why);
     note(rt, what, shown(path), without_code(text.as_str()));
+}
+
+// What was done, or the line that it could not be.
+fn or_complain<T: Drop>(
+    rt: &impl Eprint,
+    what: &str,
+    path: &[u8],
+    done: io::Result<T>,
+) -> Option<T> {
+    match done {
+        Ok(value) => Some(value),
+        Err(why) => {
+            complain(rt, what, path, &why);
+            None
+        }
+    }
 }
 
 // A path as text.
@@ -106,6 +115,7 @@ pub fn read_full(file: &mut impl Read, buffer: &mut [u8]) -> usize
     ensures { IsPrefixLen result buffer.new }
 {
     let mut done = 0;
+    // A while: the place moves by the length that is read.
     while done < buffer.len() {
         let n = file.read(&mut buffer[done..]).unwrap_or(0);
         if n == 0 {
@@ -126,23 +136,25 @@ fn fault(file: &mut impl Read, is_full: bool) -> Option<Error> {
     file.read(&mut next).err()
 }
 
-fn read_open(rt: &impl Eprint, file: &mut impl Read, path: &[u8], buffer: &mut [u8]) -> FileAnswer
+fn read_open(
+    rt: &impl Eprint,
+    file: &mut impl Read,
+    path: &[u8],
+    buffer: &mut [u8],
+) -> Option<usize>
     ensures { Filled result buffer.new }
 {
     let n = read_full(file, buffer);
     if let Some(why) = fault(file, n == buffer.len()) {
         complain(rt, "cannot read ", path, &why);
-        return FileAnswer::Failed;
+        return None;
     }
-    FileAnswer::Bytes(n)
+    Some(n)
 }
 
 // A path as std takes it, which is UTF-8.
 fn text(path: &[u8]) -> io::Result<&str> {
-    match str::from_utf8(path) {
-        Ok(text) => Ok(text),
-        Err(_) => Err(Error::new(ErrorKind::InvalidInput, "the path is not UTF-8")),
-    }
+    str::from_utf8(path).map_err(|_| Error::new(ErrorKind::InvalidInput, "the path is not UTF-8"))
 }
 
 fn open_read<R: Files>(rt: &R, path: &[u8]) -> io::Result<R::File> {
@@ -155,16 +167,11 @@ fn open_overwrite<R: Files>(rt: &R, path: &[u8]) -> io::Result<R::File> {
 }
 
 // The bytes of the file at a path, as many as the buffer has room for.
-pub fn read_path(rt: &(impl Files + Eprint), path: &[u8], buffer: &mut [u8]) -> FileAnswer
+pub fn read_path(rt: &(impl Files + Eprint), path: &[u8], buffer: &mut [u8]) -> Option<usize>
     ensures { Filled result buffer.new }
 {
-    match open_read(rt, path) {
-        Ok(mut file) => read_open(rt, &mut file, path, buffer),
-        Err(why) => {
-            complain(rt, "cannot open ", path, &why);
-            FileAnswer::Failed
-        }
-    }
+    let mut file = or_complain(rt, "cannot open ", path, open_read(rt, path))?;
+    read_open(rt, &mut file, path, buffer)
 }
 
 // A line for an argument that is missing, or longer than any path.
@@ -175,29 +182,34 @@ fn complain_of_argument(rt: &impl Eprint, why: FillError) {
     }
 }
 
-// The bytes of the file that the i-th argument names, as many as the buffer has room for.
-pub fn read(rt: &(impl Env + Files + Eprint), i: usize, buffer: &mut [u8]) -> FileAnswer
-    ensures { Filled result buffer.new }
+// The i-th argument, as a path's bytes.
+fn argument(rt: &(impl Env + Eprint), i: usize, path: &mut [u8]) -> Option<usize>
+    ensures { Filled result path.new }
 {
-    let mut path = [0u8; PATH];
-    match rt.arg(i, &mut path) {
-        Ok(n) => read_path(rt, &path[..n], buffer),
+    match rt.arg(i, path) {
+        Ok(n) => Some(n),
         Err(why) => {
             complain_of_argument(rt, why);
-            FileAnswer::Failed
+            None
         }
     }
 }
 
-// The files of a run: how many bytes of each were read, or that one could not be.
-#[derive(Clone, Copy)]
-pub enum RunFiles {
-    Read {
-        recipe: usize,
-        sheet: usize,
-        choices: usize,
-    },
-    Failed,
+// The bytes of the file that the i-th argument names, as many as the buffer has room for.
+pub fn read(rt: &(impl Env + Files + Eprint), i: usize, buffer: &mut [u8]) -> Option<usize>
+    ensures { Filled result buffer.new }
+{
+    let mut path = [0u8; PATH];
+    let n = argument(rt, i, &mut path)?;
+    read_path(rt, &path[..n], buffer)
+}
+
+// The files of a run: how many bytes of each were read.
+#[derive(Clone, Copy, Debug, PartialEq, Eq)]
+pub struct RunFiles {
+    pub recipe: usize,
+    pub sheet: usize,
+    pub choices: usize,
 }
 
 // The files that the first three arguments of a run name.
@@ -206,28 +218,19 @@ pub fn read_run(
     recipe: &mut [u8],
     sheet: &mut [u8],
     choices: &mut [u8],
-) -> RunFiles {
-    let answer = read(rt, 1, recipe);
-    let FileAnswer::Bytes(n) = answer else {
-        return RunFiles::Failed;
+) -> Option<RunFiles>
+    ensures { FilledAll result recipe.new sheet.new choices.new }
+{
+    let files = RunFiles {
+        recipe: read(rt, 1, recipe)?,
+        sheet: read(rt, 2, sheet)?,
+        choices: read(rt, 3, choices)?,
     };
-    let answer = read(rt, 2, sheet);
-    let FileAnswer::Bytes(k) = answer else {
-        return RunFiles::Failed;
-    };
-    let answer = read(rt, 3, choices);
-    let FileAnswer::Bytes(c) = answer else {
-        return RunFiles::Failed;
-    };
-    if LONGEST_CHOICES < c {
+    if LONGEST_CHOICES < files.choices {
         let _ = eprintln!(rt; "CHOICES has more than 524288 bytes");
-        return RunFiles::Failed;
+        return None;
     }
-    RunFiles::Read {
-        recipe: n,
-        sheet: k,
-        choices: c,
-    }
+    Some(files)
 }
 
 // Whether there is an i-th argument, be it empty.
@@ -240,50 +243,31 @@ fn is_argument(rt: &impl Env, i: usize) -> bool {
 }
 
 fn is_arguments(rt: &impl Env, n: usize) -> bool {
-    for i in 0..n {
-        if !is_argument(rt, i) {
-            return false;
-        }
-    }
-    !is_argument(rt, n)
+    (0..n).all(|i| is_argument(rt, i)) && !is_argument(rt, n)
 }
 
 // Whether a program has n arguments, its own name among them; else its use is said.
-pub fn has_arguments(rt: &(impl Env + Eprint), n: usize, usage: &[u8]) -> bool {
+pub fn has_arguments(rt: &(impl Env + Eprint), n: usize, usage: &str) -> bool {
     if is_arguments(rt, n) {
         return true;
     }
-    let _ = rt.eprint(shown(usage));
+    let _ = rt.eprint(usage);
     false
 }
 
-fn write_path(rt: &(impl Files + Eprint), path: &[u8], bytes: &[u8]) -> FileAnswer
+fn write_path(rt: &(impl Files + Eprint), path: &[u8], bytes: &[u8]) -> Option<usize>
     ensures { Whole result bytes.now }
 {
-    let mut file = match open_overwrite(rt, path) {
-        Ok(file) => file,
-        Err(why) => {
-            complain(rt, "cannot open ", path, &why);
-            return FileAnswer::Failed;
-        }
-    };
-    if let Err(why) = file.write_all(bytes) {
-        complain(rt, "cannot write ", path, &why);
-        return FileAnswer::Failed;
-    }
-    FileAnswer::Bytes(bytes.len())
+    let mut file = or_complain(rt, "cannot open ", path, open_overwrite(rt, path))?;
+    or_complain(rt, "cannot write ", path, file.write_all(bytes))?;
+    Some(bytes.len())
 }
 
 // The bytes to the file that the i-th argument names, in the place of what it had.
-pub fn write(rt: &(impl Env + Files + Eprint), i: usize, bytes: &[u8]) -> FileAnswer
+pub fn write(rt: &(impl Env + Files + Eprint), i: usize, bytes: &[u8]) -> Option<usize>
     ensures { Whole result bytes.now }
 {
     let mut path = [0u8; PATH];
-    match rt.arg(i, &mut path) {
-        Ok(n) => write_path(rt, &path[..n], bytes),
-        Err(why) => {
-            complain_of_argument(rt, why);
-            FileAnswer::Failed
-        }
-    }
+    let n = argument(rt, i, &mut path)?;
+    write_path(rt, &path[..n], bytes)
 }
