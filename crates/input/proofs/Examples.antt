@@ -1,4 +1,5 @@
 -- By computation: the first wrong pair, of three fields of one byte a reading, and of no field; and what the bits of a field hold.
+use Rattle.std.specs.Prelude.{Ok, Err}
 use mathlib.Core.Path.{◌≡◌, refl}
 use mathlib.Core.Bool.{true, false}
 use mathlib.Core.List.{List, [], ◌∷◌, ◌++◌, map}
@@ -13,7 +14,6 @@ use Rattle.model.specs.Fields.{entry_of}
 use Rattle.model.specs.Input.{width, bits_at, reading_at_lem, readings_of, lengths_right, in_bits_lem, bits_right_lem, read_input}
 use Rattle.input.specs.Answers.{InputIsRead}
 use Rattle.input.specs.FirstWrong.{RightBefore, PairsAre}
-use Rattle.input.specs.declared.Pairs.TheVariants.{AllRight, FirstWrong}
 use Rattle.input.proofs.Search.{short-first}
 
 abbrev three : List ℕ
@@ -34,24 +34,24 @@ module _ (o l p m : ℕ) where
   first-right (suc f) h = absurd (omega arith)
 
 -- too long, and past the file: the pair behind it, which is wrong too, is not looked at
-too_long : PairsAre three (file 25 200 9 0) (FirstWrong 1)
+too_long : PairsAre three (file 25 200 9 0) (Err 1)
 unfolding width bits
 too_long = (omega arith, λ r. absurd (omega (arith, r.few)), first-right 25 200 9 0)
 
 -- past the file alone
-past_the_file : PairsAre three (file 25 100 9 0) (FirstWrong 1)
+past_the_file : PairsAre three (file 25 100 9 0) (Err 1)
 past_the_file = (omega arith, λ r. absurd (omega (arith, r.inside)), first-right 25 100 9 0)
 
 -- elsewhere than where the one before ends
-elsewhere : PairsAre three (file 26 0 25 1) (FirstWrong 1)
+elsewhere : PairsAre three (file 26 0 25 1) (Err 1)
 elsewhere = (omega arith, λ r. absurd (omega (arith, r.begins)), first-right 26 0 25 1)
 
 -- a file that is shorter than its table, whatever its bytes
-no_table : PairsAre three (24 ∷ 0 ∷ []) (FirstWrong 0)
+no_table : PairsAre three (24 ∷ 0 ∷ []) (Err 0)
 no_table = short-first three (24 ∷ 0 ∷ []) (omega arith)
 
 -- no fields and a stray byte: no pair is wrong, and the reader refuses by the end
-stray_byte : PairsAre [] (7 ∷ []) (AllRight 0) × (read_input [] (7 ∷ []) ≡ refused wrong_input)
+stray_byte : PairsAre [] (7 ∷ []) (Ok 0) × (read_input [] (7 ∷ []) ≡ refused wrong_input)
 unfolding read_input chained entries
 stray_byte = ((λ f h. absurd (omega arith), refl), refl)
 

@@ -79,11 +79,6 @@ pub row-width : (t : ℕ) (r : Range) → Row t r → r.bits / 8 ≡ width t
 unfolding width
 row-width t r row = rw row.width
 
--- a code modulo 8 has the width of the code
-pub width_modulo : (t : ℕ) → width (t % 8) ≡ width t
-unfolding width bits
-width_modulo t = let e : t % 8 % 4 ≡ t % 4 = omega arith in rw e
-
 -- which of the four widths it is, by the bits of its row
 module _ (t : ℕ) (r : Range) (row : Row t r) where
   row-bits : (k : ℕ) → t % 4 ≡ k → r.bits ≡ 8 * 2 ^ k

@@ -1,5 +1,6 @@
 -- The model's test of an input: it is passed if and only if every pair is right, the last one ends the file, and the bits of each
 -- field hold its readings. The test of the pairs goes pair by pair.
+use Rattle.std.specs.Prelude.{Ok, Err}
 use mathlib.Core.Path.{◌≡◌, refl, sym, ◌∙◌, ap}
 use mathlib.Core.Bool.{Bool, true, false, ◌&&◌}
 use mathlib.Core.List.{List, ◌∷◌}
@@ -18,7 +19,6 @@ use Rattle.model.proofs.Files.Parts.{chained_le}
 use Rattle.model.proofs.Files.FieldTables.{length_types}
 use Rattle.model.proofs.Basics.Results.{mapped-check}
 use Rattle.input.specs.FirstWrong.{end_of, PairRight, start_of, RightAt, RightBefore, PairsAre}
-use Rattle.input.specs.declared.Pairs.TheVariants.{AllRight, FirstWrong}
 
 -- ---- the test
 
@@ -130,7 +130,7 @@ module _ (types s : List ℕ) where
   start-inside zero r = omega arith
   start-inside (suc n) r = (r n (omega arith)).inside
 
-  module _ (e : ℕ) (r : PairsAre types s (AllRight e)) where
+  module _ (e : ℕ) (r : PairsAre types s (Ok e)) where
     pub ends-inside : e ≤ length s
     ends-inside = omega (arith, r.1, start-inside (length types) r.0)
 
@@ -146,12 +146,12 @@ module _ (fields : List Field) (s : List ℕ) where
   pairs_wrong : pairs_right_lem (types_in fields) s ≡ false → Answers (refused wrong_input)
   pairs_wrong e = read-check fields s ∙ rw e
 
-  pub one_wrong : (f : ℕ) → PairsAre (types_in fields) s (FirstWrong f) → Answers (refused wrong_input)
+  pub one_wrong : (f : ℕ) → PairsAre (types_in fields) s (Err f) → Answers (refused wrong_input)
   one_wrong f w =
       case (pairs_right_lem (types_in fields) s) (λ z. pairs_right_lem (types_in fields) s ≡ z → Answers (refused wrong_input))
       (λ e q. absurd (w.1 (all_right (types_in fields) s e f w.0))) (λ e q. pairs_wrong q) refl
 
-  module _ (e : ℕ) (r : PairsAre (types_in fields) s (AllRight e)) where
+  module _ (e : ℕ) (r : PairsAre (types_in fields) s (Ok e)) where
     pub ends_elsewhere : (e ≡ length s → ⊥) → Answers (refused wrong_input)
     ends_elsewhere h = pairs_wrong (by_end (types_in fields) s e r ∙ ne_eqb e (length s) h)
 

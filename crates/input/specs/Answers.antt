@@ -1,16 +1,15 @@
 -- What the answers of the input's reader stand for, and the places of a field in an input that is read.
-use Rattle.std.specs.Prelude.{◌≡◌, List, ℕ, ◌+◌, ◌*◌, ◌≤◌, ℤ, length, get_or}
-use Rattle.model.specs.Refusals.{Out, ok, refused, mapped}
+use Rattle.std.specs.Prelude.{◌≡◌, List, ℕ, ◌+◌, ◌*◌, ◌≤◌, ℤ, length, get_or, Result}
+use Rattle.model.specs.Refusals.{Out, ok, mapped}
 use Rattle.model.specs.Bytes.{part, pair_at}
 use Rattle.model.specs.Fields.{types_in, fields_in}
 use Rattle.model.specs.Input.{width, readings_of, read_input}
-use Rattle.input.specs.declared.InputRead.{InputRead}
-use Rattle.input.specs.declared.InputRead.TheVariants.{Yes, Refused}
+use Rattle.refusals.specs.declared.Refusal.{Refusal}
+use Rattle.refusals.specs.Answers.{out_of}
 
 -- read, or the number of the refusal
-abbrev pub input_answer : InputRead → Out (Unit {0})
-input_answer Yes = ok tt
-input_answer (Refused n) = refused n
+abbrev pub input_answer : Result Unit Refusal → Out (Unit {0})
+input_answer = out_of (λ u. tt {0})
 
 -- the input is in its form, for the fields of a table
 abbrev pub InputIsRead : (fields s : List ℕ) → Type 0

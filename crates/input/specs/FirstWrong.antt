@@ -1,12 +1,8 @@
 -- Which pair of an input is the first that is wrong (document 02, card 3).
-use Rattle.std.specs.Prelude.{◌≡◌, List, ℕ, zero, suc, ◌+◌, ◌*◌, ◌%◌, ◌≤◌, ◌<◌, length, get_or}
+use Rattle.std.specs.Prelude.{◌≡◌, List, ℕ, zero, suc, ◌+◌, ◌*◌, ◌%◌, ◌≤◌, ◌<◌, length, get_or, Option, Some, None, Result, Ok, Err}
 use Rattle.model.specs.Sizes.{most_readings}
 use Rattle.model.specs.Bytes.{Pair, pair_at}
 use Rattle.model.specs.Input.{width}
-use Rattle.input.specs.declared.PartRead.{PartRead}
-use Rattle.input.specs.declared.PartRead.TheVariants.{Ends, Wrong}
-use Rattle.input.specs.declared.Pairs.{Pairs}
-use Rattle.input.specs.declared.Pairs.TheVariants.{AllRight, FirstWrong}
 
 -- where a pair's part ends
 abbrev pub end_of : Pair → ℕ
@@ -33,11 +29,11 @@ abbrev pub RightBefore : List ℕ → List ℕ → ℕ → Type 0
 RightBefore types s n = (f : ℕ) → f < n → RightAt types s f
 
 -- what is said of one pair: it is right, and where its part ends; or it is wrong
-abbrev pub PartIs : ℕ → Pair → ℕ → ℕ → PartRead → Type 0
-PartIs ty p start size (Ends e) = PairRight ty p start size × (e ≡ end_of p)
-PartIs ty p start size Wrong = PairRight ty p start size → ⊥
+abbrev pub PartIs : ℕ → Pair → ℕ → ℕ → Option ℕ → Type 0
+PartIs ty p start size (Some e) = PairRight ty p start size × (e ≡ end_of p)
+PartIs ty p start size None = PairRight ty p start size → ⊥
 
 -- what is said of all: every pair is right, and where the last one ends; or one is wrong, and every one before it right
-abbrev pub PairsAre : List ℕ → List ℕ → Pairs → Type 0
-PairsAre types s (AllRight e) = RightBefore types s (length types) × (e ≡ start_of (length types) s (length types))
-PairsAre types s (FirstWrong f) = (f < length types) × (RightAt types s f → ⊥) × RightBefore types s f
+abbrev pub PairsAre : List ℕ → List ℕ → Result ℕ ℕ → Type 0
+PairsAre types s (Ok e) = RightBefore types s (length types) × (e ≡ start_of (length types) s (length types))
+PairsAre types s (Err f) = (f < length types) × (RightAt types s f → ⊥) × RightBefore types s f

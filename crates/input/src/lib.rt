@@ -18,6 +18,7 @@ ghost use Rattle.input.specs.Bits.{LimitsAre, part_readings};
 ghost use Rattle.input.specs.FirstWrong.{RightBefore, PartIs, PairsAre};
 
 use arith::{Num, Range};
+use refusals::Refusal;
 
 // the bytes of a field's entry: its type, and the number of its bits added to OVER_BITS
 const FIELD_SIZE: usize = fields::SIZE;
@@ -29,93 +30,11 @@ const SIGNED: u8 = 4;
 
 const WIDTHS: u8 = 4;
 
-// The input is in its form, or the number of the refusal.
-#[derive(Clone, Copy)]
-pub enum InputRead {
-    Yes,
-    Refused(u8),
-}
-
-// Where the part of a pair ends, or that the pair is wrong.
-#[derive(Clone, Copy)]
-enum PartRead {
-    Ends(usize),
-    Wrong,
-}
-
-// Where the last part ends, or the number of the first pair that is wrong.
-#[derive(Clone, Copy)]
-enum Pairs {
-    AllRight(usize),
-    FirstWrong(usize),
-}
-
 // How far what a field's bits hold goes below 0, and how far above.
 #[derive(Clone, Copy)]
 struct Limits {
     low: u64,
     high: u64,
-}
-
-// How many bytes a reading of a type has; a type's code counts modulo 8.
-fn width_of(ty: u8) -> usize
-    ensures { WidthIs ty result }
-{
-    let range = arith::step_range(ty % 8);
-    (range.bits / 8) as usize
-}
-
-// The pair at a place: it begins at next, is whole readings, at most 128, and stays inside the file.
-fn part_end(ty: u8, input: &[u8], at: usize, next: usize) -> PartRead
-    requires { at + 8 ≤ length input.now }
-    ensures { PartIs ty (pair_at input.now at) next (length input.now) result }
-{
-    let offset = bytes_le::u32_at(input, at) as usize;
-    let len = bytes_le::u32_at(input, at + 4) as usize;
-    let w = width_of(ty);
-    if offset != next {
-        return PartRead::Wrong;
-    }
-    if len % w != 0 {
-        return PartRead::Wrong;
-    }
-    if 128 * w < len {
-        return PartRead::Wrong;
-    }
-    if input.len() < offset + len {
-        return PartRead::Wrong;
-    }
-    PartRead::Ends(offset + len)
-}
-
-// The first pair that is wrong: a pair has all its tests before the next is looked at, and the search
-// goes on only while none is found. `wrong` is the number of pairs until then.
-fn first_wrong(fields: &[u8], input: &[u8]) -> Pairs
-    ensures { PairsAre (types_in (fields_in fields.now)) input.now result }
-{
-    let count = fields.len() / FIELD_SIZE;
-    if input.len() / 8 < count {
-        return Pairs::FirstWrong(0);
-    }
-    let mut next = 8 * count;
-    let mut wrong = count;
-    let mut f: usize = 0;
-    while f < wrong {
-        match part_end(fields[FIELD_SIZE * f], input, 8 * f, next) {
-            PartRead::Ends(end) => {
-                next = end;
-                f += 1;
-            }
-            PartRead::Wrong => {
-                wrong = f;
-                f += 1;
-            }
-        }
-    }
-    if wrong < count {
-        return Pairs::FirstWrong(wrong);
-    }
-    Pairs::AllRight(next)
 }
 
 // The row of a type, by any byte as its code: those from SIGNED on are signed.
@@ -128,14 +47,54 @@ fn row_of(ty: u8) -> Range
     arith::step_range(SIGNED + ty % WIDTHS)
 }
 
-// The number of a field's bits, by the second byte of its entry.
-fn bits_of(size: u8) -> u8
-    ensures { result ≡ size - over_bits }
+// How many bytes a reading of a type has.
+fn width_of(ty: u8) -> usize
+    ensures { WidthIs ty result }
 {
-    if size < OVER_BITS {
-        return 0;
+    (row_of(ty).bits / 8) as usize
+}
+
+// Where the part of the pair at a place ends, if the pair is right: it begins at next, is whole readings, at
+// most 128, and stays inside the file.
+fn part_end(ty: u8, input: &[u8], at: usize, next: usize) -> Option<usize>
+    requires { at + 8 ≤ length input.now }
+    ensures { PartIs ty (pair_at input.now at) next (length input.now) result }
+{
+    let offset = bytes_le::u32_at(input, at) as usize;
+    let len = bytes_le::u32_at(input, at + 4) as usize;
+    let w = width_of(ty);
+    if offset != next {
+        return None;
     }
-    size - OVER_BITS
+    if len % w != 0 {
+        return None;
+    }
+    if 128 * w < len {
+        return None;
+    }
+    if input.len() < offset + len {
+        return None;
+    }
+    Some(offset + len)
+}
+
+// The first pair that is wrong, as an error, else where the last part ends: a pair has all its tests before
+// the next is looked at.
+fn first_wrong(fields: &[u8], input: &[u8]) -> Result<usize, usize>
+    ensures { PairsAre (types_in (fields_in fields.now)) input.now result }
+{
+    let count = fields.len() / FIELD_SIZE;
+    if input.len() / 8 < count {
+        return Err(0);
+    }
+    let mut next = 8 * count;
+    for f in 0..count {
+        let Some(end) = part_end(fields[FIELD_SIZE * f], input, 8 * f, next) else {
+            return Err(f);
+        };
+        next = end;
+    }
+    Ok(next)
 }
 
 // Two to the power of a number of bits, fewer than a word has.
@@ -182,20 +141,18 @@ fn part_in_bits(ty: u8, size: u8, part: &[u8]) -> bool
     ensures { result ≡ every (in_bits_lem (entry_of ty size)) (part_readings ty part.now) }
 {
     let range = row_of(ty);
-    let bits = bits_of(size);
+    let bits = size.saturating_sub(OVER_BITS);
     if range.bits <= bits as u32 {
         return true;
     }
     let limits = limits_of(ty, bits);
     let w = (range.bits / 8) as usize;
     let count = part.len() / w;
-    let mut k: usize = 0;
-    while k < count {
+    for k in 0..count {
         let n = reading_by_row(range, part, k);
         if !is_between(limits, n) {
             return false;
         }
-        k += 1;
     }
     true
 }
@@ -218,32 +175,30 @@ fn bits_right(fields: &[u8], input: &[u8]) -> bool
         (pairs_at input.now 0 (length (fields_in fields.now))) }
 {
     let count = fields.len() / FIELD_SIZE;
-    let mut f: usize = 0;
-    while f < count {
+    for f in 0..count {
         let ty = fields[FIELD_SIZE * f];
         let size = fields[FIELD_SIZE * f + 1];
         if !part_in_bits(ty, size, part_of(input, f)) {
             return false;
         }
-        f += 1;
     }
     true
 }
 
 // Whether the input has its form, for the fields of this table.
-pub fn read(fields: &[u8], input: &[u8]) -> InputRead
+pub fn read(fields: &[u8], input: &[u8]) -> Result<(), Refusal>
     ensures { input_answer result ≡ mapped (λ I. tt {0}) (read_input (fields_in fields.now) input.now) }
 {
-    let Pairs::AllRight(end) = first_wrong(fields, input) else {
-        return InputRead::Refused(13);
+    let Ok(end) = first_wrong(fields, input) else {
+        return Err(Refusal::WrongInput);
     };
     if end != input.len() {
-        return InputRead::Refused(13);
+        return Err(Refusal::WrongInput);
     }
     if !bits_right(fields, input) {
-        return InputRead::Refused(13);
+        return Err(Refusal::WrongInput);
     }
-    InputRead::Yes
+    Ok(())
 }
 
 // The readings of a field, as a part of an input that is read.

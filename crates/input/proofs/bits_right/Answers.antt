@@ -30,7 +30,7 @@ tested c =
 pub loop-f-init : goal.loop-f-init
 loop-f-init c =
     let g = c.args in
-    (fields-all g.fields.now g.input.now, omega arith, omega arith)
+    (fields-all g.fields.now g.input.now, omega arith)
 
 pub part_of-requires : goal.part_of-requires
 part_of-requires c = right-inside c.args.fields.now c.args.input.now c.loop-f.f c.requires (omega arith)
@@ -46,7 +46,6 @@ loop-f-preserved c =
     let g = c.args in (
       c.loop-f.invariant.0 ∙ fields_on g.fields.now g.input.now _ c.loop-f.f (omega arith) (sym (tested (goal.at.loop-f-preserved c).After-part_in_bits) ∙ c.if-not-part_in_bits.false),
       c.loop-f.invariant.1,
-      omega arith,
     )
 
 pub returns : goal.returns

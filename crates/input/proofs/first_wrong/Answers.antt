@@ -1,5 +1,6 @@
--- `input::first_wrong` meets its contract: from turn to turn goes what is known of the pairs that were looked at.
-use Prim.Native.Nat.{◌*◌}
+-- `input::first_wrong` meets its contract: every pair that was looked at is right.
+use Prim.Native.Nat.{ℕ, ◌*◌}
+use Rattle.std.specs.Prelude.{Option}
 use mathlib.Core.Path.{◌≡◌, subst, sym}
 use native.Mathlib.Omega.{arith}
 use lib.ListN.{length, get_or}
@@ -7,19 +8,18 @@ use Rattle.model.specs.Bytes.{pair_at}
 use Rattle.model.specs.Fields.{types_in, fields_in}
 use Rattle.model.proofs.Files.FieldTables.{types-length, type_in}
 use Rattle.input.specs.FirstWrong.{PartIs}
-use Rattle.input.specs.declared.PartRead.{PartRead}
-use Rattle.input.proofs.Search.{Sought, short-first, sought_start, sought_right, sought_wrong, sought_found, sought_none}
+use Rattle.input.proofs.Search.{RightSoFar, short-first, right-start, right-more, wrong-here, all-right}
 use Rattle.input.proofs.first_wrong.Goals as goal
 use Rattle.input.proofs.first_wrong.Goals.{After-part_end}
 
 -- what is said of the pair
-abbrev Said : After-part_end → PartRead → Type 0
+abbrev Said : After-part_end → Option ℕ → Type 0
 Said c r =
     let g = c.args in
     let l = c.loop-f in
     PartIs (get_or (types_in (fields_in g.fields.now)) l.f 0) (pair_at g.input.now (8 * l.f)) l.next (length g.input.now) r
 
-said : (c : After-part_end) (r : PartRead) → c.part_end.result ≡ r → Said c r
+said : (c : After-part_end) (r : Option ℕ) → c.part_end.result ≡ r → Said c r
 said c r e =
     let g = c.args in
     let l = c.loop-f in
@@ -35,37 +35,26 @@ returns-then-input-count c =
 pub loop-f-init : goal.loop-f-init
 loop-f-init c =
     let g = c.args in
-    (subst (λ n. Sought (types_in (fields_in g.fields.now)) g.input.now 0 n (8 * n)) (types-length g.fields.now) (sought_start _ _), omega arith, omega arith)
-
-pub loop-f-preserved-in-Ends : goal.loop-f-preserved-in-Ends
-loop-f-preserved-in-Ends c =
-    let g = c.args in
-    let l = c.loop-f in (
-      sought_right (types_in (fields_in g.fields.now)) g.input.now l.f l.wrong l.next l.invariant.0 (omega arith) c.in-Ends.end
-          (said (goal.at.loop-f-preserved-in-Ends c).After-part_end _ c.in-Ends.is),
-      l.invariant.1,
-      l.invariant.2,
-    )
+    (subst (λ n. RightSoFar (types_in (fields_in g.fields.now)) g.input.now 0 (8 * n)) (types-length g.fields.now) (right-start _ _), omega arith)
 
 pub loop-f-preserved : goal.loop-f-preserved
 loop-f-preserved c =
     let g = c.args in
     let l = c.loop-f in (
-      sought_wrong (types_in (fields_in g.fields.now)) g.input.now l.f l.wrong l.next l.invariant.0 (omega arith) (said (goal.at.loop-f-preserved c).After-part_end _ c.in-Wrong.is),
+      right-more (types_in (fields_in g.fields.now)) g.input.now l.f l.next l.invariant.0 c.in-Some.end
+          (said (goal.at.loop-f-preserved c).After-part_end _ c.in-Some.is),
       l.invariant.1,
-      omega arith,
     )
 
-pub returns-then-wrong-count : goal.returns-then-wrong-count
-returns-then-wrong-count c =
+pub returns-in_default : goal.returns-in_default
+returns-in_default c =
     let g = c.args in
     let l = c.loop-f in
-    sought_found (types_in (fields_in g.fields.now)) g.input.now l.f l.wrong l.next l.invariant.0 (omega arith)
-    (omega (arith, types-length g.fields.now))
+    wrong-here (types_in (fields_in g.fields.now)) g.input.now l.f l.next l.invariant.0 (omega (arith, types-length g.fields.now))
+    (said (goal.at.returns-in_default c).After-part_end _ c.in_default.is)
 
 pub returns : goal.returns
 returns c =
     let g = c.args in
     let l = c.loop-f in
-    sought_none (types_in (fields_in g.fields.now)) g.input.now l.f l.wrong l.next l.invariant.0 (omega arith)
-    (omega (arith, types-length g.fields.now))
+    all-right (types_in (fields_in g.fields.now)) g.input.now l.f l.next l.invariant.0 (omega (arith, types-length g.fields.now))

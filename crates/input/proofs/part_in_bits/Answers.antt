@@ -1,7 +1,7 @@
 -- `input::part_in_bits` meets its contract: from turn to turn goes that the readings still to come decide.
 use mathlib.Core.Path.{◌≡◌, sym, ◌∙◌, ap, subst}
 use Prim.Native.Nat.{ℕ, ◌*◌, ◌/◌}
-use native.Mathlib.Nat.{div-mul-le_self, div-le_self}
+use native.Mathlib.Nat.{div-mul-le_self}
 use native.Mathlib.Omega.{arith}
 use lib.ListN.{length}
 use Rattle.arith.proofs.Spans.{bits_le}
@@ -20,14 +20,14 @@ tested : (c : After-is_between)
     → c.is_between.result ≡ in_bits_lem (entry_of c.args.ty c.args.size)
     (reading_at_lem (entry_of c.args.ty c.args.size).ty c.args.part.now (c.loop-k.k * width (entry_of c.args.ty c.args.size).ty))
 tested c =
-    c.is_between.ensures (entry_of c.args.ty c.args.size) (subst (λ b. LimitsAre c.args.ty b c.limits_of-limits.result) c.bits_of-bits.ensures c.limits_of-limits.ensures)
+    c.is_between.ensures (entry_of c.args.ty c.args.size) (subst (λ b. LimitsAre c.args.ty b c.limits_of-limits.result) c.saturating_sub-bits.ensures c.limits_of-limits.ensures)
     ∙ ap (in_bits_lem (entry_of c.args.ty c.args.size)) (c.reading_by_row-n.ensures c.args.ty c.row_of-range.ensures)
 
 pub returns-then-range-bits : goal.returns-then-range-bits
 returns-then-range-bits c =
     let s = c.args.part.now in
     let t = c.args.ty in
-    sym (full-width (entry_of c.args.ty c.args.size) (omega (arith, c.if-range-bits.true, c.row_of-range.ensures.width, c.bits_of-bits.ensures)) s (length s / width t) 0)
+    sym (full-width (entry_of c.args.ty c.args.size) (omega (arith, c.if-range-bits.true, c.row_of-range.ensures.width, c.saturating_sub-bits.ensures)) s (length s / width t) 0)
 
 pub limits_of-limits-requires : goal.limits_of-limits-requires
 limits_of-limits-requires c =
@@ -40,7 +40,7 @@ pub loop-k-init : goal.loop-k-init
 loop-k-init c =
     let s = c.args.part.now in
     let t = c.args.ty in
-    (ap (λ (w : ℕ). every (in_bits_lem (entry_of c.args.ty c.args.size)) (entries (reading_at_lem t) (width t) s 0 (length s / w))) (sym (row-width c.args.ty _ c.row_of-range.ensures)) ∙ sym (held_all (entry_of c.args.ty c.args.size) s _), omega arith)
+    (ap (λ (w : ℕ). every (in_bits_lem (entry_of c.args.ty c.args.size)) (entries (reading_at_lem t) (width t) s 0 (length s / w))) (sym (row-width c.args.ty _ c.row_of-range.ensures)) ∙ sym (held_all (entry_of c.args.ty c.args.size) s _))
 
 pub reading_by_row-n-requires : goal.reading_by_row-n-requires
 reading_by_row-n-requires c =
@@ -49,20 +49,14 @@ reading_by_row-n-requires c =
 
 pub returns-then-not-is_between : goal.returns-then-not-is_between
 returns-then-not-is_between c =
-    sym (c.loop-k.invariant.0 ∙ held_off (entry_of c.args.ty c.args.size) c.args.part.now _ c.loop-k.k c.loop-k-test.true
+    sym (c.loop-k.invariant ∙ held_off (entry_of c.args.ty c.args.size) c.args.part.now _ c.loop-k.k c.loop-k-test.true
     (sym (tested (goal.at.returns-then-not-is_between c).After-is_between) ∙ c.if-not-is_between.true))
 
-pub overflow_add-k : goal.overflow_add-k
-overflow_add-k c =
-    omega (arith, div-le_self (length c.args.part.now) (c.row_of-range.result.bits / 8))
-
 pub loop-k-preserved : goal.loop-k-preserved
-loop-k-preserved c = (
-  c.loop-k.invariant.0 ∙ held_on (entry_of c.args.ty c.args.size) c.args.part.now _ c.loop-k.k c.loop-k-test.true
-      (sym (tested (goal.at.loop-k-preserved c).After-is_between) ∙ c.if-not-is_between.false),
-  omega arith,
-)
+loop-k-preserved c =
+    c.loop-k.invariant ∙ held_on (entry_of c.args.ty c.args.size) c.args.part.now _ c.loop-k.k c.loop-k-test.true
+    (sym (tested (goal.at.loop-k-preserved c).After-is_between) ∙ c.if-not-is_between.false)
 
 pub returns : goal.returns
 returns c =
-    sym (c.loop-k.invariant.0 ∙ held-end (entry_of c.args.ty c.args.size) c.args.part.now _ c.loop-k.k c.loop-k-test.false)
+    sym (c.loop-k.invariant ∙ held-end (entry_of c.args.ty c.args.size) c.args.part.now _ c.loop-k.k (omega arith))

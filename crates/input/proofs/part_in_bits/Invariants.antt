@@ -1,6 +1,5 @@
 -- `input::part_in_bits` meets its contract: from turn to turn goes that the readings still to come decide.
 use mathlib.Core.Path.{◌≡◌}
-use Prim.Native.Nat.{◌-◌, ◌≤◌}
 use Rattle.model.specs.Lists.{every}
 use Rattle.model.specs.Fields.{entry_of}
 use Rattle.model.specs.Input.{in_bits_lem}
@@ -10,7 +9,4 @@ use Rattle.input.proofs.part_in_bits.Given as goal
 
 abbrev pub invariant-loop-k : goal.invariant-loop-k
 invariant-loop-k l =
-    (every (in_bits_lem (entry_of l.ty l.size)) (part_readings l.ty l.part) ≡ every (in_bits_lem (entry_of l.ty l.size)) (readings_from l.ty l.part l.count l.k)) × (l.k ≤ l.count)
-
-abbrev pub decreases-loop-k : goal.decreases-loop-k
-decreases-loop-k l = l.count - l.k
+    every (in_bits_lem (entry_of l.ty l.size)) (part_readings l.ty l.part) ≡ every (in_bits_lem (entry_of l.ty l.size)) (readings_from l.ty l.part l.count l.k)

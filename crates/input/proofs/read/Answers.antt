@@ -16,8 +16,8 @@ decided : (c : After-bits_right)
     ≡ check c.bits_right.result wrong_input (ok tt)
 decided c =
     let g = c.args in
-    let end = c.in-AllRight.end in
-    let right = c.in-AllRight.ensures in
+    let end = c.in-Ok.end in
+    let right = c.in-Ok.ensures in
     readings_decide (fields_in g.fields.now) g.input.now end right
     (omega (arith, c.if-end-input.false, ends-inside (types_in (fields_in g.fields.now)) g.input.now end right))
     ∙ ap (λ b. check b wrong_input (ok tt)) (readings-are (fields_in g.fields.now) g.input.now ∙ sym c.bits_right.ensures)
@@ -29,13 +29,13 @@ returns-in_default c = let g = c.args in sym
 pub returns-then-end-input : goal.returns-then-end-input
 returns-then-end-input c =
     let g = c.args in
-    let end = c.in-AllRight.end in
-    sym (ends_elsewhere (fields_in g.fields.now) g.input.now end c.in-AllRight.ensures (λ q. absurd (omega (arith, q, c.if-end-input.true))))
+    let end = c.in-Ok.end in
+    sym (ends_elsewhere (fields_in g.fields.now) g.input.now end c.in-Ok.ensures (λ q. absurd (omega (arith, q, c.if-end-input.true))))
 
 pub bits_right-requires : goal.bits_right-requires
 bits_right-requires c =
     let g = c.args in
-    subst (RightBefore (types_in (fields_in g.fields.now)) g.input.now) (types-length g.fields.now) c.in-AllRight.ensures.0
+    subst (RightBefore (types_in (fields_in g.fields.now)) g.input.now) (types-length g.fields.now) c.in-Ok.ensures.0
 
 pub returns-then-not-bits_right : goal.returns-then-not-bits_right
 returns-then-not-bits_right c = sym (decided (goal.at.returns-then-not-bits_right c).After-bits_right ∙ ap (λ b. check b wrong_input (ok tt)) c.if-not-bits_right.true)
