@@ -1,4 +1,4 @@
-use Rattle.std.proofs.Common.{◌-◌, ◌≡◌, ◌+◌, ◌*◌, ◌≤◌, length}
+use Rattle.std.proofs.Common.{◌+◌, ◌*◌, ◌≤◌}
 use Rattle.model.specs.Inlined.{inlined}
 use Rattle.program.specs.Reading.{tables_of}
 use Rattle.inliner.specs.Bodies.{expansions_in, items_between, stretch_rows}
@@ -14,10 +14,7 @@ decreases-put_stretch l = 2 * l.part.number + 1
 
 abbrev pub invariant-put_stretch-loop-i : goal.invariant-put_stretch-loop-i
 invariant-put_stretch-loop-i l =
-    (length l.words ≡ length l.initial.words) × (l.part.from ≤ l.i) × (l.i ≤ l.part.to) × (l.at ≤ l.place)
+    (l.at ≤ l.place)
     × SoFar l.plan.base l.at l.place (stretch_rows (tables_of l.program) l.table l.plan.procedures l.part l.at)
     (inlined (expansions_in (tables_of l.program) l.table l.plan.procedures) l.part.shift l.i l.place (items_between (tables_of l.program) l.i l.part.to))
     l.initial.words l.words
-
-abbrev pub decreases-put_stretch-loop-i : goal.decreases-put_stretch-loop-i
-decreases-put_stretch-loop-i l = l.part.to - l.i
