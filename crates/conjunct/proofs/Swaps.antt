@@ -1,16 +1,20 @@
 -- One node in which a load or an atom is replaced by a variable; and equal conjuncts.
 use mathlib.Core.Bool.{true, false, cond}
-use mathlib.Core.Path.{◌≡◌, refl, ap}
+use mathlib.Core.Path.{◌≡◌, refl, sym, ap, ◌∙◌}
 use Prim.Native.Nat.{ℕ, compare, Ordering}
-use lib.Dec.{compare_is_eq}
+use lib.Dec.{eqb, compare_is_eq}
 use lib.ListN.{length}
+use borrow.Author.Tests.{eqb-true, eqb-false}
 use Rattle.model.proofs.Basics.Tests.{case, true→T}
 use Rattle.model.proofs.Conjuncts.Atoms.{atom_eq, atom_self}
 use Rattle.model.proofs.Conjuncts.Order.{nodes_eq}
 use Rattle.model.specs.Conjunct.{Atom, Node, const, atom, var, op, conv, Conj, ◌then◌, order_nodes, order, same_atom, on_atom_lem}
 use Rattle.model.specs.Walk.{on_array}
-use Rattle.model.specs.Touch.{is_load_lem}
+use Rattle.model.specs.Touch.{is_var, is_load_lem}
+use Rattle.conjunct.specs.Behind.{variable_by}
+use Rattle.conjunct.specs.Word.{node_of}
 use Rattle.conjunct.proofs.node.Atoms.{alike}
+use Rattle.conjunct.proofs.node.Lists.{node-word}
 use Rattle.model.proofs.Conjuncts.Order.{compare_same}
 
 module _ (t k x ty : ℕ) where
@@ -32,6 +36,12 @@ module _ (t k x ty : ℕ) where
   load-left (op o u) h = refl
   load-left (conv u) h = refl
 
+  -- and as words
+  pub load_word : (v w : ℕ) → node_of v ≡ var x ty → node_of (cond (is_load_lem t k (node_of w)) v w) ≡ on_atom_lem load_by_lem (node_of w)
+  load_word v w h =
+      case (is_load_lem t k (node_of w)) (λ z. node_of (cond z v w) ≡ on_atom_lem load_by_lem (node_of w))
+      (λ p. h ∙ sym (load_by (node_of w) p)) (λ p. sym (load-left (node_of w) p))
+
 module _ (a : Atom) (x ty : ℕ) where
   -- an atom by the variable
   abbrev pub atom_by_lem : Atom → Node
@@ -46,6 +56,18 @@ module _ (a : Atom) (x ty : ℕ) where
   atom-left (var y u) h = refl
   atom-left (op o u) h = refl
   atom-left (conv u) h = refl
+
+  -- and as words
+  pub atom_word : (k v w : ℕ) → node_of k ≡ atom a → node_of v ≡ var x ty → node_of (cond (eqb w k) v w) ≡ on_atom_lem atom_by_lem (node_of w)
+  atom_word k v w h e =
+      case (eqb w k) (λ z. node_of (cond z v w) ≡ on_atom_lem atom_by_lem (node_of w))
+      (λ p. e ∙ sym (ap (λ i. on_atom_lem atom_by_lem (node_of i)) (eqb-true w k p) ∙ ap (on_atom_lem atom_by_lem) h ∙ atom_by))
+      (λ p. sym (atom-left (node_of w) (λ q. eqb-false w k p (node-word w k (q ∙ sym h)))))
+
+-- a variable by a node, as words
+pub variable_word : (x u w y : ℕ) → y ≡ cond (is_var x (node_of w)) u w → node_of y ≡ variable_by x (node_of u) (node_of w)
+variable_word x u w y h =
+    ap node_of h ∙ case (is_var x (node_of w)) (λ z. node_of (cond z u w) ≡ cond z (node_of u) (node_of w)) (λ p. refl) (λ p. refl)
 
 -- conjuncts are the same by the order if and only if they are node by node
 pub order_same : (d e : Conj) → compare_is_eq (order d e) ≡ compare_is_eq (order_nodes d e)

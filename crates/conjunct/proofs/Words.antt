@@ -1,66 +1,60 @@
--- Loops over the words of a conjunct: compared, changed one by one, and tested. What a loop has done after i words is `Rest`, `Changed`
--- or `Sought`; each has a law for no word, for one word more, and for all of them.
+-- The words of a conjunct compared, changed one by one, and tested. What a loop has changed after i words is `Changed`; it has a law
+-- for no word, for one word more, and for all of them.
 use mathlib.Core.Bool.{Bool, true, false, ◌||◌}
-use mathlib.Core.List.{List, map, map-append}
-use mathlib.Core.Path.{◌≡◌, refl, sym, ap, ◌∙◌}
+use mathlib.Core.List.{List, [], ◌∷◌, map, map-append}
+use mathlib.Core.Path.{◌≡◌, refl, sym, ap, ap₂, ◌∙◌}
 use Prim.Native.Nat.{Ordering}
-use Prim.Native.Nat.{ℕ, zero, suc, ◌+◌, ◌-◌, ◌<◌, ◌≤◌, compare}
+use Prim.Native.Nat.{ℕ, ◌+◌, ◌<◌, ◌≤◌, compare}
 use native.Mathlib.Numerals.{add-one}
 use native.Mathlib.Omega.{arith}
 use lib.ListN.{length, take, drop, get_or, set, length-set}
-use lib.Seq.{drop-cons, take-suc, take-suc-set, drop-set-lt, get_or-drop, get_or-take, length-take-le, drop-length}
+use lib.Seq.{drop-cons, take-suc, take-suc-set, drop-set-lt, get_or-drop}
 use Rattle.model.specs.Conjunct.{Node, ◌then◌, order_numbers}
+use Rattle.std.specs.Cmp.Lexicographic.{slice_cmp}
+use Rattle.std.specs.List.{list_any}
+use Rattle.std.specs.declared.cmp.Ordering.{Ordering as Compared}
+use Rattle.std.specs.declared.cmp.Ordering.TheVariants.{Less, Equal, Greater}
+use Rattle.std.specs.Ordering.{MatchOrdering, is_ne, nat_cmp, ordering_then}
+use Rattle.std.proofs.lemmas.Cmp.{ranked}
+use Rattle.conjunct.specs.Value.{ordering_of}
 use Rattle.model.specs.Touch.{some}
 use Rattle.model.proofs.Conjuncts.Order.{compare_less, compare_more, compare_same}
 use Rattle.conjunct.specs.Word.{node_of, nodes_of_lem}
 
 -- ---- the order
 
-pub order-step : (s t : List ℕ) (n a b : ℕ) → 0 < n → a < length s → b < length t
-    → order_numbers (take n (drop a s)) (take n (drop b t))
-    ≡ (compare (get_or s a 0) (get_or t b 0) then order_numbers (take (n - 1) (drop (a + 1) s)) (take (n - 1) (drop (b + 1) t)))
+by_rank : (x y : ℕ) (r : Compared) → MatchOrdering r (x < y) (x ≡ y) (y < x) → ordering_of r ≡ compare x y
+by_rank x y Less h = sym (compare_less x y h)
+by_rank x y Equal h = sym (compare_same x y h)
+by_rank x y Greater h = sym (compare_more x y h)
+
+-- std's order of numbers is that of the model
+pub numbers_compared : (x y : ℕ) → ordering_of (nat_cmp x y) ≡ compare x y
+numbers_compared x y = by_rank x y (nat_cmp x y) (ranked x y (nat_cmp x y) refl)
+
+then_of : (r s : Compared) → ordering_of (ordering_then r s) ≡ (ordering_of r then ordering_of s)
+then_of Less s = refl
+then_of Equal s = refl
+then_of Greater s = refl
+
+-- and so is its order of lists
+pub lists_compared : (xs ys : List ℕ) → ordering_of (slice_cmp nat_cmp xs ys) ≡ order_numbers xs ys
 unfolding order_numbers
-order-step s t zero a b h k l = absurd (omega arith)
-order-step s t (suc n) a b h k l =
-    let e : suc n - 1 ≡ n = omega arith in
-    rw (e, add-one a, add-one b, drop-cons s a 0 k, drop-cons t b 0 l)
+lists_compared [] [] = refl
+lists_compared [] (y ∷ ys) = refl
+lists_compared (x ∷ xs) [] = refl
+lists_compared (x ∷ xs) (y ∷ ys) = then_of (nat_cmp x y) (slice_cmp nat_cmp xs ys) ∙ ap₂ ◌then◌ (numbers_compared x y) (lists_compared xs ys)
 
--- what is left to compare after i words that agree
-abbrev pub Rest : List ℕ → List ℕ → (n a b i : ℕ) → Type 0
-Rest s t n a b i = order_numbers (take n (drop a s)) (take n (drop b t)) ≡ order_numbers (take (n - i) (drop (a + i) s)) (take (n - i) (drop (b + i) t))
+-- the sizes decide, or the words
+pub first_decides : (r : Compared) (o : Ordering) → is_ne r ≡ true → ordering_of r ≡ (ordering_of r then o)
+first_decides Less o h = refl
+first_decides Equal o h = cc
+first_decides Greater o h = refl
 
-pub rest-none : (s t : List ℕ) (n a b : ℕ) → Rest s t n a b 0
-rest-none s t n a b =
-    let p : n - 0 ≡ n = omega arith in
-    let q : a + 0 ≡ a = omega arith in
-    let r : b + 0 ≡ b = omega arith in
-    rw (p, q, r)
-
-module _ (s t : List ℕ) (n m a b i : ℕ) (e : n ≡ m) (k : a + n ≤ length s) (l : b + m ≤ length t) (r : Rest s t n a b i) where
-  -- the next two words
-  next : i < n → order_numbers (take n (drop a s)) (take n (drop b t))
-      ≡ (compare (get_or s (a + i) 0) (get_or t (b + i) 0) then order_numbers (take (n - (i + 1)) (drop (a + (i + 1)) s))
-      (take (n - (i + 1)) (drop (b + (i + 1)) t)))
-  next h =
-      let p : n - (i + 1) ≡ n - i - 1 = omega arith in
-      let q : a + (i + 1) ≡ a + i + 1 = omega arith in
-      let u : b + (i + 1) ≡ b + i + 1 = omega arith in
-      r ∙ rw (p, q, u) (order-step s t (n - i) (a + i) (b + i) (omega arith) (omega arith) (omega arith))
-
-  pub rest_less : i < n → get_or s (a + i) 0 < get_or t (b + i) 0 → Ordering.lt ≡ (compare n m then order_numbers (take n (drop a s)) (take m (drop b t)))
-  rest_less h g = rw (compare_same n m e, ← e, next h, compare_less (get_or s (a + i) 0) (get_or t (b + i) 0) g)
-
-  pub rest_more : i < n → get_or t (b + i) 0 < get_or s (a + i) 0 → Ordering.gt ≡ (compare n m then order_numbers (take n (drop a s)) (take m (drop b t)))
-  rest_more h g = rw (compare_same n m e, ← e, next h, compare_more (get_or s (a + i) 0) (get_or t (b + i) 0) g)
-
-  pub rest-next : i < n → get_or s (a + i) 0 ≡ get_or t (b + i) 0 → Rest s t n a b (i + 1)
-  rest-next h g = next h ∙ rw (compare_same (get_or s (a + i) 0) (get_or t (b + i) 0) g)
-
-  pub rest-same : n ≤ i → Ordering.eq ≡ (compare n m then order_numbers (take n (drop a s)) (take m (drop b t)))
-  unfolding order_numbers
-  rest-same h =
-      let z : n - i ≡ 0 = omega arith in
-      rw (compare_same n m e, ← e, r, z)
+pub second_decides : (r : Compared) (o : Ordering) → is_ne r ≡ false → o ≡ (ordering_of r then o)
+second_decides Less o h = cc
+second_decides Equal o h = refl
+second_decides Greater o h = cc
 
 -- ---- words changed one by one
 
@@ -113,34 +107,16 @@ module _ {K : Type 0} {f : K → Node → Node} where
         let e : i ≡ n = omega (arith, c.within) in
         rw e at (c.first k)
 
--- ---- words tested one by one
+-- ---- words tested
 
--- of n words, the first i do not pass
-pub record Sought (f : Node → Bool) (l : List ℕ) (n i : ℕ) : Type 0 where
-  pub within : i ≤ n
-  pub room : n ≤ length l
-  pub rest : some f (nodes_of_lem (take n l)) ≡ some f (nodes_of_lem (drop i (take n l)))
+-- a test passes one of a list, in the words of std and of the model
+pub some_any : {A : Type 0} (f : A → Bool) (l : List A) → list_any f l ≡ some f l
+unfolding some
+some_any f [] = refl
+some_any f (x ∷ l) = ap (f x ||◌) (some_any f l)
 
-module _ {f : Node → Bool} {l : List ℕ} {n : ℕ} where
-  pub sought_none : n ≤ length l → Sought f l n 0
-  sought_none h = record { within = omega arith; room = h; rest = refl }
-
-  module _ {i : ℕ} (s : Sought f l n i) where
-    -- the next word, and the others
-    next_word : i < n → some f (nodes_of_lem (take n l)) ≡ (f (node_of (get_or l i 0)) || some f (nodes_of_lem (drop (i + 1) (take n l))))
-    unfolding some
-    next_word h =
-        let len : length (take n l) ≡ n = length-take-le n l s.room in
-        s.rest ∙ rw (add-one i, drop-cons (take n l) i 0 (omega arith), get_or-take n l i 0 h)
-
-    pub sought_found : i < n → f (node_of (get_or l i 0)) ≡ true → true ≡ some f (nodes_of_lem (take n l))
-    sought_found h p = sym (next_word h ∙ rw p)
-
-    pub sought_next : i < n → f (node_of (get_or l i 0)) ≡ false → Sought f l n (i + 1)
-    sought_next h p = record { within = omega arith; room = s.room; rest = next_word h ∙ rw p }
-
-    pub sought_all : n ≤ i → false ≡ some f (nodes_of_lem (take n l))
-    unfolding some
-    sought_all h =
-        let e : i ≡ length (take n l) = omega (arith, s.within, length-take-le n l s.room) in
-        sym (s.rest ∙ rw (e, drop-length (take n l)))
+-- a node passes if and only if its word does
+pub some_word : (f : Node → Bool) (l : List ℕ) → list_any (λ w. f (node_of w)) l ≡ some f (nodes_of_lem l)
+unfolding some
+some_word f [] = refl
+some_word f (w ∷ l) = ap (f (node_of w) ||◌) (some_word f l)

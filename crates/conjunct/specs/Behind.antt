@@ -1,5 +1,5 @@
 -- The distinct atoms of a conjunct that grows at its end; the words of a right side; and what a substitution answers.
-use Rattle.std.specs.Prelude.{Bool, true, cond, ◌≡◌, ℕ, ◌+◌, ◌≤◌, ◌<◌, ◌^◌, length, take}
+use Rattle.std.specs.Prelude.{Bool, true, false, cond, Option, None, Some, Result, Ok, Err, ◌≡◌, ℕ, ◌+◌, ◌≤◌, ◌<◌, ◌^◌, length, take}
 use mathlib.Core.List.{List, [], ◌∷◌, ◌++◌, map, flat_map}
 use Rattle.model.specs.Conjunct.{Source, Atom, Node, const, atom, var, op, conv, Conj, atoms, rank, renamed, on_atom_lem, renumber, has, AtAtom}
 use Rattle.model.specs.Lists.{All, every}
@@ -10,10 +10,7 @@ use Rattle.model.specs.TidySets.{Numbered}
 use Rattle.conjunct.specs.Word.{is_atom_lem, atom_of, node_of, nodes_of_lem}
 use Rattle.conjunct.specs.Value.{conj_of, ConjunctIn}
 use Rattle.conjunct.specs.declared.numbering.Noted.{Noted}
-use Rattle.conjunct.specs.declared.numbering.Rank.{Rank}
 use Rattle.conjunct.specs.declared.numbering.Right.{Right}
-use Rattle.conjunct.specs.declared.numbering.Substituted.{Substituted}
-use Rattle.conjunct.specs.declared.numbering.Substituted.TheVariants.{Over, Nodes}
 
 -- the distinct atoms with a node put behind them
 unfoldable pub behind : Node → List Atom → List Atom
@@ -45,11 +42,16 @@ pub record RoomBehind (seen : List ℕ) (m : ℕ) : Type 0 where
   pub room : m < length seen
   pub atoms : Atoms (take m seen)
 
+-- an atom is among the words of atoms or not, and n of its source stand before it
+pub record RankOf (ks : List ℕ) (w : ℕ) (known : Bool) (n : ℕ) : Type 0 where
+  pub has : known ≡ has (atom_of w) (atoms_of_lem ks)
+  pub number : n ≡ rank (atom_of w) (atoms_of_lem ks)
+  pub small : n ≤ length ks
+
 -- what is found of an atom among the words of atoms
-pub record Ranked (ks : List ℕ) (w : ℕ) (r : Rank) : Type 0 where
-  pub known : r.known ≡ has (atom_of w) (atoms_of_lem ks)
-  pub number : r.n ≡ rank (atom_of w) (atoms_of_lem ks)
-  pub small : r.n ≤ length ks
+abbrev pub Ranked : List ℕ → ℕ → Result ℕ ℕ → Type 0
+Ranked ks w (Ok n) = RankOf ks w true n
+Ranked ks w (Err n) = RankOf ks w false n
 
 -- a word noted behind the atoms ks: what they are then, and the word with its new number
 pub record Behind (ks : List ℕ) (w m : ℕ) (after : List ℕ) (r : Noted) : Type 0 where
@@ -105,6 +107,6 @@ pub record Substitutable (e : List ℕ) (n : ℕ) (r : Right) (out seen : List �
   pub fresh : All (AtAtom (λ a. a.n ≡ 0)) (right_of_lem r)
 
 -- the answer of a substitution of r for x in e: it has over 120 nodes, or these first words, numbered anew
-abbrev pub Replaced : Substituted → Conj → ℕ → Right → List ℕ → Type 0
-Replaced Over e x r out = most_nodes < length (flat_map (replace x (right_of_lem r)) e)
-Replaced (Nodes m) e x r out = (m ≤ most_nodes) × (conj_of out m ≡ renumber (flat_map (replace x (right_of_lem r)) e))
+abbrev pub Replaced : Option ℕ → Conj → ℕ → Right → List ℕ → Type 0
+Replaced None e x r out = most_nodes < length (flat_map (replace x (right_of_lem r)) e)
+Replaced (Some m) e x r out = (m ≤ most_nodes) × (conj_of out m ≡ renumber (flat_map (replace x (right_of_lem r)) e))

@@ -4,8 +4,8 @@ use Prim.Native.Nat.{ℕ, ◌≤◌, Ordering}
 use Rattle.model.specs.Conjunct.{Conj}
 use Rattle.model.specs.Sizes.{most_nodes}
 use Rattle.conjunct.specs.Word.{nodes_of_lem}
-use Rattle.conjunct.specs.declared.Order.TheVariants.{Less, Same, More}
-use Rattle.conjunct.specs.declared.Order.{Order}
+use Rattle.std.specs.declared.cmp.Ordering.{Ordering as Compared}
+use Rattle.std.specs.declared.cmp.Ordering.TheVariants.{Less, Equal, Greater}
 
 -- the nodes of the first n words
 abbrev pub conj_of : List ℕ → ℕ → Conj
@@ -17,7 +17,7 @@ pub record ConjunctIn (w : List ℕ) (n : ℕ) : Type 0 where
   pub there : n ≤ length w
 
 -- the answer of a comparison
-abbrev pub ordering_of : Order → Ordering
+abbrev pub ordering_of : Compared → Ordering
 ordering_of Less = Ordering.lt
-ordering_of Same = Ordering.eq
-ordering_of More = Ordering.gt
+ordering_of Equal = Ordering.eq
+ordering_of Greater = Ordering.gt

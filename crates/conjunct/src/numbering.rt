@@ -1,22 +1,15 @@
 // The numbering of a conjunct's atoms, the substitution for a variable, and the loads of an array.
 ghost use Rattle.std.specs.Prelude.{◌≡◌, true, cond, ℕ, ◌+◌, ◌<◌, ◌≤◌, eqb, length, take};
 ghost use mathlib.Core.List.{map, flat_map, ◌++◌};
-ghost use Rattle.model.specs.Conjunct.{atom, var, renumber, atoms, same_source_lem};
+ghost use Rattle.model.specs.Conjunct.{atom, renumber, atoms, same_source_lem};
 ghost use Rattle.model.specs.Walk.{replace, loads};
 ghost use Rattle.model.specs.Sizes.{most_nodes};
 ghost use Rattle.model.specs.Touch.{some};
 ghost use Rattle.conjunct.specs.Word.{is_atom_lem, source_of, key_of, node_of, nodes_of_lem};
 ghost use Rattle.conjunct.specs.Value.{conj_of, ConjunctIn};
-ghost use Rattle.conjunct.specs.Behind.{SeenAtoms, RoomBehind, Ranked, Behind, LoadBehind, SourceIn, renumber_passing, right_words, Substitutable, Replaced, right_of_lem, variable_by, Exchangeable};
+ghost use Rattle.conjunct.specs.Behind.{SeenAtoms, RoomBehind, Ranked, Behind, LoadBehind, SourceIn, renumber_passing, right_words, Substitutable, Replaced, right_of_lem, Exchangeable};
 
-use super::{MOST_NODES, node};
-
-// how many atoms of its source stand before an atom, and whether it is there
-#[derive(Clone, Copy)]
-pub struct Rank {
-    pub n: u64,
-    pub known: bool,
-}
+use super::{MOST_NODES, change_each, node};
 
 // a word with its new number, and how many atoms there are then
 #[derive(Clone, Copy)]
@@ -32,35 +25,27 @@ pub struct Right {
     pub nodes: [u64; 3],
 }
 
-// how many nodes a conjunct has after a substitution, or that they are over 120
-#[derive(Clone, Copy)]
-pub enum Substituted {
-    Over,
-    Nodes(usize),
-}
-
 fn tick(k: u64, s: u64) -> u64
     ensures { (result ≡ cond (eqb s (key_of k)) 1 0) × (result ≤ 1) }
 {
     if s == node::source(k) { 1 } else { 0 }
 }
 
-fn look_up(seen: &[u64], m: usize, w: u64) -> Rank
+// Ok where an atom is there, with how many of its source stand before it; else Err, with how many there are
+fn look_up(seen: &[u64], m: usize, w: u64) -> Result<u64, u64>
     requires { SeenAtoms seen.now m × (is_atom_lem w ≡ true) }
     ensures { Ranked (take m seen.now) w result }
 {
     let s = node::source(w);
     let mut n: u64 = 0;
-    let mut j: usize = 0;
-    while j < m {
+    for j in 0..m {
         let k = seen[j];
         if k == w {
-            return Rank { n: n, known: true };
+            return Ok(n);
         }
         n += tick(k, s);
-        j += 1;
     }
-    Rank { n: n, known: false }
+    Err(n)
 }
 
 fn note(seen: &mut [u64], m: usize, w: u64) -> Noted
@@ -70,15 +55,18 @@ fn note(seen: &mut [u64], m: usize, w: u64) -> Noted
     if !node::is_atom(w) {
         return Noted { word: w, count: m };
     }
-    let r = look_up(seen, m, w);
-    let v = node::numbered(w, r.n + 1);
-    if r.known {
-        return Noted { word: v, count: m };
-    }
-    seen[m] = w;
-    Noted {
-        word: v,
-        count: m + 1,
+    match look_up(seen, m, w) {
+        Ok(k) => Noted {
+            word: node::numbered(w, k + 1),
+            count: m,
+        },
+        Err(k) => {
+            seen[m] = w;
+            Noted {
+                word: node::numbered(w, k + 1),
+                count: m + 1,
+            }
+        }
     }
 }
 
@@ -88,13 +76,11 @@ pub fn renumber(words: &mut [u64], n: usize, seen: &mut [u64])
     ensures { conj_of words.new n ≡ renumber (conj_of words.old n) }
 {
     let mut m: usize = 0;
-    let mut i: usize = 0;
-    while i < n {
+    for i in 0..n {
         let w = words[i];
         let p = note(seen, m, w);
         words[i] = p.word;
         m = p.count;
-        i += 1;
     }
 }
 
@@ -106,17 +92,14 @@ fn renumber_source(words: &mut [u64], n: usize, u: u64, seen: &mut [u64])
 {
     let key = node::source(u);
     let mut m: usize = 0;
-    let mut i: usize = 0;
-    while i < n {
+    for i in 0..n {
         let w = words[i];
         if node::source(w) != key {
-            i += 1;
             continue;
         }
         let p = note(seen, m, w);
         words[i] = p.word;
         m = p.count;
-        i += 1;
     }
 }
 
@@ -142,17 +125,12 @@ fn put(out: &mut [u64], m: usize, p: Right)
 fn has_atom(p: Right) -> bool
     ensures { result ≡ some is_atom_lem p.nodes }
 {
-    if node::is_atom(p.nodes[0]) {
-        return true;
-    }
-    if node::is_atom(p.nodes[1]) {
-        return true;
-    }
-    node::is_atom(p.nodes[2])
+    p.nodes.iter().any(|w| node::is_atom(*w))
 }
 
 // the right side r for the variable x in the first n words of e, numbered anew, to `out`; `seen` is
-// room to work in. Without an atom in r the numbers are those of e.
+// room to work in. Without an atom in r the numbers are those of e. Answers how many nodes there are, or
+// None if they are over 120.
 pub fn substitute(
     e: &[u64],
     n: usize,
@@ -160,43 +138,33 @@ pub fn substitute(
     r: Right,
     out: &mut [u64],
     seen: &mut [u64],
-) -> Substituted
+) -> Option<usize>
     requires { Substitutable e.now n r out.old seen.old }
     ensures { Replaced result (conj_of e.now n) x r out.new }
 {
     let k = r.len;
     let mut m: usize = 0;
-    let mut i: usize = 0;
-    while i < n {
+    for i in 0..n {
         let w = e[i];
         if node::is_variable(w, x) {
             if m + k > MOST_NODES {
-                return Substituted::Over;
+                return None;
             }
             put(out, m, r);
             m += k;
-            i += 1;
             continue;
         }
         if m >= MOST_NODES {
-            return Substituted::Over;
+            return None;
         }
         out[m] = w;
         m += 1;
-        i += 1;
     }
     if !has_atom(r) {
-        return Substituted::Nodes(m);
+        return Some(m);
     }
     renumber(out, m, seen);
-    Substituted::Nodes(m)
-}
-
-// a word, or u where it is the variable that v is
-fn variable_swapped(w: u64, v: u64, u: u64) -> u64
-    ensures { (x ty : ℕ) → node_of v ≡ var x ty → node_of result ≡ variable_by x (node_of u) (node_of w) }
-{
-    if node::same_variable(w, v) { u } else { w }
+    Some(m)
 }
 
 // the one node of r for the variable x in the words, numbered anew; `seen` is room to work in. If it is an
@@ -208,11 +176,13 @@ pub fn replace_variable(words: &mut [u64], x: u64, r: Right, seen: &mut [u64])
     let v = node::variable(x, 0);
     let u = r.nodes[0];
     let n = words.len();
-    let mut i: usize = 0;
-    while i < n {
-        words[i] = variable_swapped(words[i], v, u);
-        i += 1;
-    }
+    change_each(words, n, |word| {
+        if node::same_variable(word, v) {
+            u
+        } else {
+            word
+        }
+    });
     if node::is_atom(u) {
         renumber_source(words, n, u, seen);
     }
@@ -225,12 +195,13 @@ fn note_load(seen: &mut [u64], m: usize, w: u64, array: u64, len: u64) -> usize
     if !node::is_load(w, array, len) {
         return m;
     }
-    let r = look_up(seen, m, w);
-    if r.known {
-        return m;
+    match look_up(seen, m, w) {
+        Ok(_) => m,
+        Err(_) => {
+            seen[m] = w;
+            m + 1
+        }
     }
-    seen[m] = w;
-    m + 1
 }
 
 // the distinct loads from the array in the first n words of e by first appearance, as nodes, to `out`;
@@ -240,11 +211,8 @@ pub fn loads(e: &[u64], n: usize, array: u64, len: u64, out: &mut [u64]) -> usiz
     ensures { (result ≤ n) × (conj_of out.new result ≡ map atom (loads array len (atoms (conj_of e.now n)))) }
 {
     let mut m: usize = 0;
-    let mut i: usize = 0;
-    while i < n {
-        let w = e[i];
-        m = note_load(out, m, w, array, len);
-        i += 1;
+    for i in 0..n {
+        m = note_load(out, m, e[i], array, len);
     }
     m
 }

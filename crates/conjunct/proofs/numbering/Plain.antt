@@ -1,10 +1,9 @@
 -- A right side without an atom leaves a numbered conjunct numbered: its atoms are the same, and so are their numbers.
-use mathlib.Core.Bool.{Bool, true, false, cond, ◌||◌}
+use mathlib.Core.Bool.{true, false, cond, ◌||◌}
 use mathlib.Core.List.{List, [], ◌∷◌, ◌++◌, map, flat_map, map-append}
 use mathlib.Core.Path.{◌≡◌, refl, sym, ap, ap₂, ◌∙◌}
 use Prim.Native.Nat.{ℕ, zero, suc}
-use native.Mathlib.Omega.{arith}
-use lib.ListN.{length, take, get_or}
+use lib.ListN.{take}
 use Rattle.model.proofs.Basics.Tests.{case, true→T}
 use Rattle.model.specs.Conjunct.{Atom, Node, const, atom, var, op, conv, Conj, note, atoms, renamed, on_atom_lem, renumber, AtAtom}
 use Rattle.model.specs.Lists.{All}
@@ -15,19 +14,6 @@ use Rattle.conjunct.specs.Word.{is_atom_lem, node_of, nodes_of_lem}
 use Rattle.conjunct.specs.Behind.{piece_of}
 
 -- ---- words of which none is an atom's
-
-or_false : (b : Bool) → (b || false) ≡ b
-or_false true = refl
-or_false false = refl
-
--- a test of three words, one after the other
-pub some_three : (f : ℕ → Bool) (l : List ℕ) → length l ≡ 3 → some f l ≡ (f (get_or l 0 0) || (f (get_or l 1 0) || f (get_or l 2 0)))
-unfolding some
-some_three f [] h = absurd (omega arith)
-some_three f (a ∷ []) h = absurd (omega arith)
-some_three f (a ∷ b ∷ []) h = absurd (omega arith)
-some_three f (a ∷ b ∷ c ∷ []) h = ap (λ z. f a || (f b || z)) (or_false (f c))
-some_three f (a ∷ b ∷ c ∷ d ∷ l) h = absurd (omega arith)
 
 -- none is an atom's word
 abbrev pub NoAtoms : List ℕ → Type 0

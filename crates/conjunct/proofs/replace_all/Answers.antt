@@ -1,17 +1,14 @@
--- `conjunct::replace_all` meets its contract: a loop that changes words (`Words.Changed`), a load by the variable.
-use native.Mathlib.Omega.{arith}
+-- `conjunct::replace_all` meets its contract: a load by the variable.
+use Rattle.std.proofs.Common.{◌≡◌, ◌∙◌, ap, cond, rules}
+use Rattle.model.specs.Conjunct.{on_atom_lem}
 use Rattle.model.specs.Walk.{swap_all}
-use Rattle.conjunct.proofs.Words.{changed_none, changed_next, changed_all}
+use Rattle.model.specs.Touch.{is_load_lem}
+use Rattle.conjunct.specs.Word.{node_of}
+use Rattle.conjunct.proofs.Swaps.{load_by_lem, load_word}
 use Rattle.conjunct.proofs.replace_all.Goals as goal
-
-pub loop-i-init : goal.loop-i-init
-loop-i-init c = changed_none c.requires
-
-pub loop-i-preserved : goal.loop-i-preserved
-loop-i-preserved c =
-    changed_next c.loop-i.invariant c.load_swapped.result (omega arith) (λ k. c.load_swapped.ensures k.0 k.1 k.2)
 
 pub returns : goal.returns
 unfolding swap_all
-returns c =
-    λ x ty p. changed_all c.loop-i.invariant (omega arith) (x, ty, p)
+returns c = λ x ty p. c.change_each.ensures (on_atom_lem (load_by_lem c.args.array c.args.len x ty)) (λ w y q.
+    let h : y ≡ cond (is_load_lem c.args.array c.args.len (node_of w)) c.args.v w = search rules in
+    ap node_of h ∙ load_word c.args.array c.args.len x ty c.args.v w p)

@@ -1,17 +1,13 @@
--- `conjunct::replace_one` meets its contract: a loop that changes words (`Words.Changed`), the atom by the variable.
-use native.Mathlib.Omega.{arith}
+-- `conjunct::replace_one` meets its contract: the atom by the variable.
+use Rattle.std.proofs.Common.{◌≡◌, ◌∙◌, ap, cond, eqb, rules, tests}
+use Rattle.model.specs.Conjunct.{on_atom_lem}
 use Rattle.model.specs.Walk.{swap}
-use Rattle.conjunct.proofs.Words.{changed_none, changed_next, changed_all}
+use Rattle.conjunct.specs.Word.{node_of}
+use Rattle.conjunct.proofs.Swaps.{atom_by_lem, atom_word}
 use Rattle.conjunct.proofs.replace_one.Goals as goal
-
-pub loop-i-init : goal.loop-i-init
-loop-i-init c = changed_none c.requires
-
-pub loop-i-preserved : goal.loop-i-preserved
-loop-i-preserved c =
-    changed_next c.loop-i.invariant c.atom_swapped.result (omega arith) (λ k. c.atom_swapped.ensures k.0 k.1 k.2 k.3 k.4)
 
 pub returns : goal.returns
 unfolding swap
-returns c =
-    λ b x ty p q. changed_all c.loop-i.invariant (omega arith) (b, x, ty, p, q)
+returns c = λ b x ty p e. c.change_each.ensures (on_atom_lem (atom_by_lem b x ty)) (λ w y q.
+    let h : y ≡ cond (eqb w c.args.a) c.args.v w = search (rules, tests) in
+    ap node_of h ∙ atom_word b x ty c.args.a c.args.v w p e)

@@ -1,26 +1,12 @@
 -- `conjunct::numbering::has_atom` meets its contract.
-use mathlib.Core.Path.{◌≡◌}
-use lib.ListN.{length}
-use borrow.Author.Rules.{rules}
+use Rattle.std.proofs.Common.{◌∙◌, rules, tests}
+use Rattle.std.proofs.lemmas.Iterator.{YieldsList-from_slice}
+use Rattle.std.proofs.lemmas.Iterator.Search.{any_from_yields_List}
 use Rattle.conjunct.specs.Word.{is_atom_lem}
-use Rattle.conjunct.proofs.numbering.Plain.{some_three}
+use Rattle.conjunct.proofs.Words.{some_any}
 use Rattle.conjunct.proofs.numbering.has_atom.Goals as goal
-
-pub returns-then-is_atom : goal.returns-then-is_atom
-returns-then-is_atom c =
-    let l = c.args.p.nodes in
-    let three : length l ≡ 3 = search rules in
-    rw (some_three is_atom_lem l three, ← c.is_atom.ensures, c.if-is_atom.true)
-
-pub returns-then-is_atom-2 : goal.returns-then-is_atom-2
-returns-then-is_atom-2 c =
-    let l = c.args.p.nodes in
-    let three : length l ≡ 3 = search rules in
-    rw (some_three is_atom_lem l three, ← c.is_atom.ensures, c.if-is_atom.false, ← c.is_atom-2.ensures, c.if-is_atom-2.true)
 
 pub returns : goal.returns
 returns c =
-    let l = c.args.p.nodes in
-    let three : length l ≡ 3 = search rules in
-    rw (some_three is_atom_lem l three, ← c.is_atom.ensures, c.if-is_atom.false, ← c.is_atom-2.ensures, c.if-is_atom-2.false)
-    c.is_atom-3.ensures
+    any_from_yields_List is_atom_lem _ _ _ c.any.ensures.ran (YieldsList-from_slice c.args.p.nodes (cc)) (λ w b q k. search (rules, tests))
+    ∙ some_any is_atom_lem c.args.p.nodes

@@ -1,6 +1,6 @@
 -- `conjunct::numbering::loads` meets its contract.
 use mathlib.Core.Path.{◌≡◌}
-use Prim.Native.Nat.{◌-◌, ◌≤◌}
+use Prim.Native.Nat.{◌≤◌}
 use lib.ListN.{length, take}
 use Rattle.model.specs.Conjunct.{atoms}
 use Rattle.model.specs.Walk.{loads}
@@ -11,8 +11,5 @@ use Rattle.conjunct.proofs.numbering.loads.Given as goal
 
 abbrev pub invariant-loop-i : goal.invariant-loop-i
 invariant-loop-i l =
-    (l.i ≤ l.n) × (l.n ≤ most_nodes) × (l.m ≤ l.i) × (l.n ≤ length l.e) × (most_nodes ≤ length l.initial.out) × (length l.out ≡ length l.initial.out) × Atoms (take l.m l.out)
+    (l.n ≤ most_nodes) × (l.m ≤ l.i) × (l.n ≤ length l.e) × (most_nodes ≤ length l.initial.out) × (length l.out ≡ length l.initial.out) × Atoms (take l.m l.out)
     × (atoms_of_lem (take l.m l.out) ≡ loads l.array l.len (atoms (nodes_of_lem (take l.i l.e))))
-
-abbrev pub decreases-loop-i : goal.decreases-loop-i
-decreases-loop-i l = l.n - l.i

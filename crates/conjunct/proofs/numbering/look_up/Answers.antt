@@ -11,7 +11,6 @@ use Rattle.conjunct.proofs.numbering.look_up.Goals as goal
 pub loop-j-init : goal.loop-j-init
 loop-j-init c = (
   search rules,
-  search rules,
   c.source-s.ensures,
   left-all c.args.seen.now c.args.m c.args.w,
 )
@@ -23,8 +22,8 @@ returns-then-k-w c =
     let h : a.m ≤ length a.seen.now = p.0.there in
     let len : length (take a.m a.seen.now) ≡ a.m = length-take-le a.m a.seen.now (omega arith) in
     let lp = c.loop-j in
-    let f = left_met a.seen.now a.m a.w (omega arith) p.0.atoms p.1 lp.j lp.n lp.invariant.3 (omega arith) c.if-k-w.true in
-    record { known = f.1; number = f.0; small = omega arith }
+    let f = left_met a.seen.now a.m a.w (omega arith) p.0.atoms p.1 lp.j lp.n lp.invariant.2 (omega arith) c.if-k-w.true in
+    record { has = f.1; number = f.0; small = omega arith }
 
 pub loop-j-preserved : goal.loop-j-preserved
 loop-j-preserved c =
@@ -34,10 +33,9 @@ loop-j-preserved c =
     let len : length (take a.m a.seen.now) ≡ a.m = length-take-le a.m a.seen.now (omega arith) in
     let lp = c.loop-j in (
       omega arith,
-      omega arith,
-      lp.invariant.2,
-      rw (c.tick-n.ensures.0, lp.invariant.2)
-          (left-past a.seen.now a.m a.w (omega arith) p.0.atoms p.1 lp.j lp.n lp.invariant.3 (omega arith) c.if-k-w.false),
+      lp.invariant.1,
+      rw (c.tick-n.ensures.0, lp.invariant.1)
+          (left-past a.seen.now a.m a.w (omega arith) p.0.atoms p.1 lp.j lp.n lp.invariant.2 (omega arith) c.if-k-w.false),
     )
 
 pub returns : goal.returns
@@ -47,5 +45,5 @@ returns c =
     let h : a.m ≤ length a.seen.now = p.0.there in
     let len : length (take a.m a.seen.now) ≡ a.m = length-take-le a.m a.seen.now (omega arith) in
     let lp = c.loop-j in
-    let f = left-none a.seen.now a.m a.w (omega arith) p.0.atoms p.1 lp.j lp.n lp.invariant.3 (omega arith) (omega arith) in
-    record { known = f.1; number = f.0; small = omega arith }
+    let f = left-none a.seen.now a.m a.w (omega arith) p.0.atoms p.1 lp.j lp.n lp.invariant.2 (omega arith) (omega arith) in
+    record { has = f.1; number = f.0; small = omega arith }

@@ -1,11 +1,7 @@
 -- `conjunct::numbering::note_load` meets its contract.
-use mathlib.Core.Bool.{true}
-use mathlib.Core.Path.{◌≡◌, sym, ◌∙◌}
+use mathlib.Core.Path.{sym, ◌∙◌}
 use native.Mathlib.Omega.{arith}
 use borrow.Author.Rules.{rules}
-use borrow.Author.Tests.{not-true, not-false}
-use Rattle.model.specs.Touch.{is_load_lem}
-use Rattle.conjunct.specs.Word.{node_of}
 use Rattle.conjunct.proofs.numbering.LoadsBehind.{load-atom, load-other, load-known, load-new}
 use Rattle.conjunct.proofs.numbering.note_load.Goals as goal
 
@@ -14,30 +10,28 @@ returns-then-not-is_load c =
     let a = c.args in (
       omega arith,
       load-other a.array a.len a.seen.now a.m a.w c.requires.atoms
-          (sym c.is_load.ensures ∙ not-true _ c.if-not-is_load.true-raw),
+          (sym c.is_load.ensures ∙ c.if-not-is_load.true),
     )
 
-pub look_up-r-requires : goal.look_up-r-requires
-look_up-r-requires c =
+pub look_up-requires : goal.look_up-requires
+look_up-requires c =
     let a = c.args in (
       record { there = search rules; atoms = c.requires.atoms },
-      load-atom a.array a.len a.w (sym c.is_load.ensures ∙ not-false _ c.if-not-is_load.false-raw),
+      load-atom a.array a.len a.w (sym c.is_load.ensures ∙ c.if-not-is_load.false),
     )
 
-pub returns-then-r : goal.returns-then-r
-returns-then-r c =
-    let a = c.args in
-    let r = c.look_up-r in
-    let i : is_load_lem a.array a.len (node_of a.w) ≡ true =
-    sym c.is_load.ensures ∙ not-false _ c.if-not-is_load.false-raw in
-    (omega arith, load-known a.array a.len a.seen.now a.m a.w c.requires.atoms i (sym c.if-r.true ∙ r.ensures.known))
-
-pub returns : goal.returns
-returns c =
-    let a = c.args in
-    let r = c.look_up-r in
-    let i : is_load_lem a.array a.len (node_of a.w) ≡ true =
-    sym c.is_load.ensures ∙ not-false _ c.if-not-is_load.false-raw in (
+pub returns-in-Ok : goal.returns-in-Ok
+returns-in-Ok c =
+    let a = c.args in (
       omega arith,
-      load-new a.array a.len a.seen.now a.m a.w c.requires.atoms c.requires.room i (sym c.if-r.false ∙ r.ensures.known),
+      load-known a.array a.len a.seen.now a.m a.w c.requires.atoms
+          (sym c.is_load.ensures ∙ c.if-not-is_load.false) c.in-Ok.ensures.has,
+    )
+
+pub returns-in-Err : goal.returns-in-Err
+returns-in-Err c =
+    let a = c.args in (
+      omega arith,
+      load-new a.array a.len a.seen.now a.m a.w c.requires.atoms c.requires.room
+          (sym c.is_load.ensures ∙ c.if-not-is_load.false) c.in-Err.ensures.has,
     )

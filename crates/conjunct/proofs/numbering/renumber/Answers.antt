@@ -14,7 +14,6 @@ loop-i-init c =
     let a = c.args in (
       search rules,
       search rules,
-      search rules,
       refl,
       search rules,
       refl,
@@ -22,7 +21,7 @@ loop-i-init c =
     )
 
 pub note-p-requires : goal.note-p-requires
-note-p-requires c = let lp = c.loop-i in (omega arith, record { room = omega arith; atoms = lp.invariant.6.all })
+note-p-requires c = let lp = c.loop-i in (omega arith, record { room = omega arith; atoms = lp.invariant.5.all })
 
 pub loop-i-preserved : goal.loop-i-preserved
 loop-i-preserved c =
@@ -31,13 +30,12 @@ loop-i-preserved c =
     let p = c.note-p in
     let h : lp.i < length lp.words = omega arith in
     let k : lp.i < length l₀ = omega arith in (
-      omega arith,
+      lp.invariant.0,
       lp.invariant.1,
-      lp.invariant.2,
-      length-set lp.words lp.i p.result.word ∙ lp.invariant.3,
-      lp.invariant.4,
-      p.auto.seen ∙ lp.invariant.5,
-      numbering_next any_source lp.words l₀ lp.seen lp.m lp.i h k lp.invariant.6 (any_passes (node_of (get_or lp.words lp.i 0))) p.new.seen p.result p.ensures,
+      length-set lp.words lp.i p.result.word ∙ lp.invariant.2,
+      lp.invariant.3,
+      p.auto.seen ∙ lp.invariant.4,
+      numbering_next any_source lp.words l₀ lp.seen lp.m lp.i h k lp.invariant.5 (any_passes (node_of (get_or lp.words lp.i 0))) p.new.seen p.result p.ensures,
     )
 
 pub returns : goal.returns
@@ -45,4 +43,4 @@ returns c =
     let lp = c.loop-i in
     let a = c.args in
     let e : lp.i ≡ a.n = omega arith in
-    (rw e at lp.invariant.6.done) ∙ renumber_any (conj_of a.words.now a.n)
+    (rw e at lp.invariant.5.done) ∙ renumber_any (conj_of a.words.now a.n)

@@ -27,7 +27,6 @@ loop-i-init c =
     let a = c.args in (
       search rules,
       search rules,
-      search rules,
       refl,
       search rules,
       refl,
@@ -40,18 +39,17 @@ loop-i-preserved-then-source-key c =
     let lp = c.loop-i in
     let h : lp.i < length lp.words = omega arith in
     let k : lp.i < length a.words.now = omega arith in (
-      omega arith,
+      lp.invariant.0,
       lp.invariant.1,
       lp.invariant.2,
       lp.invariant.3,
       lp.invariant.4,
-      lp.invariant.5,
-      numbering_past (same_source_lem (source_of a.u)) lp.words a.words.now lp.seen lp.m lp.i h k lp.invariant.6 (other-source c),
+      numbering_past (same_source_lem (source_of a.u)) lp.words a.words.now lp.seen lp.m lp.i h k lp.invariant.5 (other-source c),
     )
 
 pub note-p-requires : goal.note-p-requires
 note-p-requires c =
-    let lp = c.loop-i in (omega arith, record { room = omega arith; atoms = lp.invariant.6.all })
+    let lp = c.loop-i in (omega arith, record { room = omega arith; atoms = lp.invariant.5.all })
 
 pub loop-i-preserved : goal.loop-i-preserved
 loop-i-preserved c =
@@ -60,13 +58,12 @@ loop-i-preserved c =
     let p = c.note-p in
     let h : lp.i < length lp.words = omega arith in
     let k : lp.i < length a.words.now = omega arith in (
-      omega arith,
+      lp.invariant.0,
       lp.invariant.1,
-      lp.invariant.2,
-      length-set lp.words lp.i p.result.word ∙ lp.invariant.3,
-      lp.invariant.4,
-      p.auto.seen ∙ lp.invariant.5,
-      numbering_next (same_source_lem (source_of a.u)) lp.words a.words.now lp.seen lp.m lp.i h k lp.invariant.6
+      length-set lp.words lp.i p.result.word ∙ lp.invariant.2,
+      lp.invariant.3,
+      p.auto.seen ∙ lp.invariant.4,
+      numbering_next (same_source_lem (source_of a.u)) lp.words a.words.now lp.seen lp.m lp.i h k lp.invariant.5
           (key_source _ _ c.requires.source true (eq-eqb _ _ (sym c.source-key.ensures ∙ sym c.if-source-key.false ∙ c.source.ensures)))
           p.new.seen p.result p.ensures,
     )
@@ -75,4 +72,4 @@ pub returns : goal.returns
 returns c =
     let lp = c.loop-i in
     let e : lp.i ≡ c.args.n = omega arith in
-    rw e at lp.invariant.6.done
+    rw e at lp.invariant.5.done
