@@ -23,15 +23,11 @@ use Rattle.model.proofs.Files.Lent.{scratch_as_it_was, scratch-worked}
 use Rattle.model.proofs.Files.OldForms.{old_sections, new-program}
 use Rattle.bytes_le.specs.Overlay.{overlay}
 use Rattle.code_table.specs.Table.{table_words}
-use Rattle.program.specs.Reading.{program_answer}
-use Rattle.program.specs.declared.ProgramRead.{ProgramRead}
-use Rattle.program.specs.declared.ProgramRead.TheVariants.{Refused as NotRead}
-use Rattle.inliner.specs.declared.Loaded.{Loaded}
-use Rattle.inliner.specs.declared.Loaded.TheVariants.{Rows, Refused as NotLoaded}
-use Rattle.inliner.specs.Loading.{Loads, LoadedAs}
+use Rattle.std.specs.Prelude.{Result, Ok, Err}
+use Rattle.refusals.specs.Answers.{number_of}
+use Rattle.refusals.specs.declared.Refusal.{Refusal}
+use Rattle.inliner.specs.Loading.{LoadedAs}
 use Rattle.widening.specs.Converting.{conversion, ConversionAnswers, Converts, Copied, OldTable}
-use Rattle.widening.specs.declared.Converted.{Converted}
-use Rattle.widening.specs.declared.Converted.TheVariants.{Written, Refused}
 use Rattle.widening.proofs.NewFiles.{old_types, count-types}
 
 -- demand 1
@@ -67,29 +63,23 @@ module _ (old : List ℕ) (count : ℕ) (t : OldTable old count) where
   unfolding convert
   program-read P e = ap (◌>>= λ P. ok (new_form old)) (sym same ∙ e)
 
-  pub listing-refused : (r : ProgramRead) (k : ℕ) → program_answer r ≡ mapped (λ O. layout_of (new_form old)) (read_outline (new_form old)) → r ≡ NotRead k
-      → convert old ≡ refused k
+  pub listing-refused : (k : ℕ) → refused k ≡ mapped (λ O. layout_of (new_form old)) (read_outline (new_form old)) → convert old ≡ refused k
   unfolding read_program
-  listing-refused r k h e =
-      let z = mapped-refused (λ (O : Outline). layout_of (new_form old)) (read_outline (new_form old)) k (sym (ap program_answer e) ∙ h) in
+  listing-refused k h =
+      let z = mapped-refused (λ (O : Outline). layout_of (new_form old)) (read_outline (new_form old)) k h in
       program-refused k (rw z)
 
 -- ---- the copy of a new file
 
 module _ (new output : List ℕ) where
   -- it cannot be written out
-  pub copied_not : (k : ℕ) (l : Loaded) (m m' : List ℕ) → l ≡ NotLoaded k → LoadedAs new l 0 m m' → Copied new (Refused k) output output
-  copied_not k l m m' e h =
-      let r : read_program new ≡ refused k = subst (λ (l : Loaded). LoadedAs new l 0 m m') e h in
-      record { answer = rw r; output = rw r }
+  pub copied_not : (e : Refusal) (m m' : List ℕ) → LoadedAs new (Err e) 0 m m' → Copied new (Err e) output output
+  copied_not e m m' r = record { answer = rw r; output = rw r }
 
   -- it can
-  pub copied : (output' : List ℕ) (n : ℕ) (l : Loaded) (m m' : List ℕ) → l ≡ Rows n → LoadedAs new l 0 m m' → output' ≡ overlay output 0 new
-      → Copied new (Written (length new)) output output'
-  copied output' n l m m' e h put =
-      let loads : Loads new 0 n m m' = subst (λ (l : Loaded). LoadedAs new l 0 m m') e h in
-      let r = loads.rows.read in
-      record { answer = rw r; output = rw r put }
+  pub copied : (output' : List ℕ) (n : ℕ) (m m' : List ℕ) → LoadedAs new (Ok n) 0 m m' → output' ≡ overlay output 0 new
+      → Copied new (Ok (length new)) output output'
+  copied output' n m m' loads put = let r = loads.rows.read in record { answer = rw r; output = rw r put }
 
 -- ---- the whole
 
@@ -107,7 +97,8 @@ refused-same (ok a) w n e = absurd (refused-ok n w (sym e))
 refused-same (refused m) w n e = cc
 
 -- a refusal leaves everything as it was
-pub unchanged : (file : Out (List ℕ)) (k : ℕ) (output scratch : List ℕ) → file ≡ refused k → Converts file (Refused k) output output scratch scratch
+pub unchanged : (file : Out (List ℕ)) (k : Refusal) (output scratch : List ℕ) → file ≡ refused (number_of k)
+    → Converts file (Err k) output output scratch scratch
 unchanged file k output scratch e = record { answer = rw e; output = rw e; scratch = scratch_as_it_was table_words wrong_blocks file scratch }
 
 module _ (old : List ℕ) (count : ℕ) (t : OldTable old count) (new : List ℕ) (is : new ≡ new_form old) where
@@ -115,11 +106,11 @@ module _ (old : List ℕ) (count : ℕ) (t : OldTable old count) (new : List ℕ
   unfolding convert
   by_new = ap (◌>>= λ P. ok (new_form old)) (sym (same old count t)) ∙ ap (λ w. read_program w >>= λ P. ok w) (sym is)
 
-  pub new-refused : (r : ProgramRead) (k : ℕ) (output scratch : List ℕ) → program_answer r ≡ mapped (λ O. layout_of new) (read_outline new) → r ≡ NotRead k
-      → Converts (convert old) (Refused k) output output scratch scratch
-  new-refused r k output scratch h e =
+  pub new-refused : (k : Refusal) (output scratch : List ℕ) → refused (number_of k) ≡ mapped (λ O. layout_of new) (read_outline new)
+      → Converts (convert old) (Err k) output output scratch scratch
+  new-refused k output scratch h =
       unchanged (convert old) k output scratch
-      (listing-refused old count t r k (subst (λ w. program_answer r ≡ mapped (λ O. layout_of w) (read_outline w)) is h) e)
+      (listing-refused old count t (number_of k) (subst (λ w. refused (number_of k) ≡ mapped (λ O. layout_of w) (read_outline w)) is h))
 
   -- a listed file is refused late
   late : (O : Outline) → read_outline new ≡ ok O → (n : ℕ) → convert old ≡ refused n → wrong_blocks < n
@@ -128,7 +119,7 @@ module _ (old : List ℕ) (count : ℕ) (t : OldTable old count) (new : List ℕ
       let program = refused-same (read_program new) new n (sym by_new ∙ e) in
       listed_refusals_analysis new O listed n (rw program)
 
-  pub new_copied : (O : Outline) → read_outline new ≡ ok O → (r : Converted) (output output' ys scratch : List ℕ) → Copied new r output output'
+  pub new_copied : (O : Outline) → read_outline new ≡ ok O → (r : Result ℕ Refusal) (output output' ys scratch : List ℕ) → Copied new r output output'
       → length ys ≡ length (take table_words scratch) → table_words ≤ length scratch
       → Converts (convert old) r output output' scratch (ys ++ drop table_words scratch)
   new_copied O listed r output output' ys scratch c l w = record {

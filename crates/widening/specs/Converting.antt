@@ -1,7 +1,7 @@
 -- What the converter's answer stands for, and what it leaves in the output and in scratch.
-use Rattle.std.specs.Prelude.{◌&&◌, true, List, ◌≡◌, ℕ, ◌+◌, ◌≤◌, ◌<◌, ◌^◌, leb, length}
+use Rattle.std.specs.Prelude.{◌&&◌, true, List, ◌≡◌, ℕ, ◌+◌, ◌≤◌, ◌<◌, ◌^◌, Result, leb, length}
 use Rattle.model.specs.Sizes.{most_program, most_fields, section_table, pair_size_lem}
-use Rattle.model.specs.Refusals.{Out, ok, refused, mapped, check, lent_too_short, wrong_blocks}
+use Rattle.model.specs.Refusals.{Out, mapped, check, lent_too_short, wrong_blocks}
 use Rattle.model.specs.Demands.{ResultOrRefusal, OrLent, OldRefusal}
 use Rattle.model.specs.Bytes.{u32_at}
 use Rattle.model.specs.Lent.{left_by, ScratchLeft}
@@ -9,8 +9,8 @@ use Rattle.model.specs.Program.{sections_in, read_program}
 use Rattle.model.specs.OldForm.{most_old, old_field_size, old_count, new_form, convert}
 use Rattle.bytes_le.specs.Overlay.{overlay}
 use Rattle.code_table.specs.Table.{table_words}
-use Rattle.widening.specs.declared.Converted.{Converted}
-use Rattle.widening.specs.declared.Converted.TheVariants.{Written, Refused}
+use Rattle.refusals.specs.Answers.{out_of}
+use Rattle.refusals.specs.declared.Refusal.{Refusal}
 
 -- the new file, where the output has room for the longest one and scratch has so many words
 unfoldable pub conversion : (words output scratch : ℕ) → List ℕ → Out (List ℕ)
@@ -21,13 +21,12 @@ abbrev pub ConversionAnswers : Type 0
 ConversionAnswers = (words output scratch : ℕ) (old : List ℕ) → ResultOrRefusal (OrLent OldRefusal) (conversion words output scratch old)
 
 -- the length of the file, or the number of the refusal
-abbrev pub length_of : Converted → Out ℕ
-length_of (Written n) = ok n
-length_of (Refused k) = refused k
+abbrev pub length_of : Result ℕ Refusal → Out ℕ
+length_of r = out_of (λ n. n) r
 
 -- the whole contract: the file stands over the output's first bytes, and every other byte is as it was; the refusals 1 to 8 are found
 -- before any word of scratch is changed
-pub record Converts (file : Out (List ℕ)) (r : Converted) (before after words words' : List ℕ) : Type 0 where
+pub record Converts (file : Out (List ℕ)) (r : Result ℕ Refusal) (before after words words' : List ℕ) : Type 0 where
   pub answer : length_of r ≡ mapped length file
   pub output : after ≡ left_by (λ f. overlay before 0 f) file before
   pub scratch : ScratchLeft table_words wrong_blocks file words words'
@@ -71,6 +70,6 @@ pub record Lent (output scratch : List ℕ) : Type 0 where
   pub words : table_words ≤ length scratch
 
 -- a new file that is read stands over the output's first bytes
-pub record Copied (new : List ℕ) (r : Converted) (before after : List ℕ) : Type 0 where
+pub record Copied (new : List ℕ) (r : Result ℕ Refusal) (before after : List ℕ) : Type 0 where
   pub answer : length_of r ≡ mapped (λ P. length new) (read_program new)
   pub output : after ≡ left_by (λ P. overlay before 0 new) (read_program new) before

@@ -1,4 +1,4 @@
-// The converter (document 02, card 5): a program of the old form, whose fields had a type alone, in the new form, where each has all
+// The converter: a program of the old form, whose fields had a type alone, in the new form, where each has all
 // bits of its type. The new file is made in bytes of its own and read as any program is; only one that is read is copied out.
 #![tactic(auto)]
 
@@ -11,8 +11,8 @@ ghost use Rattle.code_table.specs.Table.{table_words};
 ghost use Rattle.program.specs.Reading.{ProgramIsRead};
 ghost use Rattle.widening.specs.Converting.{OldTable, Widenable, LaterPair, Widened, Room, Lent, Copied, conversion, Converts};
 
-use inliner::Loaded;
-use program::{Layout, ProgramRead};
+use program::Layout;
+use refusals::Refusal;
 
 // The bytes of the longest program.
 pub const PROGRAM: usize = 8416;
@@ -29,19 +29,6 @@ const FIELD_SIZE: usize = fields::SIZE;
 const OVER_BITS: u8 = fields::OVER_BITS;
 
 const MOST_FIELDS: usize = 32;
-
-const LENT_TOO_SHORT: u8 = 1;
-
-const WRONG_SECTIONS: u8 = 2;
-
-const TOO_MANY_ENTRIES: u8 = 3;
-
-// How many bytes the new file has, or the number of the refusal.
-#[derive(Clone, Copy)]
-pub enum Converted {
-    Written(usize),
-    Refused(u8),
-}
 
 // ---- the new file
 
@@ -81,13 +68,11 @@ fn put_fields(old: &[u8], file: &mut [u8], count: usize)
     requires { Widenable old.now count file.old }
     ensures { file.new ≡ overlay file.old 32 (flat_map field_bytes (old_fields old.now)) }
 {
-    let mut f: usize = 0;
-    while f < count {
+    for f in 0..count {
         let ty = old[SECTION_TABLE + f];
         let at = SECTION_TABLE + FIELD_SIZE * f;
         file[at] = ty;
         file[at + 1] = whole_size(ty);
-        f += 1;
     }
 }
 
@@ -107,53 +92,54 @@ fn widen(old: &[u8], file: &mut [u8], count: usize) -> usize
 
 // ---- the whole
 
-// A new file that is listed is copied to the output, if it can be written out.
-fn copy_read(new: &[u8], layout: Layout, output: &mut [u8], scratch: &mut [u64]) -> Converted
+// A new file that is listed is copied to the output, if it can be written out; how many bytes it has.
+fn copy_read(
+    new: &[u8],
+    layout: Layout,
+    output: &mut [u8],
+    scratch: &mut [u64],
+) -> Result<usize, Refusal>
     requires { ProgramIsRead new.now layout × Room new.now output.old scratch.old }
     ensures { Copied new.now result output.old output.new }
 {
+    inliner::load(new, layout, scratch, 0)?;
     let n = new.len();
-    match inliner::load(new, layout, scratch, 0) {
-        Loaded::Refused(k) => Converted::Refused(k),
-        Loaded::Rows(_) => {
-            bytes_le::put_bytes(output, 0, new, n);
-            Converted::Written(n)
-        }
-    }
+    bytes_le::put_bytes(output, 0, new, n);
+    Ok(n)
 }
 
 // Of an old file whose section table is right and which has few fields. Checks 4 to 8 and 16 are those of the new file.
-fn convert_few(old: &[u8], output: &mut [u8], scratch: &mut [u64], count: usize) -> Converted
+fn convert_few(
+    old: &[u8],
+    output: &mut [u8],
+    scratch: &mut [u64],
+    count: usize,
+) -> Result<usize, Refusal>
     requires { OldTable old.now count × Lent output.old scratch.old }
     ensures { Converts (convert old.now) result output.old output.new scratch.old scratch.new }
 {
     let mut file: [u8; PROGRAM] = [0; PROGRAM];
     let n = widen(old, &mut file, count);
     let new = &file[0..n];
-    let read = program::read(new);
-    match read {
-        ProgramRead::Refused(k) => Converted::Refused(k),
-        ProgramRead::Read(layout) => copy_read(new, layout, output, &mut scratch[0..SCRATCH]),
-    }
+    let layout = program::read(new)?;
+    copy_read(new, layout, output, &mut scratch[0..SCRATCH])
 }
 
-// The new file of an old one, over the first bytes of an output of at least PROGRAM bytes, with scratch of at least SCRATCH words.
-pub fn convert(old: &[u8], output: &mut [u8], scratch: &mut [u64]) -> Converted
+// The new file of an old one, over the first bytes of an output of at least PROGRAM bytes, with scratch of at least SCRATCH words;
+// how many bytes it has.
+pub fn convert(old: &[u8], output: &mut [u8], scratch: &mut [u64]) -> Result<usize, Refusal>
     ensures { Converts (conversion table_words (length output.old) (length scratch.old) old.now) result
         output.old output.new scratch.old scratch.new }
 {
-    if output.len() < PROGRAM {
-        return Converted::Refused(LENT_TOO_SHORT);
-    }
-    if scratch.len() < SCRATCH {
-        return Converted::Refused(LENT_TOO_SHORT);
+    if output.len() < PROGRAM || scratch.len() < SCRATCH {
+        return Err(Refusal::LentTooShort);
     }
     if !program::old_sections_right(old) {
-        return Converted::Refused(WRONG_SECTIONS);
+        return Err(Refusal::WrongSections);
     }
     let count = bytes_le::u32_at(old, 4) as usize;
     if MOST_FIELDS < count {
-        return Converted::Refused(TOO_MANY_ENTRIES);
+        return Err(Refusal::TooManyEntries);
     }
     convert_few(old, output, scratch, count)
 }

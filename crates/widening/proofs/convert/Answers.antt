@@ -11,6 +11,7 @@ use Rattle.widening.specs.Converting.{conversion, Converts}
 use Rattle.widening.proofs.Answers.{unchanged, output-short, scratch-short, lent_enough, sections_wrong, fields-many}
 use Rattle.widening.proofs.convert.Goals as goal
 use Rattle.widening.proofs.convert.Goals.{Else-not-old_sections_right, Else-scratch-lt-SCRATCH}
+use Rattle.widening.proofs.convert.Goals.{then-output-lt-PROGRAM-via-then-output-lt-PROGRAM, then-output-lt-PROGRAM-via-else-output-lt-PROGRAM+then-scratch-lt-SCRATCH}
 
 -- the section table is right
 right : (c : Else-not-old_sections_right) → sections_in most_old old_field_size c.args.old.now ≡ true
@@ -25,13 +26,14 @@ enough c = let a = c.args in lent_enough (length a.output.now) (length a.scratch
 pub returns-then-output-lt-PROGRAM : goal.returns-then-output-lt-PROGRAM
 returns-then-output-lt-PROGRAM c =
     let a = c.args in
-    unchanged _ _ a.output.now a.scratch.now (output-short (length a.output.now) (length a.scratch.now) a.old.now c.if-output-lt-PROGRAM.true)
-
-pub returns-then-scratch-lt-SCRATCH : goal.returns-then-scratch-lt-SCRATCH
-returns-then-scratch-lt-SCRATCH c =
-    let a = c.args in
+    let n = length a.output.now in
+    let m = length a.scratch.now in
     unchanged _ _ a.output.now a.scratch.now
-    (scratch-short (length a.output.now) (length a.scratch.now) a.old.now c.if-output-lt-PROGRAM.false c.if-scratch-lt-SCRATCH.true)
+    (elim c.then-output-lt-PROGRAM.branch [
+      | then-output-lt-PROGRAM-via-then-output-lt-PROGRAM w ↦ output-short n m a.old.now w.if-output-lt-PROGRAM.true
+      | then-output-lt-PROGRAM-via-else-output-lt-PROGRAM+then-scratch-lt-SCRATCH w ↦
+          scratch-short n m a.old.now w.if-output-lt-PROGRAM.false w.if-scratch-lt-SCRATCH.true
+    ])
 
 pub returns-then-not-old_sections_right : goal.returns-then-not-old_sections_right
 returns-then-not-old_sections_right c =

@@ -1,9 +1,10 @@
 -- `widening::convert_few` meets its contract.
-use mathlib.Core.Path.{◌≡◌, ap, ◌∙◌}
+use mathlib.Core.Path.{◌≡◌, refl, ap, ◌∙◌}
 use mathlib.Core.List.{List}
 use Prim.Native.Nat.{ℕ, ◌-◌}
 use native.Mathlib.Omega.{arith}
 use lib.ListN.{length, take}
+use Rattle.std.proofs.lemmas.Result.{err_from_is_err_and}
 use Rattle.model.specs.OldForm.{new_form}
 use Rattle.model.proofs.Files.Lent.{documented_part}
 use Rattle.code_table.specs.Table.{table_words}
@@ -29,23 +30,25 @@ pub copy_read-requires : goal.copy_read-requires
 copy_read-requires c =
     let p = c.requires.1 in
     let l : length (new (goal.at.copy_read-requires c).After-widen-n) ≡ length (new_form c.args.old.now) = ap length (is-new (goal.at.copy_read-requires c).After-widen-n) in (
-      is_read (new (goal.at.copy_read-requires c).After-widen-n) c.read-read.result c.in-Read.layout c.read-read.ensures c.in-Read.is,
+      is_read (new (goal.at.copy_read-requires c).After-widen-n) _ c.in_ok-layout.layout c.in_ok-layout.ensures refl,
       record {
         bytes = omega (arith, l, c.widen-n.ensures.all, c.widen-n.ensures.most, p.bytes);
         words = documented_part table_words c.args.scratch.now p.words;
       },
     )
 
-pub returns-in-Refused : goal.returns-in-Refused
-returns-in-Refused c =
+pub returns-in_err-layout : goal.returns-in_err-layout
+returns-in_err-layout c =
     let a = c.args in
-    new-refused a.old.now a.count c.requires.0 (new (goal.at.returns-in-Refused c).After-widen-n) (is-new (goal.at.returns-in-Refused c).After-widen-n) c.read-read.result c.in-Refused.k a.output.now a.scratch.now
-    c.read-read.ensures c.in-Refused.is
+    let w = (goal.at.returns-in_err-layout c).After-widen-n in
+    let p = err_from_is_err_and c.from_residual.result c.from_residual.ensures.1 in
+    rw (p.1, p.2)
+    (new-refused a.old.now a.count c.requires.0 (new w) (is-new w) c.in_err-layout.field-0.0 a.output.now a.scratch.now c.in_err-layout.ensures)
 
-pub returns-in-Read : goal.returns-in-Read
-returns-in-Read c =
+pub returns : goal.returns
+returns c =
     let a = c.args in
-    let known : ProgramIsRead (new (goal.at.returns-in-Read c).After-widen-n) c.in-Read.layout =
-    is_read (new (goal.at.returns-in-Read c).After-widen-n) c.read-read.result c.in-Read.layout c.read-read.ensures c.in-Read.is in
-    new_copied a.old.now a.count c.requires.0 (new (goal.at.returns-in-Read c).After-widen-n) (is-new (goal.at.returns-in-Read c).After-widen-n) known.outline known.read c.copy_read.result a.output.now
+    let known : ProgramIsRead (new (goal.at.returns c).After-widen-n) c.in_ok-layout.layout =
+    is_read (new (goal.at.returns c).After-widen-n) _ c.in_ok-layout.layout c.in_ok-layout.ensures refl in
+    new_copied a.old.now a.count c.requires.0 (new (goal.at.returns c).After-widen-n) (is-new (goal.at.returns c).After-widen-n) known.outline known.read c.copy_read.result a.output.now
     c.copy_read.new.output c.copy_read.new.scratch a.scratch.now c.copy_read.ensures c.copy_read.auto.scratch c.requires.1.words

@@ -2,8 +2,7 @@
 use mathlib.Core.Path.{refl, ap, ◌∙◌}
 use Prim.Native.Nat.{◌+◌, ◌*◌}
 use native.Mathlib.Omega.{arith}
-use lib.ListN.{get_or, set, length-set}
-use borrow.Author.Rules.{rules}
+use lib.ListN.{get_or, length-set}
 use Rattle.model.proofs.Files.OldForms.{OldSections, old_sections}
 use Rattle.bytes_le.specs.Overlay.{overlay}
 use Rattle.widening.proofs.NewFiles.{none_first, field_more, all-fields}
@@ -15,7 +14,7 @@ sections c = old_sections c.args.old.now c.requires.table.sections
 
 -- ---- the answers
 pub loop-f-init : goal.loop-f-init
-loop-f-init c = (search rules, search rules, none_first c.args.old.now (sections (goal.at.loop-f-init c).Start) c.args.file.now)
+loop-f-init c = none_first c.args.old.now (sections (goal.at.loop-f-init c).Start) c.args.file.now
 
 pub bounds-old-f : goal.bounds-old-f
 bounds-old-f c =
@@ -25,29 +24,22 @@ bounds-old-f c =
 pub bounds-file-at : goal.bounds-file-at
 bounds-file-at c =
     let p = c.requires in
-    omega (arith, c.loop-f.invariant.1, p.room, p.table.few)
+    omega (arith, p.room, p.table.few)
 
 pub bounds-file-at-in-loop-f : goal.bounds-file-at-in-loop-f
 bounds-file-at-in-loop-f c =
     let i = c.loop-f.f in
     let same = length-set c.loop-f.file (32 + 2 * i) (get_or c.args.old.now (32 + i) 0) in
-    omega (arith, c.loop-f.invariant.1, c.requires.room, c.requires.table.few, same)
+    omega (arith, c.requires.room, c.requires.table.few, same)
 
 pub loop-f-preserved : goal.loop-f-preserved
 loop-f-preserved c =
     let a = c.args in
     let i = c.loop-f.f in
     let ty = get_or a.old.now (32 + i) 0 in
-    let first = set c.loop-f.file (32 + 2 * i) ty in (
-      omega arith,
-      length-set first (32 + 2 * i + 1) c.whole_size.result ∙ length-set c.loop-f.file (32 + 2 * i) ty ∙ c.loop-f.invariant.1,
-      field_more a.old.now (sections (goal.at.loop-f-preserved c).Start) a.file.now c.loop-f.file i ty c.whole_size.result (omega (arith, c.requires.table.is)) refl
-          c.whole_size.ensures c.loop-f.invariant.2,
-    )
-
-pub shape_of-file : goal.shape_of-file
-shape_of-file c = c.loop-f.invariant.1
+    field_more a.old.now (sections (goal.at.loop-f-preserved c).Start) a.file.now c.loop-f.file i ty c.whole_size.result (omega (arith, c.requires.table.is)) refl
+    c.whole_size.ensures c.loop-f.invariant
 
 pub returns : goal.returns
 returns c =
-    c.loop-f.invariant.2 ∙ ap (overlay c.args.file.now 32) (all-fields c.args.old.now (sections (goal.at.returns c).Start) c.loop-f.f (omega (arith, c.requires.table.is)))
+    c.loop-f.invariant ∙ ap (overlay c.args.file.now 32) (all-fields c.args.old.now (sections (goal.at.returns c).Start) c.loop-f.f (omega (arith, c.requires.table.is)))
