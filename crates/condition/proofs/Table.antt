@@ -23,7 +23,7 @@ use Rattle.model.proofs.Basics.Every.{every_of_map, every-at}
 use Rattle.model.proofs.Files.Parts.{length-entries, entries-get_or, chained_le, chained-inside, length_part, entries-part}
 use Rattle.model.proofs.Files.FieldTables.{fields-part, types-right}
 use Rattle.condition.specs.Answers.{part_nodes, part_right_lem, pair_part, pair_right, pair_place, pairs_of, fields_at, types_at, linked}
-use Rattle.condition.specs.Answers.{sizes, sizes_of, ConditionIsRead, fields_of, types_of, conjuncts_of}
+use Rattle.condition.specs.Answers.{sizes, sizes_of, ConditionIsRead, PairInside, fields_of, types_of, conjuncts_of}
 use Rattle.condition.specs.declared.Counts.{Counts}
 use Rattle.condition.proofs.Nodes.{node-narrow, right-narrow}
 use Rattle.condition.proofs.Passes.{pairs_from, pairs_step}
@@ -326,6 +326,11 @@ module _ (s : List ℕ) (c f : ℕ) (form : form_by s c f ≡ true) where
   first_four : begun ≡ true
   first_four = and_left begun (every field_right (fields_at s f)) (and_left (begun && every field_right (fields_at s f)) rights first_six)
 
+  pub form-narrow : f ≤ most_fields
+  form-narrow =
+      let first = leb counts_size (length s) && leb c most_conjuncts in
+      leb-true f most_fields (and_right first (leb f most_fields) (and_left (first && leb f most_fields) (linked s f c) first_four))
+
   pub form-chained : linked s f c ≡ true
   form-chained = and_right (leb counts_size (length s) && leb c most_conjuncts && leb f most_fields) (linked s f c) first_four
 
@@ -363,6 +368,16 @@ module _ (s : List ℕ) (k : Counts) (read : ConditionIsRead s k) (i : ℕ) (h :
   conjunct-inside =
       let q = counted-read s k read in
       pair_inside s k.fields k.conjuncts (form-chained s k.conjuncts k.fields q.form) i h
+
+  pub conjunct-placed : PairInside s k.fields (pair_place k.fields i)
+  conjunct-placed =
+      let q = counted-read s k read in
+      record {
+        few = form-narrow s k.conjuncts k.fields q.form;
+        table = omega (arith, q.table);
+        pair = omega (arith, q.table);
+        inside = conjunct-inside;
+      }
 
   pub conjunct-nodes : part_nodes (pair_part s (pair_place k.fields i)) ≡ get_or (conjuncts_of s) i []
   conjunct-nodes =

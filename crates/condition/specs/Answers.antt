@@ -1,10 +1,10 @@
 -- What the answers of the condition's reader stand for, and a node by its four numbers.
-use Rattle.std.specs.Prelude.{◌≡◌, Bool, false, ◌&&◌, List, [], ◌∷◌, map, ℕ, ◌+◌, ◌*◌, ◌/◌, ◌≤◌, ltb, eqb, length, get_or}
+use Rattle.std.specs.Prelude.{◌≡◌, Result, Ok, Err, Bool, false, ◌&&◌, List, [], ◌∷◌, map, ℕ, ◌+◌, ◌*◌, ◌/◌, ◌≤◌, ltb, eqb, length, get_or}
 use Rattle.model.specs.Sizes.{field_size, most_fields, most_nodes, node_size, counts_size, pair_size_lem}
 use Rattle.arith.specs.Step.{fits}
 use Rattle.arith.specs.Words.{immediate}
 use Rattle.model.specs.Lists.{every}
-use Rattle.model.specs.Refusals.{Out, ok, refused, mapped, check, wrong_condition}
+use Rattle.model.specs.Refusals.{Out, ok, mapped, check, wrong_condition}
 use Rattle.model.specs.Bytes.{byte_at, u16_at, u32_at, part, Pair, pair_at, entries, pairs_at, chained}
 use Rattle.model.specs.Values.{add, sub, mul, div}
 use Rattle.model.specs.Fields.{Field, field_at, types_in}
@@ -12,13 +12,9 @@ use Rattle.model.specs.Program.{type_right}
 use Rattle.model.specs.Conjunct.{field, Node as ModelNode, const, atom, op, conv, Conj, Conjuncts}
 use Rattle.model.specs.Condition.{Condition, conjuncts_at, node_at, node_right_lem, nodes_right, conjunct_at, whole, numbered, length_right, read_condition}
 use Rattle.condition.specs.declared.Node.{Node}
-use Rattle.condition.specs.declared.NodeRead.{NodeRead}
-use Rattle.condition.specs.declared.NodeRead.TheVariants.{Node as Entry, Refused as Wrong}
-use Rattle.condition.specs.declared.ConjunctRead.{ConjunctRead}
-use Rattle.condition.specs.declared.ConjunctRead.TheVariants.{Formed, Refused as Unformed}
 use Rattle.condition.specs.declared.Counts.{Counts}
-use Rattle.condition.specs.declared.ConditionRead.{ConditionRead}
-use Rattle.condition.specs.declared.ConditionRead.TheVariants.{Counts as Form, Refused}
+use Rattle.refusals.specs.declared.Refusal.{Refusal}
+use Rattle.refusals.specs.Answers.{out_of}
 
 -- ---- nodes
 
@@ -54,13 +50,12 @@ pub record NodeIs (v : Node) (s : List ℕ) (a : ℕ) : Type 0 where
   pub number : v.imm ≡ u32_at s (a + 4)
 
 -- the entry that was read has the numbers that stand at a place
-abbrev pub EntryIs : NodeRead → List ℕ → ℕ → Type 0
-EntryIs (Entry v) s a = NodeIs v s a
-EntryIs (Wrong n) s a = Unit {0}
+abbrev pub EntryIs : Result Node Refusal → List ℕ → ℕ → Type 0
+EntryIs (Ok v) s a = NodeIs v s a
+EntryIs (Err r) s a = Unit {0}
 
-abbrev pub node_out : NodeRead → Out ModelNode
-node_out (Entry v) = ok (node_from v)
-node_out (Wrong n) = refused n
+abbrev pub node_out : Result Node Refusal → Out ModelNode
+node_out = out_of node_from
 
 -- ---- parts
 
@@ -99,9 +94,8 @@ unfoldable pub pair_right : List ℕ → List ℕ → Pair → Bool
 pair_right types s p = length_right p && nodes_right types s p && whole (conjunct_at s p) && numbered (conjunct_at s p)
 
 -- a conjunct is in its form, or the number of the refusal
-abbrev pub conjunct_answer : ConjunctRead → Out (Unit {0})
-conjunct_answer Formed = ok tt
-conjunct_answer (Unformed n) = refused n
+abbrev pub conjunct_answer : Result Unit Refusal → Out (Unit {0})
+conjunct_answer = out_of (λ u. tt {0})
 
 -- by a test of the form
 abbrev pub formed : Bool → Out (Unit {0})
@@ -116,9 +110,8 @@ sizes C = (length C.conjuncts, length C.fields)
 abbrev pub sizes_of : Counts → ℕ × ℕ
 sizes_of k = (k.conjuncts, k.fields)
 
-abbrev pub condition_answer : ConditionRead → Out (ℕ × ℕ)
-condition_answer (Form k) = ok (sizes_of k)
-condition_answer (Refused n) = refused n
+abbrev pub condition_answer : Result Counts Refusal → Out (ℕ × ℕ)
+condition_answer = out_of sizes_of
 
 -- the condition is in its form, with these counts
 abbrev pub ConditionIsRead : List ℕ → Counts → Type 0

@@ -5,7 +5,7 @@
 ghost use Rattle.std.specs.Prelude.{◌≡◌, true, ◌&&◌, map, length};
 ghost use Prim.Native.Nat.{ℕ, ◌+◌, ◌*◌, ◌/◌, ◌%◌, ◌≤◌, ◌<◌, compare};
 ghost use Rattle.model.specs.Lists.{every};
-ghost use Rattle.model.specs.Refusals.{ok, refused, check, mapped, wrong_condition};
+ghost use Rattle.model.specs.Refusals.{ok, check, mapped, wrong_condition};
 ghost use Rattle.model.specs.Sizes.{field_size, most_fields, most_nodes, node_size, pair_size_lem};
 ghost use Rattle.model.specs.Bytes.{part, pair_at, pairs_at, chained};
 ghost use Rattle.model.specs.Fields.{entry_of, field_right, types_in, fields_in};
@@ -13,7 +13,9 @@ ghost use Rattle.model.specs.Conjunct.{◌then◌, order_numbers};
 ghost use Rattle.model.specs.Condition.{node_at, node_right_lem, conjunct_at, whole, numbered, is_before, rising, read_condition};
 ghost use Rattle.condition.specs.Answers.{constant_right_lem, reading_right_lem, operation_right_lem, right_by_lem, NodeIs, EntryIs, node_out};
 ghost use Rattle.condition.specs.Answers.{conjunct_answer, formed, part_nodes, part_right_lem, pair_part, pair_right, sizes, condition_answer};
-ghost use Rattle.condition.specs.Answers.{ConditionIsRead, PairInside, ConjunctIs, fields_of, types_at, pairs_of, linked};
+ghost use Rattle.condition.specs.Answers.{ConditionIsRead, PairInside, ConjunctIs, fields_of, types_at, pair_place, pairs_of, linked};
+
+use refusals::Refusal;
 
 // ---- the sizes of the condition file
 
@@ -53,9 +55,6 @@ const CONVERSION: u8 = 6;
 // how many kinds a file may hold
 const FILE_KINDS: u8 = 7;
 
-// the refusal
-const WRONG_CONDITION: u8 = 12;
-
 // A node by its numbers.
 #[derive(Clone, Copy)]
 pub struct Node {
@@ -65,32 +64,11 @@ pub struct Node {
     pub imm: u64,
 }
 
-// A node in its form, or the number of the refusal.
-#[derive(Clone, Copy)]
-enum NodeRead {
-    Node(Node),
-    Refused(u8),
-}
-
-// A conjunct is in its form, or the number of the refusal.
-#[derive(Clone, Copy)]
-enum ConjunctRead {
-    Formed,
-    Refused(u8),
-}
-
 // How many conjuncts and fields a condition has.
 #[derive(Clone, Copy)]
 pub struct Counts {
     pub conjuncts: usize,
     pub fields: usize,
-}
-
-// The condition is in its form, or the number of the refusal.
-#[derive(Clone, Copy)]
-pub enum ConditionRead {
-    Counts(Counts),
-    Refused(u8),
 }
 
 // The node with a number in a part.
@@ -163,45 +141,30 @@ fn node_right(fields: &[u8], v: Node) -> bool
 }
 
 // The node with a number in a part, if it has its form.
-fn read_node(fields: &[u8], part: &[u8], k: usize) -> NodeRead
+fn read_node(fields: &[u8], part: &[u8], k: usize) -> Result<Node, Refusal>
     requires { node_size * k + node_size ≤ length part.now }
     ensures { (node_out result ≡ check (node_right_lem (types_in (fields_in fields.now)) part.now (node_size * k)) wrong_condition
         (ok (node_at part.now (node_size * k)))) × EntryIs result part.now (node_size * k) }
 {
     let v = node_at(part, k);
-    if node_right(fields, v) {
-        return NodeRead::Node(v);
+    if !node_right(fields, v) {
+        return Err(Refusal::WrongCondition);
     }
-    NodeRead::Refused(WRONG_CONDITION)
-}
-
-// The number that the answer of the node reader holds, where it is a refusal.
-fn node_refusal(read: NodeRead) -> u8
-    ensures { (n : ℕ) → node_out read ≡ refused n → result ≡ n }
-{
-    match read {
-        NodeRead::Node(_) => 0,
-        NodeRead::Refused(n) => n,
-    }
+    Ok(v)
 }
 
 // Every node of a part has its form, and the part is one whole expression in which types agree. The
-// types on the stack stand from the bottom up.
-fn read_nodes(fields: &[u8], part: &[u8]) -> ConjunctRead
+// types on the stack stand from the bottom up, in an array with a height: nothing is allocated.
+fn read_nodes(fields: &[u8], part: &[u8]) -> Result<(), Refusal>
     requires { length part.now ≤ node_size * most_nodes }
     ensures { conjunct_answer result ≡ formed (part_right_lem (types_in (fields_in fields.now)) part.now && whole (part_nodes part.now)) }
 {
     let n = part.len() / NODE_SIZE;
     let mut stack: [u8; STACK] = [0; STACK];
     let mut height: usize = 0;
-    let mut k: usize = 0;
-    while k < n {
-        let read = read_node(fields, part, k);
-        let NodeRead::Node(v) = read else {
-            return ConjunctRead::Refused(node_refusal(read));
-        };
+    for k in 0..n {
+        let v = read_node(fields, part, k)?;
         let ty = v.ty;
-        k += 1;
         if v.kind < SUM {
             stack[height] = ty;
             height += 1;
@@ -209,26 +172,26 @@ fn read_nodes(fields: &[u8], part: &[u8]) -> ConjunctRead
         }
         if v.kind < CONVERSION {
             if height < 2 {
-                return ConjunctRead::Refused(WRONG_CONDITION);
+                return Err(Refusal::WrongCondition);
             }
             if stack[height - 1] != ty {
-                return ConjunctRead::Refused(WRONG_CONDITION);
+                return Err(Refusal::WrongCondition);
             }
             if stack[height - 2] != ty {
-                return ConjunctRead::Refused(WRONG_CONDITION);
+                return Err(Refusal::WrongCondition);
             }
             height -= 1;
             continue;
         }
         if height == 0 {
-            return ConjunctRead::Refused(WRONG_CONDITION);
+            return Err(Refusal::WrongCondition);
         }
         stack[height - 1] = ty;
     }
     if height != 1 {
-        return ConjunctRead::Refused(WRONG_CONDITION);
+        return Err(Refusal::WrongCondition);
     }
-    ConjunctRead::Formed
+    Ok(())
 }
 
 // The n of each field count from 1 by first appearance: each is one met before or the next one.
@@ -238,10 +201,8 @@ fn is_numbered(fields: &[u8], part: &[u8]) -> bool
 {
     let n = part.len() / NODE_SIZE;
     let mut seen: [u64; MOST_FIELDS] = [0; MOST_FIELDS];
-    let mut k: usize = 0;
-    while k < n {
+    for k in 0..n {
         let v = node_at(part, k);
-        k += 1;
         let kind = v.kind;
         if kind != READING {
             continue;
@@ -268,25 +229,10 @@ fn comes_before(a: &[u8], b: &[u8]) -> bool
     ensures { result ≡ is_before
         (compare (length a.now) (length b.now) then order_numbers a.now b.now) }
 {
-    if a.len() < b.len() {
-        return true;
+    if a.len() != b.len() {
+        return a.len() < b.len();
     }
-    if b.len() < a.len() {
-        return false;
-    }
-    let mut i: usize = 0;
-    while i < a.len() {
-        let x = a[i];
-        let y = b[i];
-        if x < y {
-            return true;
-        }
-        if y < x {
-            return false;
-        }
-        i += 1;
-    }
-    false
+    a < b
 }
 
 // The parts of the pairs from a place on stand one after the other, from start to the file's end.
@@ -295,8 +241,7 @@ fn is_chained(condition: &[u8], at: usize, count: usize, start: usize) -> bool
     ensures { result ≡ chained start (pairs_at condition.now at count) (length condition.now) }
 {
     let mut next = start;
-    let mut i: usize = 0;
-    while i < count {
+    for i in 0..count {
         let here = at + PAIR_SIZE * i;
         let offset = bytes_le::u32_at(condition, here) as usize;
         let len = bytes_le::u32_at(condition, here + 4) as usize;
@@ -304,17 +249,16 @@ fn is_chained(condition: &[u8], at: usize, count: usize, start: usize) -> bool
             return false;
         }
         next = offset + len;
-        i += 1;
     }
     next == condition.len()
 }
 
-// The part of the pair at a place.
-fn part_at(condition: &[u8], at: usize) -> &[u8]
-    requires { (at + pair_size_lem ≤ length condition.now)
-        × ((pair_at condition.now at).offset + (pair_at condition.now at).len ≤ length condition.now) }
-    ensures { result.now ≡ pair_part condition.now at }
+// The part of the conjunct with a number, in a file with so many fields.
+fn part_of(condition: &[u8], fields: usize, i: usize) -> &[u8]
+    requires { PairInside condition.now fields (pair_place fields i) }
+    ensures { result.now ≡ pair_part condition.now (pair_place fields i) }
 {
+    let at = COUNTS_SIZE + FIELD_SIZE * fields + PAIR_SIZE * i;
     let start = bytes_le::u32_at(condition, at) as usize;
     let len = bytes_le::u32_at(condition, at + 4) as usize;
     let end = start + len;
@@ -322,134 +266,100 @@ fn part_at(condition: &[u8], at: usize) -> &[u8]
 }
 
 // A part is a conjunct in its form.
-fn read_conjunct(fields: &[u8], part: &[u8]) -> ConjunctRead
+fn read_conjunct(fields: &[u8], part: &[u8]) -> Result<(), Refusal>
     requires { (length fields.now ≤ field_size * most_fields) × (length part.now ≤ node_size * most_nodes) }
     ensures { conjunct_answer result ≡ formed
         (part_right_lem (types_in (fields_in fields.now)) part.now && whole (part_nodes part.now) && numbered (part_nodes part.now)) }
 {
-    let read = read_nodes(fields, part);
-    let ConjunctRead::Formed = read else {
-        return read;
-    };
+    read_nodes(fields, part)?;
     if !is_numbered(fields, part) {
-        return ConjunctRead::Refused(WRONG_CONDITION);
+        return Err(Refusal::WrongCondition);
     }
-    ConjunctRead::Formed
+    Ok(())
 }
 
-// The conjunct of a pair: from one node to as many as it may have, in its form.
-fn read_pair(condition: &[u8], fields: usize, at: usize) -> ConjunctRead
-    requires { PairInside condition.now fields at }
+// The conjunct with a number: from one node to as many as it may have, in its form.
+fn read_pair(condition: &[u8], fields: usize, i: usize) -> Result<(), Refusal>
+    requires { PairInside condition.now fields (pair_place fields i) }
     ensures { conjunct_answer result ≡ formed
-        (pair_right (types_at condition.now fields) condition.now (pair_at condition.now at)) }
+        (pair_right (types_at condition.now fields) condition.now (pair_at condition.now (pair_place fields i))) }
 {
-    let held = part_at(condition, at);
+    let held = part_of(condition, fields, i);
     let len = held.len();
     if len == 0 {
-        return ConjunctRead::Refused(WRONG_CONDITION);
+        return Err(Refusal::WrongCondition);
     }
     if LONGEST_PART < len {
-        return ConjunctRead::Refused(WRONG_CONDITION);
+        return Err(Refusal::WrongCondition);
     }
     if len % NODE_SIZE != 0 {
-        return ConjunctRead::Refused(WRONG_CONDITION);
+        return Err(Refusal::WrongCondition);
     }
     let end = COUNTS_SIZE + FIELD_SIZE * fields;
     read_conjunct(&condition[COUNTS_SIZE..end], held)
 }
 
 // Every conjunct is in its form.
-fn read_conjuncts(condition: &[u8], fields: usize, count: usize) -> ConjunctRead
+fn read_conjuncts(condition: &[u8], fields: usize, count: usize) -> Result<(), Refusal>
     requires { (fields ≤ most_fields)
         × (linked condition.now fields count ≡ true) }
     ensures { conjunct_answer result ≡ formed
         (every (pair_right (types_at condition.now fields) condition.now)
         (pairs_of condition.now fields count)) }
 {
-    let mut i: usize = 0;
-    while i < count {
-        let read = read_pair(
-            condition,
-            fields,
-            COUNTS_SIZE + FIELD_SIZE * fields + PAIR_SIZE * i,
-        );
-        let ConjunctRead::Formed = read else {
-            return read;
-        };
-        i += 1;
+    for i in 0..count {
+        read_pair(condition, fields, i)?;
     }
-    ConjunctRead::Formed
-}
-
-// The number that the answer of the conjuncts' reader holds, where it is a refusal.
-fn conjunct_refusal(read: ConjunctRead) -> u8
-    ensures { (n : ℕ) → conjunct_answer read ≡ refused n → result ≡ n }
-{
-    match read {
-        ConjunctRead::Formed => 0,
-        ConjunctRead::Refused(n) => n,
-    }
+    Ok(())
 }
 
 // The conjuncts stand in rising order, none twice: each before the next.
 fn is_rising(condition: &[u8], fields: usize, count: usize) -> bool
-    requires { (linked condition.now fields count ≡ true)
+    requires { (fields ≤ most_fields) × (linked condition.now fields count ≡ true)
         × (every (pair_right (types_at condition.now fields) condition.now) (pairs_of condition.now fields count) ≡ true) }
     ensures { result ≡ rising (map (conjunct_at condition.now) (pairs_of condition.now fields count)) }
 {
-    let mut i: usize = 0;
-    while i + 1 < count {
-        let a = part_at(condition, COUNTS_SIZE + FIELD_SIZE * fields + PAIR_SIZE * i);
-        let b = part_at(
-            condition,
-            COUNTS_SIZE + FIELD_SIZE * fields + PAIR_SIZE * (i + 1),
-        );
-        let before = comes_before(a, b);
-        if !before {
+    for i in 0..count.saturating_sub(1) {
+        let a = part_of(condition, fields, i);
+        let b = part_of(condition, fields, i + 1);
+        if !comes_before(a, b) {
             return false;
         }
-        i += 1;
     }
     true
 }
 
 // The condition's form. Every refusal has the same number, so the order of the tests does not show.
-pub fn read(condition: &[u8]) -> ConditionRead
+pub fn read(condition: &[u8]) -> Result<Counts, Refusal>
     ensures { condition_answer result ≡ mapped sizes (read_condition condition.now) }
 {
     if condition.len() < COUNTS_SIZE {
-        return ConditionRead::Refused(WRONG_CONDITION);
+        return Err(Refusal::WrongCondition);
     }
     let conjuncts = bytes_le::u32_at(condition, 0) as usize;
     let fields = bytes_le::u32_at(condition, 4) as usize;
     if MOST_CONJUNCTS < conjuncts {
-        return ConditionRead::Refused(WRONG_CONDITION);
+        return Err(Refusal::WrongCondition);
     }
     if MOST_FIELDS < fields {
-        return ConditionRead::Refused(WRONG_CONDITION);
+        return Err(Refusal::WrongCondition);
     }
     let at = COUNTS_SIZE + FIELD_SIZE * fields;
     let start = at + PAIR_SIZE * conjuncts;
     if condition.len() < start {
-        return ConditionRead::Refused(WRONG_CONDITION);
+        return Err(Refusal::WrongCondition);
     }
-    let linked = is_chained(condition, at, conjuncts, start);
-    if !linked {
-        return ConditionRead::Refused(WRONG_CONDITION);
+    if !is_chained(condition, at, conjuncts, start) {
+        return Err(Refusal::WrongCondition);
     }
-    let listed = fields::all_right(&condition[COUNTS_SIZE..at]);
-    if !listed {
-        return ConditionRead::Refused(WRONG_CONDITION);
+    if !fields::all_right(&condition[COUNTS_SIZE..at]) {
+        return Err(Refusal::WrongCondition);
     }
-    let formed = read_conjuncts(condition, fields, conjuncts);
-    let ConjunctRead::Formed = formed else {
-        return ConditionRead::Refused(conjunct_refusal(formed));
-    };
-    let sorted = is_rising(condition, fields, conjuncts);
-    if !sorted {
-        return ConditionRead::Refused(WRONG_CONDITION);
+    read_conjuncts(condition, fields, conjuncts)?;
+    if !is_rising(condition, fields, conjuncts) {
+        return Err(Refusal::WrongCondition);
     }
-    ConditionRead::Counts(Counts { conjuncts, fields })
+    Ok(Counts { conjuncts, fields })
 }
 
 // A conjunct of a condition that is read, as the part that starts at its offset.
@@ -457,8 +367,7 @@ pub fn conjunct(condition: &[u8], counts: Counts, i: usize) -> &[u8]
     requires { ConditionIsRead condition.now counts × (i < counts.conjuncts) }
     ensures { ConjunctIs condition.now counts i result.now }
 {
-    let fields = counts.fields;
-    part_at(condition, COUNTS_SIZE + FIELD_SIZE * fields + PAIR_SIZE * i)
+    part_of(condition, counts.fields, i)
 }
 
 // The table of the fields of a condition that is read.

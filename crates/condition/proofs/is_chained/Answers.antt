@@ -7,24 +7,22 @@ use Rattle.condition.proofs.is_chained.Goals as goal
 pub loop-i-init : goal.loop-i-init
 loop-i-init c =
     let g = c.args in
-    (omega arith, rw (pairs_all g.condition.now g.at g.count))
+    rw (pairs_all g.condition.now g.at g.count)
 
 pub returns-then-offset-next : goal.returns-then-offset-next
 returns-then-offset-next c =
     let g = c.args in
-    sym (c.loop-i.invariant.1 ∙ chained_off g.condition.now g.at g.count c.loop-i.i c.loop-i.next _ _ (omega arith)
+    sym (c.loop-i.invariant ∙ chained_off g.condition.now g.at g.count c.loop-i.i c.loop-i.next _ _ (omega arith)
     c.u32_at-offset.ensures.0 c.u32_at-len.ensures.0 _ c.if-offset-next.true)
 
 pub loop-i-preserved : goal.loop-i-preserved
 loop-i-preserved c =
-    let g = c.args in (
-      omega arith,
-      c.loop-i.invariant.1
-          ∙ chained_on g.condition.now g.at g.count c.loop-i.i c.loop-i.next _ _ (omega arith) c.u32_at-offset.ensures.0
-          c.u32_at-len.ensures.0 _ c.if-offset-next.false,
-    )
+    let g = c.args in
+    c.loop-i.invariant
+    ∙ chained_on g.condition.now g.at g.count c.loop-i.i c.loop-i.next _ _ (omega arith) c.u32_at-offset.ensures.0
+    c.u32_at-len.ensures.0 _ c.if-offset-next.false
 
 pub returns : goal.returns
 returns c =
     let g = c.args in
-    sym (c.loop-i.invariant.1 ∙ chained-end g.condition.now g.at g.count c.loop-i.i c.loop-i.next _ c.loop-i-test.false)
+    sym (c.loop-i.invariant ∙ chained-end g.condition.now g.at g.count c.loop-i.i c.loop-i.next _ (omega arith))

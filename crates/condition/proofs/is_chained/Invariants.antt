@@ -1,6 +1,5 @@
 -- `condition::is_chained` meets its contract.
 use mathlib.Core.Path.{◌≡◌}
-use Prim.Native.Nat.{◌-◌, ◌≤◌}
 use lib.ListN.{length}
 use Rattle.model.specs.Bytes.{pairs_at, chained}
 use Rattle.condition.proofs.Passes.{pairs_from}
@@ -8,7 +7,4 @@ use Rattle.condition.proofs.is_chained.Given as goal
 
 abbrev pub invariant-loop-i : goal.invariant-loop-i
 invariant-loop-i l =
-    (l.i ≤ l.count) × (chained l.start (pairs_at l.condition l.at l.count) (length l.condition) ≡ chained l.next (pairs_from l.condition l.at l.count l.i) (length l.condition))
-
-abbrev pub decreases-loop-i : goal.decreases-loop-i
-decreases-loop-i l = l.count - l.i
+    chained l.start (pairs_at l.condition l.at l.count) (length l.condition) ≡ chained l.next (pairs_from l.condition l.at l.count l.i) (length l.condition)

@@ -23,15 +23,14 @@ few fields part k v seen is more right short reading =
 
 -- ---- the answers
 pub loop-k-init : goal.loop-k-init
-loop-k-init c = (omega arith, refl, refl, counted_none _ _ _ refl)
+loop-k-init c = (refl, refl, counted_none _ _ _ refl)
 
 pub loop-k-preserved-then-kind-ne-READING : goal.loop-k-preserved-then-kind-ne-READING
 loop-k-preserved-then-kind-ne-READING c =
     let v = c.node_at-v in (
-      omega arith,
       refl,
-      c.loop-k.invariant.2,
-      c.loop-k.invariant.3
+      c.loop-k.invariant.1,
+      c.loop-k.invariant.2
           ∙ counted_skip c.args.part.now (length c.args.part.now / node_size) c.loop-k.k v.result v.ensures c.loop-k-test.true
           (seen_of (types_in (fields_in c.args.fields.now)) c.loop-k.seen) c.if-kind-ne-READING.true,
     )
@@ -44,23 +43,22 @@ bounds-seen-f c = omega (arith, few c.args.fields.now c.args.part.now c.loop-k.k
 
 pub returns-then-i-eq0 : goal.returns-then-i-eq0
 returns-then-i-eq0 c =
-    sym (c.loop-k.invariant.3
+    sym (c.loop-k.invariant.2
     ∙ counted-zero c.args.part.now (length c.args.part.now / node_size) c.loop-k.k c.node_at-v.result c.node_at-v.ensures c.loop-k-test.true (types_in (fields_in c.args.fields.now)) c.loop-k.seen c.requires.1
     c.if-kind-ne-READING.false c.if-i-eq0.true)
 
 pub loop-k-preserved-then-i-last : goal.loop-k-preserved-then-i-last
 loop-k-preserved-then-i-last c = (
-  omega arith,
   refl,
-  c.loop-k.invariant.2,
-  c.loop-k.invariant.3
+  c.loop-k.invariant.1,
+  c.loop-k.invariant.2
       ∙ counted_met c.args.part.now (length c.args.part.now / node_size) c.loop-k.k c.node_at-v.result c.node_at-v.ensures c.loop-k-test.true (types_in (fields_in c.args.fields.now)) c.loop-k.seen
       c.requires.1 c.if-kind-ne-READING.false c.if-i-eq0.false c.if-i-last.true,
 )
 
 pub returns-then-i-last-2 : goal.returns-then-i-last-2
 returns-then-i-last-2 c =
-    sym (c.loop-k.invariant.3
+    sym (c.loop-k.invariant.2
     ∙ counted_jump c.args.part.now (length c.args.part.now / node_size) c.loop-k.k c.node_at-v.result c.node_at-v.ensures c.loop-k-test.true (types_in (fields_in c.args.fields.now)) c.loop-k.seen c.requires.1
     c.if-kind-ne-READING.false c.if-i-last.false c.if-i-last-2.true)
 
@@ -72,13 +70,12 @@ bounds-seen-f-in-loop-k c = omega (arith, few c.args.fields.now c.args.part.now 
 
 pub loop-k-preserved : goal.loop-k-preserved
 loop-k-preserved c = (
-  omega arith,
   refl,
-  simp length-set c.loop-k.invariant.2,
-  c.loop-k.invariant.3
+  simp length-set c.loop-k.invariant.1,
+  c.loop-k.invariant.2
       ∙ counted_next c.args.part.now (length c.args.part.now / node_size) c.loop-k.k c.node_at-v.result c.node_at-v.ensures c.loop-k-test.true (types_in (fields_in c.args.fields.now)) c.loop-k.seen
       c.requires.1 c.if-kind-ne-READING.false (omega (arith, types-length c.args.fields.now)) c.if-i-last.false c.if-i-last-2.false,
 )
 
 pub returns : goal.returns
-returns c = sym (c.loop-k.invariant.3 ∙ counted-end _ _ _ _ c.loop-k-test.false)
+returns c = sym (c.loop-k.invariant.2 ∙ counted-end _ _ _ _ (omega arith))

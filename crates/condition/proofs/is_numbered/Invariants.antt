@@ -1,6 +1,6 @@
 -- `condition::is_numbered` meets its contract.
 use mathlib.Core.Path.{◌≡◌}
-use Prim.Native.Nat.{◌-◌, ◌/◌, ◌≤◌}
+use Prim.Native.Nat.{◌/◌}
 use lib.ListN.{length}
 use Rattle.model.specs.Sizes.{node_size, most_fields}
 use Rattle.model.specs.Fields.{types_in, fields_in}
@@ -12,7 +12,4 @@ use Rattle.condition.proofs.is_numbered.Given as goal
 
 abbrev pub invariant-loop-k : goal.invariant-loop-k
 invariant-loop-k l =
-    (l.k ≤ l.n) × (l.n ≡ length l.part / node_size) × (length l.seen ≡ most_fields) × (numbered (part_nodes l.part) ≡ counted (seen_of (types_in (fields_in l.fields)) l.seen) (rest l.part l.n l.k))
-
-abbrev pub decreases-loop-k : goal.decreases-loop-k
-decreases-loop-k l = l.n - l.k
+    (l.n ≡ length l.part / node_size) × (length l.seen ≡ most_fields) × (numbered (part_nodes l.part) ≡ counted (seen_of (types_in (fields_in l.fields)) l.seen) (rest l.part l.n l.k))

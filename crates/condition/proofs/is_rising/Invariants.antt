@@ -1,7 +1,7 @@
 -- `condition::is_rising` meets its contract.
 use mathlib.Core.Path.{◌≡◌}
 use mathlib.Core.List.{map}
-use Prim.Native.Nat.{◌+◌, ◌-◌, ◌*◌, ◌≤◌}
+use Prim.Native.Nat.{◌+◌, ◌*◌, ◌≤◌}
 use lib.ListN.{length}
 use Rattle.model.specs.Sizes.{field_size, counts_size}
 use Rattle.condition.specs.Answers.{pairs_of}
@@ -11,8 +11,5 @@ use Rattle.condition.proofs.is_rising.Given as goal
 
 abbrev pub invariant-loop-i : goal.invariant-loop-i
 invariant-loop-i l =
-    (l.i ≤ l.count) × (conjuncts_at l.fields l.count ≤ length l.condition)
+    (conjuncts_at l.fields l.count ≤ length l.condition)
     × (rising (map (conjunct_at l.condition) (pairs_of l.condition l.fields l.count)) ≡ rising (conjuncts_from l.condition (counts_size + field_size * l.fields) l.count l.i))
-
-abbrev pub decreases-loop-i : goal.decreases-loop-i
-decreases-loop-i l = l.count - l.i

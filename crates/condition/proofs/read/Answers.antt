@@ -10,12 +10,14 @@ use Rattle.model.specs.Condition.{conjunct_at, rising, read_condition}
 use Rattle.model.specs.Lists.{every}
 use Rattle.model.specs.Fields.{field_right}
 use Rattle.model.specs.Refusals.{refused, mapped, wrong_condition}
-use Rattle.condition.specs.Answers.{conjunct_answer, pair_right, sizes, pairs_of, fields_at, types_at, linked}
+use Rattle.condition.specs.Answers.{pair_right, sizes, pairs_of, fields_at, types_at, linked}
 use Rattle.condition.proofs.Passes.{formed-true, formed-false}
 use Rattle.condition.proofs.Table.{fields-taken, form_by, refuses, accepts, form-short, form-many, form_wide, form_cut}
 use Rattle.condition.proofs.Table.{form_unchained, form_unlisted, form_wrong, form-is}
+use Rattle.std.proofs.lemmas.Result.{err_from_is_err_and}
+use Rattle.refusals.specs.Answers.{number_of}
 use Rattle.condition.proofs.read.Goals as goal
-use Rattle.condition.proofs.read.Goals.{After-u32_at-fields, Else-condition-start, Else-not-linked, Else-not-listed, In-Formed}
+use Rattle.condition.proofs.read.Goals.{After-u32_at-fields, Else-condition-start, Else-not-is_chained, Else-not-all_right, In_ok-read_conjuncts}
 
 -- ---- the places: where the counts were read, and where each test has passed
 
@@ -23,28 +25,28 @@ use Rattle.condition.proofs.read.Goals.{After-u32_at-fields, Else-condition-star
 not-read : (c : After-u32_at-fields) → form_by c.args.condition.now c.u32_at-conjuncts.result c.u32_at-fields.result ≡ false → refused wrong_condition ≡ mapped sizes (read_condition c.args.condition.now)
 not-read c e = refuses c.args.condition.now c.u32_at-conjuncts.result c.u32_at-fields.result c.u32_at-conjuncts.ensures.0 c.u32_at-fields.ensures.0 e
 
-chain : (c : Else-not-linked) → linked c.args.condition.now c.u32_at-fields.result c.u32_at-conjuncts.result ≡ true
-chain c = sym c.is_chained-linked.ensures ∙ c.if-not-linked.false
+chain : (c : Else-not-is_chained) → linked c.args.condition.now c.u32_at-fields.result c.u32_at-conjuncts.result ≡ true
+chain c = sym c.is_chained.ensures ∙ c.if-not-is_chained.false
 
 -- the table lies in the file
 room : (w : Else-condition-start) → counts_size + field_size * w.u32_at-fields.result ≤ length w.args.condition.now
 room w = omega (arith, w.if-condition-start.false)
 
-listed : (c : Else-not-listed) → every field_right (fields_at c.args.condition.now c.u32_at-fields.result) ≡ true
+listed : (c : Else-not-all_right) → every field_right (fields_at c.args.condition.now c.u32_at-fields.result) ≡ true
 listed c =
-    ap (every field_right) (sym (fields-taken c.args.condition.now c.u32_at-fields.result (room (goal.at.Else-not-listed c).Else-condition-start))) ∙ sym c.all_right-listed.ensures
-    ∙ c.if-not-listed.false
+    ap (every field_right) (sym (fields-taken c.args.condition.now c.u32_at-fields.result (room (goal.at.Else-not-all_right c).Else-condition-start))) ∙ sym c.all_right.ensures
+    ∙ c.if-not-all_right.false
 
-pairs : (c : In-Formed) → every (pair_right (types_at c.args.condition.now c.u32_at-fields.result) c.args.condition.now)
+pairs : (c : In_ok-read_conjuncts) → every (pair_right (types_at c.args.condition.now c.u32_at-fields.result) c.args.condition.now)
     (pairs_of c.args.condition.now c.u32_at-fields.result c.u32_at-conjuncts.result) ≡ true
-pairs c = formed-true _ (sym (ap conjunct_answer c.in-Formed.is) ∙ c.read_conjuncts-formed.ensures)
+pairs c = formed-true _ c.in_ok-read_conjuncts.ensures
 
 -- the form is the order
-ordered : (c : In-Formed) → form_by c.args.condition.now c.u32_at-conjuncts.result c.u32_at-fields.result
+ordered : (c : In_ok-read_conjuncts) → form_by c.args.condition.now c.u32_at-conjuncts.result c.u32_at-fields.result
     ≡ rising (map (conjunct_at c.args.condition.now) (pairs_of c.args.condition.now c.u32_at-fields.result c.u32_at-conjuncts.result))
 ordered c =
-    form-is c.args.condition.now c.u32_at-conjuncts.result c.u32_at-fields.result c.if-condition-lt-COUNTS_SIZE.false c.if-conjuncts-gt-MOST_CONJUNCTS.false c.if-fields-gt-MOST_FIELDS.false (chain (goal.at.In-Formed c).Else-not-linked)
-    (listed (goal.at.In-Formed c).Else-not-listed) (pairs c)
+    form-is c.args.condition.now c.u32_at-conjuncts.result c.u32_at-fields.result c.if-condition-lt-COUNTS_SIZE.false c.if-conjuncts-gt-MOST_CONJUNCTS.false c.if-fields-gt-MOST_FIELDS.false (chain (goal.at.In_ok-read_conjuncts c).Else-not-is_chained)
+    (listed (goal.at.In_ok-read_conjuncts c).Else-not-all_right) (pairs c)
 
 -- ---- the answers
 pub returns-then-condition-lt-COUNTS_SIZE : goal.returns-then-condition-lt-COUNTS_SIZE
@@ -65,38 +67,38 @@ returns-then-condition-start c =
     not-read (goal.at.returns-then-condition-start c).After-u32_at-fields (form_cut c.args.condition.now c.u32_at-conjuncts.result c.u32_at-fields.result c.if-condition-lt-COUNTS_SIZE.false c.if-conjuncts-gt-MOST_CONJUNCTS.false c.if-fields-gt-MOST_FIELDS.false
     c.if-condition-start.true)
 
-pub returns-then-not-linked : goal.returns-then-not-linked
-returns-then-not-linked c =
-    let broken = sym c.is_chained-linked.ensures ∙ c.if-not-linked.true in
-    not-read (goal.at.returns-then-not-linked c).After-u32_at-fields (form_unchained c.args.condition.now c.u32_at-conjuncts.result c.u32_at-fields.result c.if-condition-lt-COUNTS_SIZE.false c.if-conjuncts-gt-MOST_CONJUNCTS.false
+pub returns-then-not-is_chained : goal.returns-then-not-is_chained
+returns-then-not-is_chained c =
+    let broken = sym c.is_chained.ensures ∙ c.if-not-is_chained.true in
+    not-read (goal.at.returns-then-not-is_chained c).After-u32_at-fields (form_unchained c.args.condition.now c.u32_at-conjuncts.result c.u32_at-fields.result c.if-condition-lt-COUNTS_SIZE.false c.if-conjuncts-gt-MOST_CONJUNCTS.false
     c.if-fields-gt-MOST_FIELDS.false broken)
 
-pub returns-then-not-listed : goal.returns-then-not-listed
-returns-then-not-listed c =
-    let wrong = ap (every field_right) (sym (fields-taken c.args.condition.now c.u32_at-fields.result (room (goal.at.returns-then-not-listed c).Else-condition-start))) ∙ sym c.all_right-listed.ensures
-    ∙ c.if-not-listed.true in
-    not-read (goal.at.returns-then-not-listed c).After-u32_at-fields (form_unlisted c.args.condition.now c.u32_at-conjuncts.result c.u32_at-fields.result c.if-condition-lt-COUNTS_SIZE.false c.if-conjuncts-gt-MOST_CONJUNCTS.false c.if-fields-gt-MOST_FIELDS.false
-    (chain (goal.at.returns-then-not-listed c).Else-not-linked) wrong)
+pub returns-then-not-all_right : goal.returns-then-not-all_right
+returns-then-not-all_right c =
+    let wrong = ap (every field_right) (sym (fields-taken c.args.condition.now c.u32_at-fields.result (room (goal.at.returns-then-not-all_right c).Else-condition-start))) ∙ sym c.all_right.ensures
+    ∙ c.if-not-all_right.true in
+    not-read (goal.at.returns-then-not-all_right c).After-u32_at-fields (form_unlisted c.args.condition.now c.u32_at-conjuncts.result c.u32_at-fields.result c.if-condition-lt-COUNTS_SIZE.false c.if-conjuncts-gt-MOST_CONJUNCTS.false c.if-fields-gt-MOST_FIELDS.false
+    (chain (goal.at.returns-then-not-all_right c).Else-not-is_chained) wrong)
 
-pub read_conjuncts-formed-requires : goal.read_conjuncts-formed-requires
-read_conjuncts-formed-requires c = (c.if-fields-gt-MOST_FIELDS.false, chain (goal.at.read_conjuncts-formed-requires c).Else-not-linked)
+pub read_conjuncts-requires : goal.read_conjuncts-requires
+read_conjuncts-requires c = (c.if-fields-gt-MOST_FIELDS.false, chain (goal.at.read_conjuncts-requires c).Else-not-is_chained)
 
-pub returns-in_default : goal.returns-in_default
-returns-in_default c =
-    let off = formed-false _ c.in_default.field-0 (sym (ap conjunct_answer c.in_default.is) ∙ c.read_conjuncts-formed.ensures) in
-    let number = c.conjunct_refusal.ensures c.in_default.field-0 (ap conjunct_answer c.in_default.is) ∙ off.1 in
-    rw number
-    (not-read (goal.at.returns-in_default c).After-u32_at-fields (form_wrong c.args.condition.now c.u32_at-conjuncts.result c.u32_at-fields.result c.if-condition-lt-COUNTS_SIZE.false c.if-conjuncts-gt-MOST_CONJUNCTS.false c.if-fields-gt-MOST_FIELDS.false
-    (chain (goal.at.returns-in_default c).Else-not-linked) (listed (goal.at.returns-in_default c).Else-not-listed) off.0))
+pub returns-in_err-read_conjuncts : goal.returns-in_err-read_conjuncts
+returns-in_err-read_conjuncts c =
+    let off = formed-false _ (number_of c.in_err-read_conjuncts.field-0.0) c.in_err-read_conjuncts.ensures in
+    let p = err_from_is_err_and c.from_residual.result c.from_residual.ensures.1 in
+    rw (p.1, p.2, off.1)
+    (not-read (goal.at.returns-in_err-read_conjuncts c).After-u32_at-fields (form_wrong c.args.condition.now c.u32_at-conjuncts.result c.u32_at-fields.result c.if-condition-lt-COUNTS_SIZE.false c.if-conjuncts-gt-MOST_CONJUNCTS.false c.if-fields-gt-MOST_FIELDS.false
+    (chain (goal.at.returns-in_err-read_conjuncts c).Else-not-is_chained) (listed (goal.at.returns-in_err-read_conjuncts c).Else-not-all_right) off.0))
 
-pub is_rising-sorted-requires : goal.is_rising-sorted-requires
-is_rising-sorted-requires c = (chain (goal.at.is_rising-sorted-requires c).Else-not-linked, pairs c)
+pub is_rising-requires : goal.is_rising-requires
+is_rising-requires c = (c.if-fields-gt-MOST_FIELDS.false, chain (goal.at.is_rising-requires c).Else-not-is_chained, pairs c)
 
-pub returns-then-not-sorted : goal.returns-then-not-sorted
-returns-then-not-sorted c =
-    not-read (goal.at.returns-then-not-sorted c).After-u32_at-fields (ordered (goal.at.returns-then-not-sorted c).In-Formed ∙ sym c.is_rising-sorted.ensures ∙ c.if-not-sorted.true)
+pub returns-then-not-is_rising : goal.returns-then-not-is_rising
+returns-then-not-is_rising c =
+    not-read (goal.at.returns-then-not-is_rising c).After-u32_at-fields (ordered (goal.at.returns-then-not-is_rising c).In_ok-read_conjuncts ∙ sym c.is_rising.ensures ∙ c.if-not-is_rising.true)
 
 pub returns : goal.returns
 returns c =
     accepts c.args.condition.now c.u32_at-conjuncts.result c.u32_at-fields.result c.u32_at-conjuncts.ensures.0 c.u32_at-fields.ensures.0
-    (ordered (goal.at.returns c).In-Formed ∙ sym c.is_rising-sorted.ensures ∙ c.if-not-sorted.false)
+    (ordered (goal.at.returns c).In_ok-read_conjuncts ∙ sym c.is_rising.ensures ∙ c.if-not-is_rising.false)

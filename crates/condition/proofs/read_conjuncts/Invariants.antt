@@ -2,7 +2,7 @@
 use mathlib.Core.Path.{◌≡◌}
 use mathlib.Core.Bool.{Bool}
 use mathlib.Core.List.{List}
-use Prim.Native.Nat.{ℕ, ◌+◌, ◌-◌, ◌*◌, ◌≤◌}
+use Prim.Native.Nat.{ℕ, ◌+◌, ◌*◌, ◌≤◌}
 use lib.ListN.{length}
 use Rattle.model.specs.Sizes.{field_size, counts_size}
 use Rattle.model.specs.Condition.{conjuncts_at}
@@ -18,9 +18,6 @@ test condition fields = pair_right (types_at condition fields) condition
 
 abbrev pub invariant-loop-i : goal.invariant-loop-i
 invariant-loop-i l =
-    (l.i ≤ l.count) × (conjuncts_at l.fields l.count ≤ length l.condition)
+    (conjuncts_at l.fields l.count ≤ length l.condition)
     × (every (test l.condition l.fields) (pairs_of l.condition l.fields l.count)
     ≡ every (test l.condition l.fields) (pairs_from l.condition (counts_size + field_size * l.fields) l.count l.i))
-
-abbrev pub decreases-loop-i : goal.decreases-loop-i
-decreases-loop-i l = l.count - l.i

@@ -2,7 +2,7 @@
 -- they leave.
 use mathlib.Core.Path.{◌≡◌}
 use mathlib.Core.List.{[]}
-use Prim.Native.Nat.{◌-◌, ◌/◌, ◌≤◌}
+use Prim.Native.Nat.{◌/◌, ◌≤◌}
 use lib.ListN.{length}
 use Rattle.model.specs.Sizes.{node_size}
 use Rattle.model.specs.Fields.{types_in, fields_in}
@@ -17,9 +17,6 @@ use Rattle.condition.proofs.read_nodes.Given as goal
 
 abbrev pub invariant-loop-k : goal.invariant-loop-k
 invariant-loop-k l =
-    (l.k ≤ l.n) × (l.n ≡ length l.part / node_size) × (length l.stack ≡ stack_cells) × (l.height ≤ l.k)
+    (l.n ≡ length l.part / node_size) × (length l.stack ≡ stack_cells) × (l.height ≤ l.k)
     × (type_nodes (part_nodes l.part) [] ≡ type_nodes (rest l.part l.n l.k) (stack_of l.stack l.height))
     × (part_right_lem (types_in (fields_in l.fields)) l.part ≡ every (λ b. b) (forms_from (types_in (fields_in l.fields)) l.part l.n l.k))
-
-abbrev pub decreases-loop-k : goal.decreases-loop-k
-decreases-loop-k l = l.n - l.k
