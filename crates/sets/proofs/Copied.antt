@@ -2,16 +2,13 @@
 use mathlib.Core.List.{List, map}
 use mathlib.Core.Logic.{◌⊎◌, inl, inr}
 use mathlib.Core.Path.{◌≡◌, refl, sym, ap, ◌∙◌}
-use Prim.Native.Nat.{ℕ, ◌+◌, ◌*◌, ◌<◌, ◌≤◌}
+use Prim.Native.Nat.{ℕ, ◌+◌, ◌-◌, ◌*◌, ◌<◌, ◌≤◌}
 use native.Mathlib.Omega.{arith}
-use lib.ListN.{length, get_or, take, drop, set, length-drop, length-set}
-use lib.Seq.{get_or-take, get_or-drop, length-take-le, get_or-set_same, get_or-set_other}
+use lib.ListN.{length, get_or, take, set, length-set}
+use lib.Seq.{get_or-set_same, get_or-set_other}
 use Rattle.model.specs.Sizes.{most_conjuncts, most_nodes}
-use Rattle.bytes_le.proofs.Overlays.{overlay_more, length-overlay}
-use Rattle.bytes_le.specs.Overlay.{overlay}
 use Rattle.conjunct.proofs.node.WordOrder.{Tri, less, equal, more, tri}
 use Rattle.conjunct.specs.Word.{nodes_of_lem}
-use Rattle.sets.proofs.Overlaid.{overlay-before, overlay-beyond, overlay-inside}
 use Rattle.sets.proofs.Rows.{few-most, few-is, part_same, slot_same, slot_kept, rows_same}
 use Rattle.sets.proofs.slots.Words.{slot-words}
 use Rattle.sets.specs.Region.{few, slot_at, rows_from, rows_of, set_of, Outside, Within, Apart, region_words, slot_words}
@@ -19,48 +16,27 @@ use Rattle.sets.specs.Region.{few, slot_at, rows_from, rows_of, set_of, Outside,
 -- ---- the words of a slot
 
 module _ (s₀ : List ℕ) (to from : ℕ) (h : to + slot_words ≤ length s₀) (g : from + slot_words ≤ length s₀) where
-  part_length : (j : ℕ) → j ≤ slot_words → length (take j (drop from s₀)) ≡ j
-  part_length j k = length-take-le j (drop from s₀) (rw length-drop (omega arith))
-
-  pub word_copied : Apart slot_words to from → (s : List ℕ) (j : ℕ) → j < slot_words
-      → s ≡ overlay s₀ to (take j (drop from s₀))
-      → set s (to + j) (get_or s (from + j) 0) ≡ overlay s₀ to (take (j + 1) (drop from s₀))
-  word_copied apart s j k e =
-      let d : j < length (drop from s₀) = rw length-drop (omega arith) in
-      let word : get_or s (from + j) 0 ≡ get_or (drop from s₀) j 0 = ap (λ l. get_or l (from + j) 0) e ∙ kept apart ∙ sym (get_or-drop from s₀ j 0) in
-      rw word (ap (λ l. set l (to + j) (get_or (drop from s₀) j 0)) e ∙ overlay_more s₀ to (drop from s₀) j d)
-    where
-      kept : Apart slot_words to from → get_or (overlay s₀ to (take j (drop from s₀))) (from + j) 0 ≡ get_or s₀ (from + j) 0
-      kept (inl p) = overlay-beyond (take j (drop from s₀)) s₀ to (from + j) (omega (arith, part_length j (omega arith)))
-      kept (inr p) = overlay-before (take j (drop from s₀)) s₀ to (from + j) (omega arith)
-
-  -- the count and n words, if n is the count as far as it goes
+  -- the count and n words copied, if n is the count as far as it goes
   pub slot_copied : (s : List ℕ) (n : ℕ) → n ≤ most_nodes → ((l : List ℕ) → length l ≡ most_nodes → take n l ≡ take (get_or s₀ from 0) l)
-      → s ≡ overlay s₀ to (take (1 + n) (drop from s₀))
+      → length s ≡ length s₀
+      → ((x : ℕ) → to ≤ x → x < to + (1 + n) → get_or s x 0 ≡ get_or s₀ (from + (x - to)) 0)
+      → ((x : ℕ) → x < to → get_or s x 0 ≡ get_or s₀ x 0)
+      → ((x : ℕ) → to + (1 + n) ≤ x → get_or s x 0 ≡ get_or s₀ x 0)
       → (slot_at s to ≡ slot_at s₀ from) × Outside to slot_words s₀ s
-  slot_copied s n k f e = (
+  slot_copied s n k f size copied below beyond = (
     sym (slot-words s to n (omega (arith, size)) k (λ l q. f l q ∙ ap (λ c. take c l) (sym count)))
         ∙ part_same s₀ s (from + 1) (to + 1) n (omega arith) (omega (arith, size)) (λ x q.
         let u : from + (x + 1) ≡ from + 1 + x = omega arith in
         let v : to + (x + 1) ≡ to + 1 + x = omega arith in
         ap (λ i. get_or s i 0) (sym v) ∙ word (x + 1) (omega arith) ∙ ap (λ i. get_or s₀ i 0) u)
         ∙ slot-words s₀ from n g k f,
-    λ i q. ap (λ l. get_or l i 0) e ∙ away i q,
+    away,
   )
     where
-      P : List ℕ
-      P = take (1 + n) (drop from s₀)
-
-      len : length P ≡ 1 + n
-      len = part_length (1 + n) (omega arith)
-
-      size : length s ≡ length s₀
-      size = ap length e ∙ length-overlay P s₀ to
-
       word : (x : ℕ) → x < 1 + n → get_or s (to + x) 0 ≡ get_or s₀ (from + x) 0
       word x q =
-          ap (λ l. get_or l (to + x) 0) e ∙ overlay-inside P s₀ to x (omega (arith, len)) (omega (arith, len)) ∙ get_or-take (1 + n) (drop from s₀) x 0 q
-          ∙ get_or-drop from s₀ x 0
+          let u : from + (to + x - to) ≡ from + x = omega arith in
+          copied (to + x) (omega arith) (omega arith) ∙ ap (λ i. get_or s₀ i 0) u
 
       count : get_or s to 0 ≡ get_or s₀ from 0
       count =
@@ -68,9 +44,9 @@ module _ (s₀ : List ℕ) (to from : ℕ) (h : to + slot_words ≤ length s₀)
           let v : to + 0 ≡ to = omega arith in
           ap (λ i. get_or s i 0) (sym v) ∙ word 0 (omega arith) ∙ ap (λ i. get_or s₀ i 0) u
 
-      away : (i : ℕ) → (i < to) ⊎ (to + slot_words ≤ i) → get_or (overlay s₀ to P) i 0 ≡ get_or s₀ i 0
-      away i (inl p) = overlay-before P s₀ to i p
-      away i (inr p) = overlay-beyond P s₀ to i (omega (arith, len))
+      away : (i : ℕ) → (i < to) ⊎ (to + slot_words ≤ i) → get_or s i 0 ≡ get_or s₀ i 0
+      away i (inl p) = below i p
+      away i (inr p) = beyond i (omega arith)
 
 -- ---- slot after slot
 

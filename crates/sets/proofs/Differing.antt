@@ -18,7 +18,8 @@ use Rattle.model.proofs.Conjuncts.Remains.{Remains, insert_here}
 use Rattle.model.proofs.Basics.Tests.{case, true→T}
 use Rattle.sets.specs.Minus.{has, minus}
 use Rattle.sets.specs.Region.{Spotted}
-use Rattle.sets.specs.declared.Spot.TheVariants.{Here, Before}
+use Rattle.std.specs.Prelude.{Result, Ok, Err}
+use Rattle.std.specs.Result.{is_ok}
 use Rattle.sets.proofs.Inserting.{grown}
 
 -- ---- members
@@ -53,14 +54,19 @@ here-again e T c m = union_absorb (e ∷ []) T c (λ x n. of_one x n)
     of_one x (inl p) = subst (λ y. Mem y T) (sym p) m
     of_one x (inr n) = absurd n
 
-pub spotted_here : (e : Conj) (T : Conjuncts) → Spotted Here e T → true ≡ has e T
+pub spotted_here : (e : Conj) (T : Conjuncts) → Spotted (Ok tt) e T → true ≡ has e T
 spotted_here e T h = sym (mem_has e T (insert_here e T h))
 
-pub spotted_before : (e : Conj) (T : Conjuncts) (i : ℕ) → Canon T → Spotted (Before i) e T → false ≡ has e T
+pub spotted_before : (e : Conj) (T : Conjuncts) (i : ℕ) → Canon T → Spotted (Err i) e T → false ≡ has e T
 spotted_before e T i c h =
     case (has e T) (λ z. false ≡ z)
     (λ q. absurd (omega (arith, grown e T i h.0 h.1, ap length (here-again e T c (has_mem e T q)))))
     (λ q. refl)
+
+-- the answer of a search tells which
+pub spotted_tells : (r : Result Unit ℕ) (e : Conj) (T : Conjuncts) → Canon T → Spotted r e T → is_ok r ≡ has e T
+spotted_tells (Ok u) e T c h = spotted_here e T h
+spotted_tells (Err i) e T c h = spotted_before e T i c h
 
 -- ---- a loop over the conjuncts
 

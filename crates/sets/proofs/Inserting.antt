@@ -17,11 +17,11 @@ use Rattle.model.specs.TidySets.{Canon}
 use Rattle.conjunct.specs.Word.{nodes_of_lem}
 use Rattle.sets.proofs.Rows.{set-rows, frame}
 use Rattle.sets.specs.Region.{few, rows_from, set_of, Within, Apart, Spotted, Inserted, region_words}
-use Rattle.sets.specs.declared.Spot.{Spot}
+use Rattle.std.specs.Prelude.{Result}
 
 -- ---- insertion
 
-pub spotted : (q r : Spot) → q ≡ r → (s : List ℕ) (b n : ℕ) (d : Conj) → n ≡ few (get_or s b 0) → Spotted q d (map nodes_of_lem (rows_from s (b + 1) n))
+pub spotted : (q r : Result Unit ℕ) → q ≡ r → (s : List ℕ) (b n : ℕ) (d : Conj) → n ≡ few (get_or s b 0) → Spotted q d (map nodes_of_lem (rows_from s (b + 1) n))
     → Spotted r d (set_of s b)
 spotted q r o s b n d e h = subst (λ S. Spotted r d S) (sym (set-rows s b n e)) (subst (λ x. Spotted x d (map nodes_of_lem (rows_from s (b + 1) n))) o h)
 

@@ -2,7 +2,7 @@
 use mathlib.Core.List.{[], ◌∷◌, ◌++◌}
 use mathlib.Core.Path.{◌≡◌, refl, sym, ap, subst, ◌∙◌}
 use Prim.Native.Nat.{Ordering}
-use Prim.Native.Nat.{ℕ, ◌+◌, ◌<◌, ◌≤◌}
+use Prim.Native.Nat.{ℕ, suc, ◌+◌, ◌-◌, ◌<◌, ◌≤◌}
 use native.Mathlib.Numerals.{add-one}
 use native.Mathlib.Omega.{arith}
 use lib.ListN.{length, get_or, take, drop, take-append-drop}
@@ -93,17 +93,18 @@ rising-one [] = tt
 rising-one (e ∷ S) = (tt, tt)
 
 -- one more, before which the last one stands
-pub rising-next : (S : Conjuncts) (i : ℕ) → i + 1 < length S → Less (get_or S i []) (get_or S (i + 1) []) → Canon (take (i + 1) S) → Canon (take (i + 1 + 1) S)
-rising-next S i h l c =
-    let d = get_or S i [] in
-    let e = get_or S (i + 1) [] in
-    let last : take (i + 1) S ≡ take i S ++ (d ∷ []) = rw (add-one i) (take-suc S i [] (omega arith)) in
-    let next : take (i + 1 + 1) S ≡ take (i + 1) S ++ (e ∷ []) = rw (add-one (i + 1)) (take-suc S (i + 1) [] h) in
-    let before = (sides (take i S) d [] (subst Canon last c)).0 in
-    let all : All (λ x. Less x e) (take (i + 1) S) =
-    subst (All (λ x. Less x e)) (sym last) (all_append (λ x. Less x e) (take i S) (d ∷ []) (all_imp (λ x g. less_trans x d e g l) (take i S) before) (l, tt)) in
-    subst Canon (sym next) (canon-behind (take (i + 1) S) e c all)
+pub rising-next : (S : Conjuncts) (i : ℕ) → 0 < i → i < length S → Less (get_or S (i - 1) []) (get_or S i []) → Canon (take i S) → Canon (take (i + 1) S)
+rising-next S i f h l c =
+    let d = get_or S (i - 1) [] in
+    let e = get_or S i [] in
+    let up : i ≡ suc (i - 1) = omega arith in
+    let last : take i S ≡ take (i - 1) S ++ (d ∷ []) = ap (λ k. take k S) up ∙ take-suc S (i - 1) [] (omega arith) in
+    let next : take (i + 1) S ≡ take i S ++ (e ∷ []) = rw (add-one i) (take-suc S i [] h) in
+    let before = (sides (take (i - 1) S) d [] (subst Canon last c)).0 in
+    let all : All (λ x. Less x e) (take i S) =
+    subst (All (λ x. Less x e)) (sym last) (all_append (λ x. Less x e) (take (i - 1) S) (d ∷ []) (all_imp (λ x g. less_trans x d e g l) (take (i - 1) S) before) (l, tt)) in
+    subst Canon (sym next) (canon-behind (take i S) e c all)
 
 -- all of them
-pub rising-all : (S : Conjuncts) (i : ℕ) → length S ≤ i + 1 → Canon (take (i + 1) S) → Canon S
-rising-all S i h c = subst Canon (take_all (i + 1) S h) c
+pub rising-all : (S : Conjuncts) (i : ℕ) → length S ≤ i → Canon (take i S) → Canon S
+rising-all S i h c = subst Canon (take_all i S h) c

@@ -1,12 +1,10 @@
 -- What a region of lent scratch holds: a set of at most 64 conjuncts. Its words are the count, then 64 slots, each a conjunct's node
 -- count and room for 120 nodes.
-use Rattle.std.specs.Prelude.{Bool, true, false, cond, List, [], ◌∷◌, ◌++◌, map, ◌⊎◌, ◌≡◌, ℕ, zero, suc, ◌+◌, ◌*◌, ◌≤◌, ◌<◌, ltb, length, get_or, take, drop}
+use Rattle.std.specs.Prelude.{Bool, true, false, cond, Result, Ok, Err, List, [], ◌∷◌, ◌++◌, map, ◌⊎◌, ◌≡◌, ℕ, zero, suc, ◌+◌, ◌*◌, ◌≤◌, ◌<◌, ltb, length, get_or, take, drop}
 use Rattle.model.specs.Conjunct.{Conj, Conjuncts, with_conjunct, union_of}
 use Rattle.model.specs.Sizes.{most_conjuncts, most_nodes}
 use Rattle.model.specs.TidySets.{Canon}
 use Rattle.conjunct.specs.Word.{nodes_of_lem}
-use Rattle.sets.specs.declared.Spot.TheVariants.{Here, Before}
-use Rattle.sets.specs.declared.Spot.{Spot}
 
 -- the words of a slot
 abbrev pub slot_words : ℕ
@@ -108,9 +106,9 @@ pub record Search (s : List ℕ) (b n : ℕ) (w : List ℕ) (m : ℕ) : Type 0 w
   pub canon : Canon (first_of s b n)
 
 -- where a conjunct goes in a set: it is there, or it is put before the i-th
-abbrev pub Spotted : Spot → Conj → Conjuncts → Type 0
-Spotted Here e S = with_conjunct e S ≡ S
-Spotted (Before i) e S = (i ≤ length S) × (with_conjunct e S ≡ take i S ++ (e ∷ drop i S))
+abbrev pub Spotted : Result Unit ℕ → Conj → Conjuncts → Type 0
+Spotted (Ok u) e S = with_conjunct e S ≡ S
+Spotted (Err i) e S = (i ≤ length S) × (with_conjunct e S ≡ take i S ++ (e ∷ drop i S))
 
 -- an insertion: done, or the set would have over 64
 abbrev pub Inserted : Bool → ℕ → Conj → List ℕ → List ℕ → Type 0

@@ -13,7 +13,8 @@ ghost use Rattle.sets.specs.Region.{TwoRegions, ThreeRegions, Room, RoomBeside, 
 ghost use Rattle.sets.specs.Region.{region_words, slot_words};
 ghost use Rattle.sets.specs.Minus.{has, minus};
 
-use conjunct::{MOST_NODES, Order};
+use conjunct::MOST_NODES;
+use std::cmp::Ordering;
 
 pub mod slots;
 
@@ -26,21 +27,11 @@ pub const SLOT: usize = 1 + MOST_NODES;
 // the words of a region: the count of the conjuncts, and a slot for each
 pub const REGION: usize = 1 + MOST_CONJUNCTS * SLOT;
 
-// where a conjunct goes: it is there, or before a place
-#[derive(Clone, Copy)]
-pub enum Spot {
-    Here,
-    Before(usize),
-}
-
 // at most 64
 fn at_most(c: u64) -> usize
     ensures { (result ≡ few c) × (result ≤ most_conjuncts) }
 {
-    if c < MOST_CONJUNCTS as u64 {
-        return c as usize;
-    }
-    MOST_CONJUNCTS
+    c.min(MOST_CONJUNCTS as u64) as usize
 }
 
 // ---- a region
@@ -90,45 +81,42 @@ fn shift(s: &mut [u64], a: usize, n: usize)
     ensures { (rows_from s.new (a + slot_words) n ≡ rows_from s.old a n)
         × Outside (a + slot_words) (slot_words * n) s.old s.new }
 {
-    let mut k = n;
-    while k > 0 {
-        k -= 1;
+    for k in (0..n).rev() {
         slots::copy_slot(s, a + SLOT * k + SLOT, a + SLOT * k);
     }
 }
 
-// where m words go among the first n slots, by bisection
-fn bisect(s: &[u64], base: usize, n: usize, w: &[u64], m: usize) -> Spot
+// where m words go among the first n slots, by bisection: Ok where they are there, Err with the place that they go before
+fn bisect(s: &[u64], base: usize, n: usize, w: &[u64], m: usize) -> Result<(), usize>
     requires { Search s.now base n w.now m }
     ensures { Spotted result (nodes_of_lem (take m w.now)) (first_of s.now base n) }
 {
     let mut lo: usize = 0;
     let mut hi = n;
+    // By hand: the slots of a region are no slice of items, as binary_search asks for.
     while lo < hi {
         let mid = (lo + hi) / 2;
-        let o = slots::compare_slot(w, m, s, base + 1 + SLOT * mid);
-        match o {
-            Order::Less => hi = mid,
-            Order::Same => return Spot::Here,
-            Order::More => lo = mid + 1,
+        match slots::compare_slot(w, m, s, base + 1 + SLOT * mid) {
+            Ordering::Less => hi = mid,
+            Ordering::Equal => return Ok(()),
+            Ordering::Greater => lo = mid + 1,
         }
     }
-    Spot::Before(lo)
+    Err(lo)
 }
 
 // where m words go among the first n slots: mostly behind the last one, which is asked first
-fn find(s: &[u64], base: usize, n: usize, w: &[u64], m: usize) -> Spot
+fn find(s: &[u64], base: usize, n: usize, w: &[u64], m: usize) -> Result<(), usize>
     requires { Search s.now base n w.now m }
     ensures { Spotted result (nodes_of_lem (take m w.now)) (first_of s.now base n) }
 {
     if n == 0 {
-        return Spot::Before(0);
+        return Err(0);
     }
-    let o = slots::compare_slot(w, m, s, base + 1 + SLOT * (n - 1));
-    match o {
-        Order::Less => bisect(s, base, n, w, m),
-        Order::Same => Spot::Here,
-        Order::More => Spot::Before(n),
+    match slots::compare_slot(w, m, s, base + 1 + SLOT * (n - 1)) {
+        Ordering::Less => bisect(s, base, n, w, m),
+        Ordering::Equal => Ok(()),
+        Ordering::Greater => Err(n),
     }
 }
 
@@ -151,17 +139,14 @@ pub fn insert(s: &mut [u64], base: usize, w: &[u64], m: usize) -> bool
     ensures { Inserted result base (conj_of w.now m) s.old s.new × Within base s.old s.new }
 {
     let n = at_most(s[base]);
-    let spot = find(s, base, n, &w[..m], m);
-    match spot {
-        Spot::Here => true,
-        Spot::Before(i) => {
-            if n >= MOST_CONJUNCTS {
-                return false;
-            }
-            place_at(s, base, n, i, w, m);
-            true
-        }
+    let Err(i) = find(s, base, n, &w[..m], m) else {
+        return true;
+    };
+    if n >= MOST_CONJUNCTS {
+        return false;
     }
+    place_at(s, base, n, i, w, m);
+    true
 }
 
 // the set of another region
@@ -170,10 +155,8 @@ pub fn copy(s: &mut [u64], to: usize, from: usize)
     ensures { (set_of s.new to ≡ set_of s.old from) × Within to s.old s.new }
 {
     let n = at_most(s[from]);
-    let mut i: usize = 0;
-    while i < n {
+    for i in 0..n {
         slots::copy_slot(s, to + 1 + SLOT * i, from + 1 + SLOT * i);
-        i += 1;
     }
     s[to] = n as u64;
 }
@@ -185,13 +168,11 @@ fn join(s: &mut [u64], to: usize, from: usize, words: &mut [u64]) -> bool
     ensures { Joined result from to s.old s.new × Within to s.old s.new }
 {
     let count = size(s, from);
-    let mut k: usize = 0;
-    while k < count {
+    for k in 0..count {
         let n = get(s, from, k, words);
         if !insert(s, to, words, n) {
             return false;
         }
-        k += 1;
     }
     true
 }
@@ -215,12 +196,10 @@ pub fn equal(s: &[u64], a: usize, b: usize) -> bool
     if n != m {
         return false;
     }
-    let mut i: usize = 0;
-    while i < n {
+    for i in 0..n {
         if !slots::same_slot(s, a + 1 + SLOT * i, b + 1 + SLOT * i) {
             return false;
         }
-        i += 1;
     }
     true
 }
@@ -233,14 +212,10 @@ fn rises(s: &[u64], base: usize) -> bool
     ensures { result ≡ true → Canon (set_of s.now base) }
 {
     let n = at_most(s[base]);
-    let mut i: usize = 0;
-    while i + 1 < n {
+    for i in 1..n {
         let a = base + 1 + SLOT * i;
-        let o = slots::order_slots(s, a, a + SLOT);
-        match o {
-            Order::Less => i += 1,
-            Order::Same => return false,
-            Order::More => return false,
+        if slots::order_slots(s, a - SLOT, a).is_ge() {
+            return false;
         }
     }
     true
@@ -268,11 +243,7 @@ fn holds(s: &[u64], base: usize, w: &[u64], m: usize) -> bool
     ensures { result ≡ has (conj_of w.now m) (set_of s.now base) }
 {
     let n = at_most(s[base]);
-    let spot = find(s, base, n, w, m);
-    match spot {
-        Spot::Here => true,
-        Spot::Before(i) => false,
-    }
+    find(s, base, n, w, m).is_ok()
 }
 
 // the first m words put behind the last conjunct of a region
@@ -303,11 +274,9 @@ fn sift(s: &mut [u64], to: usize, from: usize, known: usize, words: &mut [u64])
 {
     clear(s, to);
     let n = size(s, from);
-    let mut k: usize = 0;
-    while k < n {
+    for k in 0..n {
         let m = get(s, from, k, words);
         keep(s, to, known, words, m);
-        k += 1;
     }
 }
 

@@ -8,7 +8,7 @@ ghost use Rattle.conjunct.specs.Word.{nodes_of_lem};
 ghost use Rattle.conjunct.specs.Value.{ordering_of, ConjunctIn};
 ghost use Rattle.sets.specs.Region.{slot_at, Outside, TwoSlots, slot_words};
 
-use conjunct::Order;
+use std::cmp::Ordering;
 
 // the words of the slot at a to `out`; how many they are
 pub fn read_slot(s: &[u64], a: usize, out: &mut [u64]) -> usize
@@ -16,11 +16,7 @@ pub fn read_slot(s: &[u64], a: usize, out: &mut [u64]) -> usize
     ensures { (result ≤ most_nodes) × (take result out.new ≡ slot_at s.now a) }
 {
     let n = conjunct::capped(s[a] as usize);
-    let mut j: usize = 0;
-    while j < n {
-        out[j] = s[a + 1 + j];
-        j += 1;
-    }
+    out[..n].copy_from_slice(&s[a + 1..a + 1 + n]);
     n
 }
 
@@ -30,11 +26,7 @@ pub fn write_slot(s: &mut [u64], a: usize, w: &[u64], n: usize)
     ensures { s.new ≡ overlay s.old a (n ∷ take n w.now) }
 {
     s[a] = n as u64;
-    let mut j: usize = 0;
-    while j < n {
-        s[a + 1 + j] = w[j];
-        j += 1;
-    }
+    s[a + 1..a + 1 + n].copy_from_slice(&w[..n]);
 }
 
 // the conjunct of the slot at `from` to the slot at `to`
@@ -43,15 +35,11 @@ pub fn copy_slot(s: &mut [u64], to: usize, from: usize)
     ensures { (slot_at s.new to ≡ slot_at s.old from) × Outside to slot_words s.old s.new }
 {
     let n = 1 + conjunct::capped(s[from] as usize);
-    let mut j: usize = 0;
-    while j < n {
-        s[to + j] = s[from + j];
-        j += 1;
-    }
+    s.copy_within(from..from + n, to);
 }
 
 // m words against the conjunct of the slot at a
-pub fn compare_slot(w: &[u64], m: usize, s: &[u64], a: usize) -> Order
+pub fn compare_slot(w: &[u64], m: usize, s: &[u64], a: usize) -> Ordering
     requires { (m ≤ length w.now) × (a + slot_words ≤ length s.now) }
     ensures { ordering_of result ≡ order (nodes_of_lem (take m w.now)) (nodes_of_lem (slot_at s.now a)) }
 {
@@ -60,7 +48,7 @@ pub fn compare_slot(w: &[u64], m: usize, s: &[u64], a: usize) -> Order
 }
 
 // the conjunct of the slot at a against that of the slot at b
-pub fn order_slots(s: &[u64], a: usize, b: usize) -> Order
+pub fn order_slots(s: &[u64], a: usize, b: usize) -> Ordering
     requires { (a + slot_words ≤ length s.now) × (b + slot_words ≤ length s.now) }
     ensures { ordering_of result ≡ order (nodes_of_lem (slot_at s.now a)) (nodes_of_lem (slot_at s.now b)) }
 {
@@ -73,10 +61,5 @@ pub fn same_slot(s: &[u64], a: usize, b: usize) -> bool
     requires { (a + slot_words ≤ length s.now) × (b + slot_words ≤ length s.now) }
     ensures { result ≡ compare_is_eq (order_nodes (nodes_of_lem (slot_at s.now a)) (nodes_of_lem (slot_at s.now b))) }
 {
-    let o = order_slots(s, a, b);
-    match o {
-        Order::Less => false,
-        Order::Same => true,
-        Order::More => false,
-    }
+    order_slots(s, a, b).is_eq()
 }

@@ -11,7 +11,7 @@ pub loop-i-init : goal.loop-i-init
 loop-i-init c =
     let a = c.args in
     let e = c.at_most-n.ensures in
-    (omega arith, e.0, e.1, refl, copied_none a.s.now (a.to + 1) (a.from + 1) 0 0 (omega arith))
+    (e.0, e.1, refl, copied_none a.s.now (a.to + 1) (a.from + 1) 0 0 (omega arith))
 
 pub copy_slot-requires : goal.copy_slot-requires
 copy_slot-requires c =
@@ -28,16 +28,16 @@ loop-i-preserved c =
     let r = c.copy_slot in
     let target = a.to + 1 + slot_words * lp.i in
     let source = a.from + 1 + slot_words * lp.i in
-    let next = copied_next a.s.now lp.s r.new.s (a.to + 1) (a.from + 1) 0 lp.i 0 (lp.i + 1) lp.i lp.invariant.3 r.auto.s
+    let next = copied_next a.s.now lp.s r.new.s (a.to + 1) (a.from + 1) 0 lp.i 0 (lp.i + 1) lp.i lp.invariant.2 r.auto.s
     (omega arith) (omega arith) (omega arith) (omega arith) (omega arith) (omega arith)
-    (λ i x y. absurd (omega arith)) (λ i x y. (omega arith, y)) lp.invariant.4
+    (λ i x y. absurd (omega arith)) (λ i x y. (omega arith, y)) lp.invariant.3
     (slots-before a.to a.from lp.i (omega arith) p.apart) target source refl refl r.ensures in
-    (omega arith, lp.invariant.1, lp.invariant.2, r.auto.s ∙ lp.invariant.3, next)
+    (lp.invariant.0, lp.invariant.1, r.auto.s ∙ lp.invariant.2, next)
 
 pub shape_of-s : goal.shape_of-s
 shape_of-s c =
     let lp = c.loop-i in
-    length-set lp.s c.args.to c.at_most-n.result ∙ lp.invariant.3
+    length-set lp.s c.args.to c.at_most-n.result ∙ lp.invariant.2
 
 pub returns : goal.returns
 returns c =
@@ -46,4 +46,4 @@ returns c =
     let n = c.at_most-n.result in
     let lp = c.loop-i in
     let e : lp.i ≡ n = omega arith in
-    region_copied a.s.now lp.s a.to a.from n lp.invariant.3 p.first lp.invariant.1 (rw e at lp.invariant.4)
+    region_copied a.s.now lp.s a.to a.from n lp.invariant.2 p.first lp.invariant.0 (rw e at lp.invariant.3)

@@ -1,8 +1,6 @@
 -- `sets::equal` meets its contract.
 use mathlib.Core.Path.{refl, sym, ◌∙◌}
 use native.Mathlib.Omega.{arith}
-use borrow.Author.Rules.{rules}
-use borrow.Author.Tests.{not-true, not-false}
 use Rattle.sets.proofs.Inserting.{same_lengths, same_next, same_end}
 use Rattle.sets.proofs.Rows.{set-length, set_at}
 use Rattle.sets.specs.Region.{set_of}
@@ -23,7 +21,7 @@ loop-i-init c =
     let m = c.at_most-m.ensures in
     let p = n.0 ∙ sym (set-length a.s.now a.a) in
     let q = m.0 ∙ sym (set-length a.s.now a.b) in
-    (search rules, omega arith, p, omega arith, refl)
+    (omega arith, p, omega arith, refl)
 
 pub returns-then-not-same_slot : goal.returns-then-not-same_slot
 returns-then-not-same_slot c =
@@ -33,7 +31,7 @@ returns-then-not-same_slot c =
     let p = set_at s a.a lp.i (omega (arith, set-length s a.a)) in
     let q = set_at s a.b lp.i (omega (arith, set-length s a.b)) in
     let t = same_next (set_of s a.a) (set_of s a.b) lp.i (omega arith) (omega arith) in
-    sym (lp.invariant.4 ∙ t ∙ rw (p, q, ← c.same_slot.ensures, not-true c.same_slot.result c.if-not-same_slot.true-raw))
+    sym (lp.invariant.3 ∙ t ∙ rw (p, q, ← c.same_slot.ensures, c.if-not-same_slot.true))
 
 pub loop-i-preserved : goal.loop-i-preserved
 loop-i-preserved c =
@@ -43,15 +41,14 @@ loop-i-preserved c =
     let p = set_at s a.a lp.i (omega (arith, set-length s a.a)) in
     let q = set_at s a.b lp.i (omega (arith, set-length s a.b)) in
     let t = same_next (set_of s a.a) (set_of s a.b) lp.i (omega arith) (omega arith) in (
-      omega arith,
+      lp.invariant.0,
       lp.invariant.1,
       lp.invariant.2,
-      lp.invariant.3,
-      lp.invariant.4 ∙ t ∙ rw (p, q, ← c.same_slot.ensures, not-false c.same_slot.result c.if-not-same_slot.false-raw),
+      lp.invariant.3 ∙ t ∙ rw (p, q, ← c.same_slot.ensures, c.if-not-same_slot.false),
     )
 
 pub returns : goal.returns
 returns c =
     let a = c.args in
     let lp = c.loop-i in
-    sym (lp.invariant.4 ∙ same_end (set_of a.s.now a.a) (set_of a.s.now a.b) lp.i (omega arith) (omega arith))
+    sym (lp.invariant.3 ∙ same_end (set_of a.s.now a.a) (set_of a.s.now a.b) lp.i (omega arith) (omega arith))

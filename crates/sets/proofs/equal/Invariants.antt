@@ -1,6 +1,6 @@
 -- `sets::equal` meets its contract.
 use mathlib.Core.Path.{◌≡◌}
-use Prim.Native.Nat.{◌-◌, ◌≤◌}
+use Prim.Native.Nat.{◌≤◌}
 use lib.ListN.{length, drop}
 use Rattle.model.specs.Conjunct.{same}
 use Rattle.model.specs.Sizes.{most_conjuncts}
@@ -9,8 +9,5 @@ use Rattle.sets.proofs.equal.Given as goal
 
 abbrev pub invariant-loop-i : goal.invariant-loop-i
 invariant-loop-i l =
-    (l.i ≤ l.n) × (l.n ≤ most_conjuncts) × (l.n ≡ length (set_of l.s l.a)) × (l.n ≡ length (set_of l.s l.b))
+    (l.n ≤ most_conjuncts) × (l.n ≡ length (set_of l.s l.a)) × (l.n ≡ length (set_of l.s l.b))
     × (same (set_of l.s l.a) (set_of l.s l.b) ≡ same (drop l.i (set_of l.s l.a)) (drop l.i (set_of l.s l.b)))
-
-abbrev pub decreases-loop-i : goal.decreases-loop-i
-decreases-loop-i l = l.n - l.i

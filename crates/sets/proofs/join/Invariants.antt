@@ -1,6 +1,5 @@
 -- `sets::join` meets its contract: after k turns the region has what the first k conjuncts and its own make.
 use mathlib.Core.Path.{◌≡◌}
-use Prim.Native.Nat.{◌-◌, ◌≤◌}
 use lib.ListN.{length, take}
 use Rattle.model.specs.Conjunct.{union_of}
 use Rattle.sets.specs.Region.{set_of, Within}
@@ -8,8 +7,5 @@ use Rattle.sets.proofs.join.Given as goal
 
 abbrev pub invariant-loop-k : goal.invariant-loop-k
 invariant-loop-k l =
-    (l.k ≤ l.count) × (l.count ≡ length (set_of l.initial.s l.from)) × (length l.s ≡ length l.initial.s) × (length l.words ≡ length l.initial.words) × Within l.to l.initial.s l.s
+    (l.count ≡ length (set_of l.initial.s l.from)) × (length l.s ≡ length l.initial.s) × (length l.words ≡ length l.initial.words) × Within l.to l.initial.s l.s
     × (set_of l.s l.to ≡ union_of (take l.k (set_of l.initial.s l.from)) (set_of l.initial.s l.to))
-
-abbrev pub decreases-loop-k : goal.decreases-loop-k
-decreases-loop-k l = l.count - l.k

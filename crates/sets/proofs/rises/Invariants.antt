@@ -1,6 +1,6 @@
 -- `sets::rises` meets its contract: so far the conjuncts rise.
 use mathlib.Core.Path.{◌≡◌}
-use Prim.Native.Nat.{◌+◌, ◌-◌, ◌≤◌}
+use Prim.Native.Nat.{◌≤◌}
 use lib.ListN.{length, take}
 use Rattle.model.specs.Sizes.{most_conjuncts}
 use Rattle.model.specs.TidySets.{Canon}
@@ -8,7 +8,4 @@ use Rattle.sets.specs.Region.{set_of}
 use Rattle.sets.proofs.rises.Given as goal
 
 abbrev pub invariant-loop-i : goal.invariant-loop-i
-invariant-loop-i l = (l.n ≤ most_conjuncts) × (l.n ≡ length (set_of l.s l.base)) × (l.i ≤ most_conjuncts) × Canon (take (l.i + 1) (set_of l.s l.base))
-
-abbrev pub decreases-loop-i : goal.decreases-loop-i
-decreases-loop-i l = l.n - l.i
+invariant-loop-i l = (l.n ≤ most_conjuncts) × (l.n ≡ length (set_of l.s l.base)) × Canon (take l.i (set_of l.s l.base))

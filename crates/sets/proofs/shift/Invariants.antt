@@ -1,13 +1,10 @@
 -- `sets::shift` meets its contract.
 use mathlib.Core.Path.{◌≡◌}
-use Prim.Native.Nat.{◌+◌, ◌≤◌}
+use Prim.Native.Nat.{◌+◌}
 use lib.ListN.{length}
 use Rattle.sets.proofs.Copied.{Copied}
 use Rattle.sets.specs.Region.{slot_words}
 use Rattle.sets.proofs.shift.Given as goal
 
 abbrev pub invariant-loop-k : goal.invariant-loop-k
-invariant-loop-k l = (l.k ≤ l.n) × (length l.s ≡ length l.initial.s) × Copied l.s l.initial.s (l.a + slot_words) l.a l.k l.n
-
-abbrev pub decreases-loop-k : goal.decreases-loop-k
-decreases-loop-k l = l.k
+invariant-loop-k l = (length l.s ≡ length l.initial.s) × Copied l.s l.initial.s (l.a + slot_words) l.a l.k l.n

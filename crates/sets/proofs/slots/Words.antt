@@ -1,16 +1,16 @@
--- The loops over the words of slots: read, written.
-use mathlib.Core.List.{List, ◌∷◌, ◌++◌}
+-- The words of slots: read, written.
+use mathlib.Core.List.{List, ◌∷◌, ◌++◌, append_assoc}
 use mathlib.Core.Logic.{◌⊎◌, inl, inr}
 use mathlib.Core.Path.{◌≡◌, sym, ap, ap₂, ◌∙◌}
 use Prim.Native.Nat.{ℕ, ◌+◌, ◌-◌, ◌<◌, ◌≤◌, compare}
 use native.Mathlib.Numerals.{add-one}
 use native.Mathlib.Omega.{arith}
 use lib.ListN.{length, get_or, take, drop, set, length-drop, length-set}
-use lib.Seq.{take-suc, take-suc-set, get_or-drop, get_or-take, length-take-le, take-take, take-append_seam, drop-append_seam}
+use lib.Seq.{sets-eq, drop-drop, get_or-drop, get_or-take, length-take-le, take-take, take-append_seam, drop-append_seam}
 use borrow.Rule.Slice.PartMut.{post_of, put_mid, same_len_mid, mid_len, take_put, drop_put}
 use Rattle.model.specs.Conjunct.{◌then◌, order_numbers, order}
 use Rattle.model.specs.Sizes.{most_nodes}
-use Rattle.bytes_le.proofs.Overlays.{overlay_read}
+use Rattle.bytes_le.proofs.Overlays.{overlay_read, overlay-sets}
 use Rattle.bytes_le.specs.Overlay.{overlay}
 use Rattle.conjunct.proofs.node.Lists.{conjunct-order}
 use Rattle.conjunct.specs.Word.{nodes_of_lem}
@@ -18,12 +18,6 @@ use Rattle.sets.proofs.Overlaid.{overlay-before, overlay-beyond, overlay-inside}
 use Rattle.sets.specs.Region.{slot_at, Outside, slot_words}
 
 -- ---- read
-
-pub read_more : (l s : List ℕ) (b j : ℕ) → j < length l → b + j < length s → take j l ≡ take j (drop b s)
-    → take (j + 1) (set l j (get_or s (b + j) 0)) ≡ take (j + 1) (drop b s)
-read_more l s b j h k e =
-    let f : j < length (drop b s) = rw length-drop (omega arith) in
-    rw (add-one j, take-suc-set l j (get_or s (b + j) 0) h, e, take-suc (drop b s) j 0 f, get_or-drop b s j 0)
 
 -- the room of a slot
 room : (s : List ℕ) (a : ℕ) → a + slot_words ≤ length s → length (take most_nodes (drop (a + 1) s)) ≡ most_nodes
@@ -54,6 +48,12 @@ slot-order w s m a n g h k f =
     ∙ sym (conjunct-order (take m w) (slot_at s a)))
 
 -- ---- written
+
+-- a part of a list written over is what is stored over the list
+pub put-overlay : (l ys : List ℕ) (i n : ℕ) → i + n ≤ length l → length ys ≡ n → put_mid i (i + n - i) l ys ≡ overlay l i ys
+put-overlay l ys i n h e =
+    let rest : drop (i + length ys) l ≡ post_of i (i + n - i) l = ap (λ k. drop k l) (omega arith) ∙ sym (drop-drop (i + n - i) i l) in
+    sym (overlay-sets ys l i ∙ sets-eq ys l i (omega arith) ∙ append_assoc (take i l) ys (drop (i + length ys) l) ∙ ap (λ r. take i l ++ (ys ++ r)) rest)
 
 pub written : (s l : List ℕ) (a n : ℕ) → overlay (set s a n) (a + 1) l ≡ overlay s a (n ∷ l)
 unfolding overlay
