@@ -1,13 +1,14 @@
 -- The laws of `overlay`, for every caller.
 use mathlib.Core.Path.{◌≡◌, refl, sym, ap, ◌∙◌}
 use mathlib.Core.List.{List, [], ◌∷◌, ◌++◌, append_assoc}
-use Prim.Native.Nat.{ℕ, suc, ◌+◌, ◌-◌, ◌/◌, ◌%◌, ◌≤◌, ◌<◌}
+use Prim.Native.Nat.{ℕ, suc, ◌+◌, ◌-◌, ◌/◌, ◌%◌, ◌^◌, ◌≤◌, ◌<◌}
 use native.Mathlib.Nat.{add-zero}
 use native.Mathlib.Numerals.{add-one}
 use native.Mathlib.Omega.{arith}
 use lib.ListN.{length, get_or, take, drop, set, length-set}
-use lib.Seq.{sets, sets-eq, take-suc, length-take-le, drop-set-add, take-set-le, take_at, drop_at, take-take}
-use Rattle.model.specs.Bytes.{bytes4, bytes8}
+use borrow.Rule.Slice.PartMut.{put_mid}
+use lib.Seq.{sets, sets-eq, drop-drop, take-suc, length-take-le, drop-set-add, take-set-le, take_at, drop_at, take-take}
+use Rattle.model.specs.Bytes.{bytes2, bytes4, bytes8}
 use Rattle.bytes_le.specs.Overlay.{overlay}
 
 -- it is the library's `sets`, which computes, and so is shut here
@@ -64,30 +65,37 @@ overlay_read vs l b w h g =
     take-take (length vs) w (drop b (overlay l b vs)) g
     ∙ rw (overlay-sets, sets-eq vs l b h, append_assoc, behind) (take_at vs rest (length vs) refl)
 
--- ---- the stores of a number
+-- a part that is written as a whole
+pub overlay_part : (a k : ℕ) (l ys vs : List ℕ) → ys ≡ vs → k ≡ length vs → a + length vs ≤ length l → put_mid a k l ys ≡ overlay l a vs
+overlay_part a k l ys vs e m h =
+    rw (e, m, overlay-sets, sets-eq vs l a h, append_assoc, ← drop-drop (length vs) a l)
 
+-- two elements that are stored one after the other
 pub overlay_2 : (l : List ℕ) (a v w : ℕ) → set (set l a v) (a + 1) w ≡ overlay l a (v ∷ w ∷ [])
 unfolding overlay
 overlay_2 l a v w = rw (add-one a)
 
-pub overlay_4 : (l : List ℕ) (a v w x y : ℕ) → set (set (set (set l a v) (a + 1) w) (a + 2) x) (a + 3) y ≡ overlay l a (v ∷ w ∷ x ∷ y ∷ [])
-unfolding overlay
-overlay_4 l a v w x y =
-    let e1 : a + 1 ≡ suc a = omega arith in
-    let e2 : a + 2 ≡ suc (suc a) = omega arith in
-    let e3 : a + 3 ≡ suc (suc (suc a)) = omega arith in
-    rw (e1, e2, e3)
+-- ---- the bytes of a number, as its own method gives them
 
--- the upper 4 bytes of a number count so much
-abbrev half : ℕ
-half = 4294967296
+pub bytes2-are : (v : ℕ) → v < 2 ^ 16 → (v % 256 ∷ v / 256 % 256 ∷ []) ≡ bytes2 v
+unfolding bytes2
+bytes2-are v h = let e : v / 256 % 256 ≡ v / 256 = omega arith in rw e
 
-length-bytes4 : (v : ℕ) → length (bytes4 v) ≡ 4
+pub bytes4-are : (v : ℕ) → v < 2 ^ 32 → (v % 256 ∷ v / 256 % 256 ∷ v / 65536 % 256 ∷ v / 16777216 % 256 ∷ []) ≡ bytes4 v
 unfolding bytes4
-length-bytes4 v = refl
+bytes4-are v h = let e : v / 16777216 % 256 ≡ v / 16777216 = omega arith in rw e
 
--- 8 bytes are two halves
-pub overlay_8 : (l m k : List ℕ) (a v : ℕ) → m ≡ overlay l a (bytes4 (v % half)) → k ≡ overlay m (a + 4) (bytes4 (v / half))
-    → k ≡ overlay l a (bytes8 v)
-unfolding bytes8
-overlay_8 l m k a v h g = g ∙ rw (h, overlay-append (bytes4 (v % half)) l a (bytes4 (v / half)), length-bytes4 (v % half))
+pub bytes8-are : (v : ℕ) → v < 2 ^ 64
+    → (v % 256 ∷ v / 256 % 256 ∷ v / 65536 % 256 ∷ v / 16777216 % 256 ∷ v / 4294967296 % 256 ∷ v / 1099511627776 % 256 ∷ v / 281474976710656 % 256
+    ∷ v / 72057594037927936 % 256 ∷ [])
+    ≡ bytes8 v
+unfolding bytes8 bytes4
+bytes8-are v h =
+    let a : v % 4294967296 % 256 ≡ v % 256 = omega arith in
+    let b : v % 4294967296 / 256 % 256 ≡ v / 256 % 256 = omega arith in
+    let c : v % 4294967296 / 65536 % 256 ≡ v / 65536 % 256 = omega arith in
+    let d : v % 4294967296 / 16777216 ≡ v / 16777216 % 256 = omega arith in
+    let f : v / 4294967296 / 256 % 256 ≡ v / 1099511627776 % 256 = omega arith in
+    let g : v / 4294967296 / 65536 % 256 ≡ v / 281474976710656 % 256 = omega arith in
+    let k : v / 4294967296 / 16777216 ≡ v / 72057594037927936 % 256 = omega arith in
+    rw (a, b, c, d, f, g, k)

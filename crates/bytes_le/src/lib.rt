@@ -7,70 +7,61 @@ ghost use Rattle.std.specs.Prelude.{◌≡◌, ◌+◌, ◌^◌, ◌≤◌, ◌<
 ghost use Rattle.model.specs.Bytes.{u16_at, u32_at, u64_at, bytes2, bytes4, bytes8};
 ghost use Rattle.bytes_le.specs.Overlay.{overlay};
 
-// A number of 8 bytes is two of 4: the upper one counts so much.
-const HALF: u64 = 0x1_0000_0000;
-
-fn wide(x: u8) -> u64
-    ensures { (result ≡ x) × (result < 256) }
-{
-    x as u64
-}
-
 pub fn u16_at(s: &[u8], a: usize) -> u64
     requires { a + 2 ≤ length s.now }
     ensures { (result ≡ u16_at s.now a) × (result < 2 ^ 16) }
 {
-    wide(s[a]) + 256 * wide(s[a + 1])
+    u16::from_le_bytes([s[a], s[a + 1]]) as u64
 }
 
 pub fn u32_at(s: &[u8], a: usize) -> u64
     requires { a + 4 ≤ length s.now }
     ensures { (result ≡ u32_at s.now a) × (result < 2 ^ 32) }
 {
-    wide(s[a]) + 256 * (wide(s[a + 1]) + 256 * (wide(s[a + 2]) + 256 * wide(s[a + 3])))
+    u32::from_le_bytes([s[a], s[a + 1], s[a + 2], s[a + 3]]) as u64
 }
 
 pub fn u64_at(s: &[u8], a: usize) -> u64
     requires { a + 8 ≤ length s.now }
     ensures { result ≡ u64_at s.now a }
 {
-    u32_at(s, a) + HALF * u32_at(s, a + 4)
+    u64::from_le_bytes([
+        s[a],
+        s[a + 1],
+        s[a + 2],
+        s[a + 3],
+        s[a + 4],
+        s[a + 5],
+        s[a + 6],
+        s[a + 7],
+    ])
 }
 
 pub fn put_u16(out: &mut [u8], a: usize, v: u64)
     requires { (a + 2 ≤ length out.old) × (v < 2 ^ 16) }
     ensures { out.new ≡ overlay out.old a (bytes2 v) }
 {
-    out[a] = (v % 256) as u8;
-    out[a + 1] = (v / 256) as u8;
+    put_bytes(out, a, &(v as u16).to_le_bytes(), 2);
 }
 
 pub fn put_u32(out: &mut [u8], a: usize, v: u64)
     requires { (a + 4 ≤ length out.old) × (v < 2 ^ 32) }
     ensures { out.new ≡ overlay out.old a (bytes4 v) }
 {
-    out[a] = (v % 256) as u8;
-    out[a + 1] = (v / 256 % 256) as u8;
-    out[a + 2] = (v / 0x1_0000 % 256) as u8;
-    out[a + 3] = (v / 0x100_0000) as u8;
+    put_bytes(out, a, &(v as u32).to_le_bytes(), 4);
 }
 
 pub fn put_u64(out: &mut [u8], a: usize, v: u64)
     requires { a + 8 ≤ length out.old }
     ensures { out.new ≡ overlay out.old a (bytes8 v) }
 {
-    put_u32(out, a, v % HALF);
-    put_u32(out, a + 4, v / HALF);
+    put_bytes(out, a, &v.to_le_bytes(), 8);
 }
 
-// The first n bytes of a slice to the places from a on.
+// The first n bytes of a slice, to the places from a on.
 pub fn put_bytes(out: &mut [u8], a: usize, from: &[u8], n: usize)
     requires { (n ≤ length from.now) × (a + n ≤ length out.old) }
     ensures { out.new ≡ overlay out.old a (take n from.now) }
 {
-    let mut i: usize = 0;
-    while i < n {
-        out[a + i] = from[i];
-        i += 1;
-    }
+    out[a..a + n].copy_from_slice(&from[..n]);
 }

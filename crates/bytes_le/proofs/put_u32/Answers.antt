@@ -1,8 +1,10 @@
 -- `bytes_le::put_u32` meets its contract.
-use Rattle.model.specs.Bytes.{bytes4}
-use Rattle.bytes_le.proofs.Overlays.{overlay_4}
+use Rattle.std.proofs.Common.{◌∙◌, ap, arith, take}
+use Rattle.bytes_le.specs.Overlay.{overlay}
+use Rattle.bytes_le.proofs.Overlays.{bytes4-are}
 use Rattle.bytes_le.proofs.put_u32.Goals as goal
 
 pub returns : goal.returns
-unfolding bytes4
-returns c = overlay_4 c.args.out.now c.args.a _ _ _ _
+returns c =
+    let a = c.args in
+    c.put_bytes.ensures ∙ ap (λ bs. overlay a.out.now a.a (take 4 bs)) c.to_le_bytes.ensures ∙ ap (overlay a.out.now a.a) (bytes4-are a.v (omega arith))

@@ -1,6 +1,10 @@
 -- `bytes_le::put_u64` meets its contract.
-use Rattle.bytes_le.proofs.Overlays.{overlay_8}
+use Rattle.std.proofs.Common.{◌∙◌, ap, arith, take}
+use Rattle.bytes_le.specs.Overlay.{overlay}
+use Rattle.bytes_le.proofs.Overlays.{bytes8-are}
 use Rattle.bytes_le.proofs.put_u64.Goals as goal
 
 pub returns : goal.returns
-returns c = overlay_8 _ _ _ _ _ c.put_u32.ensures c.put_u32-2.ensures
+returns c =
+    let a = c.args in
+    c.put_bytes.ensures ∙ ap (λ bs. overlay a.out.now a.a (take 8 bs)) c.to_le_bytes.ensures ∙ ap (overlay a.out.now a.a) (bytes8-are a.v (omega arith))
