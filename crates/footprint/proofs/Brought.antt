@@ -3,7 +3,7 @@
 -- nodes in the place of nodes, and a new number leaves an atom its source.
 use mathlib.Core.Bool.{Bool, true, false, ◌&&◌, cond, true≢false}
 use mathlib.Core.List.{List, [], ◌∷◌, map, flat_map}
-use mathlib.Core.Logic.{◌⊎◌, ⊎_elim, ◌≢◌}
+use mathlib.Core.Logic.{◌⊎◌, inl, inr, ⊎_elim, ◌≢◌}
 use mathlib.Core.Path.{◌≡◌, refl, sym, ap, subst, ◌∙◌}
 use Prim.Native.Nat.{ℕ, suc, ◌+◌, ◌≤◌, ◌<◌}
 use native.Mathlib.Decide.{dec_lt}
@@ -173,6 +173,11 @@ module _ (m : Footprint) where
 
   module _ (d : Decoded) where
     -- an operation on two variables
+    pub flags_one : (d.kind ≡ 1) ⊎ (d.kind ≡ 6) → FlagsVariable m d.b → Flags m (stmt_from d)
+    unfolding stmt_from kind_of
+    flags_one (inl e) b = rw e b
+    flags_one (inr e) b = rw e b
+
     pub flags_operation : 2 ≤ d.kind → d.kind ≤ 5 → FlagsVariable m d.b → FlagsVariable m d.c → Flags m (stmt_from d)
     unfolding stmt_from
     flags_operation l h b c = go (kind_of d.kind) (kind-number d.kind)

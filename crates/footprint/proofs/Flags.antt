@@ -1,22 +1,21 @@
 -- What flags say of a conjunct as nodes are added to it, and as more flags are set.
 use mathlib.Core.Path.{◌≡◌, refl, sym, ap, subst, ◌∙◌}
-use mathlib.Core.Bool.{Bool, true, false, ◌&&◌, true≢false}
+use mathlib.Core.Bool.{Bool, false, ◌&&◌}
 use mathlib.Core.List.{List, [], ◌∷◌, ◌++◌, map-append}
 use Prim.Native.Nat.{ℕ, ◌+◌, ◌*◌, ◌/◌, ◌%◌, ◌≤◌, ◌<◌}
 use native.Mathlib.Omega.{arith}
 use native.Mathlib.Numerals.{add-one}
 use lib.Dec.{eqb}
-use lib.ListN.{length, get_or, take, drop, set, length-drop}
-use lib.Seq.{take-suc, get_or-drop, get_or-set_same, get_or-set_other}
+use lib.ListN.{length, get_or, take, drop, length-drop}
+use lib.Seq.{take-suc, get_or-drop}
 use borrow.Author.Tests.{ne_eqb}
 use Rattle.model.specs.Conjunct.{Conj, Conjuncts}
-use Rattle.model.specs.Sizes.{most_arrays}
 use Rattle.model.specs.Touch.{is_var, is_load_lem, some}
 use Rattle.model.proofs.Basics.Lists.{all_imp, all_append}
 use Rattle.model.proofs.Basics.Tests.{or_left, or_right}
 use Rattle.conjunct.proofs.node.Looked.{low-variable, high-variable, at-variable, low_load, at_load}
 use Rattle.conjunct.specs.Word.{place2, place3, first_variable, first_load, low4, node_of, nodes_of_lem}
-use Rattle.footprint.specs.Footprints.{variable_flags, FreeVariable, FreeArray, Covers, CoversSet, Extends}
+use Rattle.footprint.specs.Footprints.{variable_flags, FreeArray, FlagsVariable, FlagsArray, Covers, CoversSet, Extends}
 use Rattle.footprint.specs.declared.Footprint.{Footprint}
 
 -- ---- more flags, more nodes
@@ -77,31 +76,6 @@ speaks_next m n S i e h q k a b =
     let g : take (i + 1) S ≡ take i S ++ (get_or S i [] ∷ []) = ap (λ j. take j S) (add-one i) ∙ take-suc S i [] h in
     subst (CoversSet n) (sym g) (all_append (Covers n) (take i S) (get_or S i [] ∷ []) (speaks_more m n (take i S) k a) (subst (Covers n) q b, tt))
 
--- ---- one flag more
-
--- a flag that is off after another was set was off before, and is not that one
-off_before : (l : List Bool) (i x : ℕ) → i < length l → get_or (set l i true) x false ≡ false → (x ≡ i → ⊥) × (get_or l x false ≡ false)
-off_before l i x h f =
-    let other : x ≡ i → ⊥ = λ e. true≢false (sym (get_or-set_same l i true false h) ∙ ap (λ j. get_or (set l i true) j false) (sym e) ∙ f) in
-    (other, sym (get_or-set_other l i x true false other) ∙ f)
-
-module _ (m n : Footprint) (i : ℕ) where
-  -- a variable's flag is set
-  pub variable-set : i < length m.variables → n.variables ≡ set m.variables i true → n.arrays ≡ m.arrays
-      → Extends m n × ((x : ℕ) → FreeVariable n x → x % variable_flags ≡ i → ⊥)
-  variable-set h v a =
-      let off : (x : ℕ) → FreeVariable n x → (x % variable_flags ≡ i → ⊥) × FreeVariable m x =
-      λ x f. off_before m.variables i (x % variable_flags) h (ap (λ fs. get_or fs (x % variable_flags) false) (sym v) ∙ f) in
-      (record { variables = λ x f. (off x f).1; arrays = λ t f. (f.0, ap (λ fs. get_or fs t false) (sym a) ∙ f.1) }, λ x f. (off x f).0)
-
-  -- an array's flag is set
-  pub array-set : i < length m.arrays → n.arrays ≡ set m.arrays i true → n.variables ≡ m.variables
-      → Extends m n × ((t : ℕ) → FreeArray n t → t ≡ i → ⊥)
-  array-set h a v =
-      let off : (t : ℕ) → FreeArray n t → (t ≡ i → ⊥) × (get_or m.arrays t false ≡ false) =
-      λ t f. off_before m.arrays i t h (ap (λ fs. get_or fs t false) (sym a) ∙ f.1) in
-      (record { variables = λ x f. ap (λ fs. get_or fs (x % variable_flags) false) (sym v) ∙ f; arrays = λ t f. (f.0, (off t f).1) }, λ t f. (off t f).0)
-
 -- ---- one node
 
 -- a number modulo the count of flags, by its lowest byte alone
@@ -122,29 +96,21 @@ module _ (w : ℕ) where
     not-variable x n = sym (at-variable w x l h) ∙ ne_eqb (low4 w) x (λ e. n (ap (◌% variable_flags) (sym e) ∙ low-flag (w / place3) _))
 
     -- a variable whose flag is set
-    pub covers-variable : (m n : Footprint) → length m.variables ≡ variable_flags → n.variables ≡ set m.variables (w / place3 % variable_flags) true
-        → n.arrays ≡ m.arrays → Extends m n × Covers n (node_of w ∷ [])
+    pub covers-variable : (n : Footprint) → FlagsVariable n (w / place3) → Covers n (node_of w ∷ [])
     unfolding some
-    covers-variable m n k v a =
-        let one = variable-set m n (w / place3 % variable_flags) (omega arith) v a in
-        (one.0, record { variables = λ x f. rw (not-variable x (one.1 x f)); arrays = λ t j f. rw (← low_load w t j h) })
+    covers-variable n on = record {
+      variables = λ x f. rw (not-variable x (λ e. on (ap (λ i. get_or n.variables i false) (sym e) ∙ f)));
+      arrays = λ t j f. rw (← low_load w t j h);
+    }
 
   module _ (l : first_load ≤ w) where
     not-load : (t k : ℕ) → (t ≡ w / place2 % 256 → ⊥) → is_load_lem t k (node_of w) ≡ false
     not-load t k n = sym (at_load w t k l) ∙ ap (◌&& eqb (w % place2) k) (ne_eqb (w / place2 % 256) t (λ e. n (sym e)))
 
-    -- a load from an array without a flag
-    pub covers-past-load : (m : Footprint) → most_arrays ≤ w / place2 % 256 → Covers m (node_of w ∷ [])
+    -- a load from an array whose flag, if it has one, is set
+    pub covers-load : (n : Footprint) → FlagsArray n (w / place2 % 256) → Covers n (node_of w ∷ [])
     unfolding some
-    covers-past-load m g = record {
+    covers-load n on = record {
       variables = λ x f. rw (← high-variable w x l);
-      arrays = λ t k f. rw (not-load t k (λ e. omega arith));
+      arrays = λ t j f. rw (not-load t j (λ e. on (subst (FreeArray n) e f)));
     }
-
-    -- a load from an array whose flag is set
-    pub covers-load : (m n : Footprint) → length m.arrays ≡ most_arrays → w / place2 % 256 < most_arrays
-        → n.arrays ≡ set m.arrays (w / place2 % 256) true → n.variables ≡ m.variables → Extends m n × Covers n (node_of w ∷ [])
-    unfolding some
-    covers-load m n k g a v =
-        let one = array-set m n (w / place2 % 256) (omega arith) a v in
-        (one.0, record { variables = λ x f. rw (← high-variable w x l); arrays = λ t j f. rw (not-load t j (one.1 t f)) })

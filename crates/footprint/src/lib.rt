@@ -27,35 +27,98 @@ pub struct Footprint {
     pub arrays: [bool; ARRAYS],
 }
 
-// ---- what a set speaks of
-
-// With those of the conjunct of the slot at a.
-fn with_slot(m: Footprint, s: &[u64], a: usize) -> Footprint
-    requires { a + slot_words ≤ length s.now }
-    ensures { Extends m result × Covers result (nodes_of_lem (slot_at s.now a)) }
-{
-    let n = conjunct::capped(s[a] as usize);
-    let mut r = m;
-    let mut j: usize = 0;
-    while j < n {
-        let w = s[a + 1 + j];
-        j += 1;
-        if w < VARIABLE {
-            continue;
-        }
-        if w < LOAD {
-            let x = (w / 0x100_0000) as usize % VARIABLE_FLAGS;
-            r.variables[x] = true;
-            continue;
-        }
-        let t = (w / 0x1_0000 % 0x100) as usize;
-        if ARRAYS <= t {
-            continue;
-        }
-        r.arrays[t] = true;
+impl Footprint {
+    // The flag of the variable x is set.
+    fn flag_variable(&mut self, x: usize)
+        ensures { Extends self.old self.new × FlagsVariable self.new x }
+    {
+        self.variables[x % VARIABLE_FLAGS] = true;
     }
-    r
+
+    // The flag of the array t is set, if it has one.
+    fn flag_array(&mut self, t: usize)
+        ensures { Extends self.old self.new × FlagsArray self.new t }
+    {
+        if t < ARRAYS {
+            self.arrays[t] = true;
+        }
+    }
+
+    // Those of the conjunct of the slot at a are set.
+    fn flag_slot(&mut self, s: &[u64], a: usize)
+        requires { a + slot_words ≤ length s.now }
+        ensures { Extends self.old self.new × Covers self.new (nodes_of_lem (slot_at s.now a)) }
+    {
+        let n = conjunct::capped(s[a] as usize);
+        for j in 0..n {
+            let w = s[a + 1 + j];
+            if w < VARIABLE {
+                continue;
+            }
+            if w < LOAD {
+                self.flag_variable((w / 0x100_0000) as usize);
+            } else {
+                self.flag_array((w / 0x1_0000 % 0x100) as usize);
+            }
+        }
+    }
+
+    // Those that the rule of a statement may bring into a set are set: of the variables and the array of its right
+    // side, or of the stored variable.
+    fn flag_statement(&mut self, d: Decoded)
+        ensures { Extends self.old self.new × Flags self.new (stmt_from d) }
+    {
+        match d.kind {
+            1 | 6 => self.flag_variable(d.b),
+            2..=5 => {
+                self.flag_variable(d.b);
+                self.flag_variable(d.c);
+            }
+            8 => self.flag_array(d.b),
+            9 => self.flag_variable(d.c),
+            _ => {}
+        }
+    }
+
+    // Those that the statements on the labels from p up to q may bring are set, however often they are walked.
+    fn flag_statements(&mut self, s: &[u64], p: usize, q: usize)
+        requires { Labels s.now p q }
+        ensures { Extends self.old self.new × FlagsAll self.new (stmts s.now) p q }
+    {
+        for i in p..q {
+            self.flag_statement(code_table::fetch(s, 0, i));
+        }
+    }
+
+    // Whether a statement changes nothing that is flagged.
+    fn spares(&self, d: Decoded) -> bool
+        ensures { result ≡ true → Spares self.now (stmt_from d) }
+    {
+        if 10 <= d.kind {
+            return true;
+        }
+        if d.kind == 9 {
+            return d.a < ARRAYS && !self.arrays[d.a];
+        }
+        !self.variables[d.a % VARIABLE_FLAGS]
+    }
+
+    // The first statement on the labels from p up to q that changes anything that is flagged.
+    fn first_changing(&self, s: &[u64], p: usize, q: usize) -> Option<Decoded>
+        requires { Labels s.now p q }
+        ensures { result ≡ None → SparedAll self.now (stmts s.now) p q }
+    {
+        for i in p..q {
+            let d = code_table::fetch(s, 0, i);
+            if !self.spares(d) {
+                return Some(d);
+            }
+        }
+        None
+    }
 }
+
+// ---- what a set speaks of
 
 // Those of the set of the region at b.
 pub fn of_set(s: &[u64], b: usize) -> Footprint
@@ -67,74 +130,13 @@ pub fn of_set(s: &[u64], b: usize) -> Footprint
         variables: [false; VARIABLE_FLAGS],
         arrays: [false; ARRAYS],
     };
-    let mut i: usize = 0;
-    while i < n {
-        r = with_slot(r, s, b + 1 + sets::SLOT * i);
-        i += 1;
+    for i in 0..n {
+        r.flag_slot(s, b + 1 + sets::SLOT * i);
     }
     r
 }
 
 // ---- what a program brings
-
-// With that of the variable x.
-fn with_variable(m: Footprint, x: usize) -> Footprint
-    ensures { Extends m result × FlagsVariable result x }
-{
-    let mut r = m;
-    r.variables[x % VARIABLE_FLAGS] = true;
-    r
-}
-
-// With that of the array t.
-fn with_array(m: Footprint, t: usize) -> Footprint
-    ensures { Extends m result × FlagsArray result t }
-{
-    if ARRAYS <= t {
-        return m;
-    }
-    let mut r = m;
-    r.arrays[t] = true;
-    r
-}
-
-// With those that the rule of a statement may bring into a set: of the variables and the array of its right
-// side, or of the stored variable.
-fn with_statement(m: Footprint, d: Decoded) -> Footprint
-    ensures { Extends m result × Flags result (stmt_from d) }
-{
-    let kind = d.kind;
-    match kind {
-        1 => with_variable(m, d.b),
-        6 => with_variable(m, d.b),
-        8 => with_array(m, d.b),
-        9 => with_variable(m, d.c),
-        _ => {
-            if 2 <= kind {
-                if kind <= 5 {
-                    let r = with_variable(m, d.b);
-                    return with_variable(r, d.c);
-                }
-            }
-            m
-        }
-    }
-}
-
-// With those that the statements on the labels from p up to q may bring, however often they are walked.
-fn with_statements(s: &[u64], m: Footprint, p: usize, q: usize) -> Footprint
-    requires { Labels s.now p q }
-    ensures { Extends m result × FlagsAll result (stmts s.now) p q }
-{
-    let mut r = m;
-    let mut i = p;
-    while i < q {
-        let d = code_table::fetch(s, 0, i);
-        r = with_statement(r, d);
-        i += 1;
-    }
-    r
-}
 
 // From flags of a set those of what the walk of the statements on the labels from p up to q made of it, in the
 // region at b: with what the statements may bring, or anew, where it is the set that is looked at sooner.
@@ -145,49 +147,19 @@ pub fn flags_after(s: &[u64], m: Footprint, b: usize, p: usize, q: usize) -> Foo
     if STATEMENTS_A_CONJUNCT * sets::size(s, b) < q - p {
         return of_set(s, b);
     }
-    with_statements(s, m, p, q)
+    let mut r = m;
+    r.flag_statements(s, p, q);
+    r
 }
 
 // ---- what a program changes
-
-// Whether a statement changes none of them.
-fn spares(m: Footprint, d: Decoded) -> bool
-    ensures { result ≡ true → Spares m (stmt_from d) }
-{
-    let kind = d.kind;
-    let a = d.a;
-    if 10 <= kind {
-        return true;
-    }
-    if kind == 9 {
-        if ARRAYS <= a {
-            return false;
-        }
-        if m.arrays[a] {
-            return false;
-        }
-        return true;
-    }
-    if m.variables[a % VARIABLE_FLAGS] {
-        return false;
-    }
-    true
-}
 
 // Whether the statements on the labels from p up to q change none of them.
 pub fn spares_all(s: &[u64], m: Footprint, p: usize, q: usize) -> bool
     requires { Labels s.now p q }
     ensures { result ≡ true → SparedAll m (stmts s.now) p q }
 {
-    let mut i = p;
-    while i < q {
-        let d = code_table::fetch(s, 0, i);
-        if !spares(m, d) {
-            return false;
-        }
-        i += 1;
-    }
-    true
+    m.first_changing(s, p, q).is_none()
 }
 
 // How far back from r, but not past p, each statement is plain and changes none of them.
@@ -195,18 +167,16 @@ pub fn spared_plain(s: &[u64], m: Footprint, p: usize, r: usize) -> usize
     requires { Labels s.now p r }
     ensures { BackTo m (stmts s.now) p r result }
 {
-    let mut l = r;
-    while p < l {
-        let d = code_table::fetch(s, 0, l - 1);
+    for l in (p..r).rev() {
+        let d = code_table::fetch(s, 0, l);
         if 11 <= d.kind {
-            return l;
+            return l + 1;
         }
-        if !spares(m, d) {
-            return l;
+        if !m.spares(d) {
+            return l + 1;
         }
-        l -= 1;
     }
-    l
+    p
 }
 
 // ---- flags that are out of date
@@ -216,8 +186,7 @@ fn slot_speaks_of(s: &[u64], a: usize, d: Decoded) -> bool
     requires { a + slot_words ≤ length s.now }
 {
     let n = conjunct::capped(s[a] as usize);
-    let kind = d.kind;
-    if kind == 9 {
+    if d.kind == 9 {
         return conjunct::mentions_array(&s[a + 1..], n, d.a as u64, d.len);
     }
     conjunct::mentions_variable(&s[a + 1..], n, d.a as u64)
@@ -228,12 +197,10 @@ fn speaks_of(s: &[u64], b: usize, d: Decoded) -> bool
     requires { b + region_words ≤ length s.now }
 {
     let n = sets::size(s, b);
-    let mut i: usize = 0;
-    while i < n {
+    for i in 0..n {
         if slot_speaks_of(s, b + 1 + sets::SLOT * i, d) {
             return true;
         }
-        i += 1;
     }
     false
 }
@@ -243,15 +210,10 @@ fn speaks_of(s: &[u64], b: usize, d: Decoded) -> bool
 fn up_to_date(s: &[u64], m: Footprint, b: usize, p: usize, q: usize) -> bool
     requires { Labels s.now p q × (b + region_words ≤ length s.now) }
 {
-    let mut i = p;
-    while i < q {
-        let d = code_table::fetch(s, 0, i);
-        if !spares(m, d) {
-            return speaks_of(s, b, d);
-        }
-        i += 1;
+    match m.first_changing(s, p, q) {
+        Some(d) => speaks_of(s, b, d),
+        None => true,
     }
-    true
 }
 
 // Flags that cover the set of the region at b as those given do: made anew where these do not spare a statement

@@ -6,4 +6,4 @@ pub returns-then-size-q : goal.returns-then-size-q
 returns-then-size-q c = inl c.of_set.ensures
 
 pub returns : goal.returns
-returns c = inr c.with_statements.ensures
+returns c = inr c.flag_statements.ensures

@@ -5,7 +5,6 @@ use Prim.Native.Nat.{◌+◌, ◌*◌}
 use native.Mathlib.Omega.{arith}
 use lib.ListN.{get_or}
 use lib.Seq.{take_all}
-use borrow.Author.Rules.{rules}
 use Rattle.conjunct.specs.Word.{nodes_of_lem}
 use Rattle.sets.proofs.Rows.{set-length, set_at}
 use Rattle.sets.specs.Region.{slot_words, slot_at, set_of}
@@ -14,7 +13,7 @@ use Rattle.footprint.specs.Footprints.{CoversSet}
 use Rattle.footprint.proofs.of_set.Goals as goal
 
 pub loop-i-init : goal.loop-i-init
-loop-i-init c = (search rules, c.size-n.ensures.0, tt)
+loop-i-init c = (c.size-n.ensures.0, tt)
 
 pub loop-i-preserved : goal.loop-i-preserved
 loop-i-preserved c =
@@ -22,10 +21,10 @@ loop-i-preserved c =
     let S = set_of a.s.now a.b in
     let e = nodes_of_lem (slot_at a.s.now (a.b + 1 + slot_words * c.loop-i.i)) in
     let at : e ≡ get_or S c.loop-i.i [] = sym (set_at a.s.now a.b c.loop-i.i (omega (arith, set-length a.s.now a.b))) in
-    (omega arith, c.loop-i.invariant.1, speaks_next c.loop-i.r c.with_slot-r.result S c.loop-i.i e (omega arith) at c.with_slot-r.ensures.0 c.loop-i.invariant.2 c.with_slot-r.ensures.1)
+    (c.loop-i.invariant.0, speaks_next c.loop-i.r c.flag_slot.new.self S c.loop-i.i e (omega arith) at c.flag_slot.ensures.0 c.loop-i.invariant.1 c.flag_slot.ensures.1)
 
 pub returns : goal.returns
 returns c =
     let a = c.args in
     let S = set_of a.s.now a.b in
-    subst (CoversSet c.loop-i.r) (take_all c.loop-i.i S (omega arith)) c.loop-i.invariant.2
+    subst (CoversSet c.loop-i.r) (take_all c.loop-i.i S (omega arith)) c.loop-i.invariant.1

@@ -1,10 +1,7 @@
--- `footprint::spared_plain` meets its contract.
+-- `footprint::spared_plain` meets its contract: what stands from l on is plain and spared.
 use Rattle.code_table.specs.Table.{stmts}
-use Rattle.footprint.specs.Footprints.{BackTo}
+use Rattle.footprint.specs.Footprints.{PlainAndSpared}
 use Rattle.footprint.proofs.spared_plain.Given as goal
 
 abbrev pub invariant-loop-l : goal.invariant-loop-l
-invariant-loop-l l = BackTo l.m (stmts l.s) l.p l.r l.l
-
-abbrev pub decreases-loop-l : goal.decreases-loop-l
-decreases-loop-l l = l.l
+invariant-loop-l l = PlainAndSpared l.m (stmts l.s) l.l l.r
