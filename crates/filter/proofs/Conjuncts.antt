@@ -21,7 +21,7 @@ use Rattle.model.proofs.Basics.Tests.{and_left, and_right}
 use Rattle.model.proofs.Files.FieldTables.{length_types}
 use Rattle.condition.specs.Answers.{part_nodes, pair_part, pair_right, pair_place, fields_at, types_at, pairs_of, linked, ConditionIsRead, types_of, conjuncts_of}
 use Rattle.condition.specs.declared.Counts.{Counts}
-use Rattle.condition.proofs.Table.{form_by, form-types, form-pair, counted-read, conjunct-inside, fields-many, conjuncts-count}
+use Rattle.condition.proofs.Table.{form_by, form-narrow, form-types, form-pair, counted-read, conjunct-inside, fields-many, conjuncts-count}
 use Rattle.plan.specs.Part.{conjunct_of, IsConjunct}
 use Rattle.plan.proofs.Parts.{part-is-conjunct}
 
@@ -45,9 +45,6 @@ form-few s c f form =
     leb-true c most_conjuncts
     (and_right (leb 8 (length s)) (leb c most_conjuncts)
     (and_left (leb 8 (length s) && leb c most_conjuncts) (leb f most_fields) (form_sized s c f form)))
-
-pub form-narrow : (s : List ℕ) (c f : ℕ) → form_by s c f ≡ true → f ≤ most_fields
-form-narrow s c f form = leb-true f most_fields (and_right (leb 8 (length s) && leb c most_conjuncts) (leb f most_fields) (form_sized s c f form))
 
 -- a pair that is right names a conjunct
 right-is-conjunct : (types s : List ℕ) (p : Pair) → length types ≤ most_fields → p.offset + p.len ≤ length s → pair_right types s p ≡ true

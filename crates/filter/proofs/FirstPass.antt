@@ -10,8 +10,8 @@ use Rattle.model.specs.Lists.{every}
 use Rattle.model.specs.Conjunct.{Conj, Conjuncts}
 use Rattle.model.specs.Input.{Input}
 use Rattle.model.specs.Filter.{few_combinations, has_readings}
-use Rattle.filter.specs.Verdict.{Told}
-use Rattle.filter.specs.declared.Combinations.TheVariants.{Blank, TooMany, Within}
+use Rattle.model.specs.Refusals.{ok, refused, blank_field, too_many_combinations}
+use Rattle.filter.specs.Verdict.{combined}
 
 -- of the first i conjuncts none reads a blank field, and many says whether one of them has too many combinations
 pub record ToldTo (I : Input) (S : Conjuncts) (i : ℕ) (many : Bool) : Type 0 where
@@ -28,9 +28,9 @@ and-false false = refl
 module _ (I : Input) (S : Conjuncts) (i : ℕ) (many : Bool) (so_far : ToldTo I S i many) where
   -- the next is e
   module _ (e : Conj) (next : drop i S ≡ e ∷ drop (i + 1) S) where
-    pub told_blank : has_readings I e ≡ false → Told Blank I S
-    unfolding every
-    told_blank blank = so_far.readings ∙ rw (next, blank)
+    pub told_blank : has_readings I e ≡ false → refused blank_field ≡ combined I S
+    unfolding every combined
+    told_blank blank = rw so_far.readings (rw (next, blank))
 
     module _ (full : has_readings I e ≡ true) where
       pub told_many : few_combinations I e ≡ false → ToldTo I S (i + 1) true
@@ -47,10 +47,10 @@ module _ (I : Input) (S : Conjuncts) (i : ℕ) (many : Bool) (so_far : ToldTo I 
 
   -- there is no next
   module _ (none : drop i S ≡ []) where
-    pub told_too_many : many ≡ true → Told TooMany I S
-    unfolding every
-    told_too_many e = (so_far.readings ∙ rw none, so_far.combinations ∙ rw e)
+    pub told_too_many : many ≡ true → refused too_many_combinations ≡ combined I S
+    unfolding every combined
+    told_too_many e = rw (so_far.readings, so_far.combinations) (rw (none, e))
 
-    pub told_within : many ≡ false → Told Within I S
-    unfolding every
-    told_within e = (so_far.readings ∙ rw none, so_far.combinations ∙ rw (none, e))
+    pub told_within : many ≡ false → ok tt ≡ combined I S
+    unfolding every combined
+    told_within e = rw (so_far.readings, so_far.combinations) (rw (none, e))

@@ -25,9 +25,9 @@ use Rattle.model.proofs.Basics.Every.{every-all}
 use Rattle.model.proofs.Files.Parts.{length-entries}
 use Rattle.model.proofs.Files.FieldTables.{length_types}
 use Rattle.condition.specs.Answers.{pair_right, pairs_of, types_at, fields_of, conjuncts_of}
-use Rattle.condition.proofs.Table.{form_by, form-chained, form_pairs, pair-short, read-form, condition-read, fields-many}
+use Rattle.condition.proofs.Table.{form_by, form-narrow, form-chained, form_pairs, pair-short, read-form, condition-read, fields-many}
 use Rattle.filter.specs.Verdict.{judged}
-use Rattle.filter.proofs.Conjuncts.{form-few, form-narrow}
+use Rattle.filter.proofs.Conjuncts.{form-few}
 use Rattle.filter.proofs.Verdicts.{verdict-steps}
 
 -- ---- the longest files

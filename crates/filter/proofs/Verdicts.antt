@@ -1,19 +1,19 @@
 -- The filter step by step: where it refuses, and what it answers of a condition and an input that are read.
 use mathlib.Core.Path.{◌≡◌, refl, sym, ap, ap₂, ◌∙◌}
-use mathlib.Core.Bool.{true, ◌&&◌, cond}
+use mathlib.Core.Bool.{Bool, true, false, ◌&&◌, cond}
 use mathlib.Core.List.{List, [], ◌∷◌}
 use Prim.Native.Nat.{ℕ, ◌*◌}
 use lib.Dec.{ltb}
 use lib.ListN.{length, get_or}
 use Rattle.arith.specs.declared.Cause.{Cause}
 use Rattle.model.specs.Lists.{All, every}
-use Rattle.model.specs.Refusals.{Out, ok, refused, ◌>>=◌, mapped, wrong_input}
+use Rattle.model.specs.Refusals.{Out, ok, refused, ◌>>=◌, check, mapped, wrong_input, blank_field, too_many_combinations}
 use Rattle.model.specs.Bytes.{pair_at, pairs_at, chained}
 use Rattle.model.specs.Fields.{Field, types_in}
 use Rattle.model.specs.Conjunct.{Conjuncts}
 use Rattle.model.specs.Condition.{Condition, read_condition}
 use Rattle.model.specs.Input.{Input, readings_of, lengths_right, bits_right_lem, read_input}
-use Rattle.model.specs.Filter.{has_readings}
+use Rattle.model.specs.Filter.{few_combinations, has_readings}
 use Rattle.model.specs.Failure.{Found, first, failure_in, verdict}
 use Rattle.model.proofs.Basics.Results.{ok_eq, refused-ok, check-ok, mapped-ok}
 use Rattle.model.proofs.Basics.Tests.{and_left, and_right}
@@ -22,25 +22,35 @@ use Rattle.condition.specs.declared.Counts.{Counts}
 use Rattle.condition.proofs.Table.{condition-read}
 use Rattle.plan.specs.Readings.{Counted, NoneBlank}
 use Rattle.evaluator.proofs.Calls.{readings-none-blank}
-use Rattle.filter.specs.Verdict.{Told, judged}
-use Rattle.filter.specs.declared.Combinations.TheVariants.{Blank, TooMany, Within}
+use Rattle.filter.specs.Verdict.{combined, judged}
 use Rattle.filter.specs.Decoding.{input_in}
 
 -- ---- the verdict on conjuncts
 
 module _ (I : Input) (S : Conjuncts) where
-  pub judged-blank : Told Blank I S → judged I S ≡ refused 15
-  unfolding judged
-  judged-blank h = rw h
+  judged-combined : judged I S ≡ (combined I S >>= λ u. ok (first (failure_in I) S))
+  unfolding judged combined
+  judged-combined = go (every (has_readings I) S) (every (few_combinations I) S)
+    where
+      go : (a b : Bool)
+          → check a blank_field (check b too_many_combinations (ok (first (failure_in I) S)))
+          ≡ (check a blank_field (check b too_many_combinations (ok (tt {0}))) >>= λ u. ok (first (failure_in I) S))
+      go false b = refl
+      go true false = refl
+      go true true = refl
 
-  pub judged_too_many : Told TooMany I S → judged I S ≡ refused 14
-  unfolding judged
-  judged_too_many h = rw (h.0, h.1)
+  -- a refusal by the numbers of combinations
+  pub judged-refused : (n : ℕ) → refused n ≡ combined I S → refused n ≡ judged I S
+  judged-refused n h = sym (judged-combined ∙ rw (sym h))
 
   -- where they are within the limit, the evaluations decide
-  pub judged-within : Told Within I S → (a : Found Cause) → a ≡ first (failure_in I) S → ok a ≡ judged I S
-  unfolding judged
-  judged-within h a k = rw (h.0, h.1, k)
+  pub judged-within : ok tt ≡ combined I S → (a : Found Cause) → a ≡ first (failure_in I) S → ok a ≡ judged I S
+  judged-within h a k = sym (judged-combined ∙ rw (sym h, k))
+
+  -- and no field that is read is blank
+  pub within-full : ok tt ≡ combined I S → every (has_readings I) S ≡ true
+  unfolding combined
+  within-full h = (check-ok (every (has_readings I) S) blank_field (check (every (few_combinations I) S) too_many_combinations (ok tt)) tt (sym h)).0
 
 -- where no field that is read is blank, every conjunct can be evaluated
 pub none-blank : (counts : List ℕ) (S : Conjuncts) → ((I : Input) → Counted I counts → every (has_readings I) S ≡ true) → All (NoneBlank counts) S

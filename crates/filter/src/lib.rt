@@ -7,35 +7,24 @@
 
 ghost use Rattle.std.specs.Prelude.{◌≡◌, ℕ, ◌*◌, ◌≤◌, ◌<◌, length};
 ghost use Rattle.arith.specs.Types.{Row};
-ghost use Rattle.model.specs.Sizes.{most_fields};
+ghost use Rattle.model.specs.Sizes.{most_fields, most_readings};
 ghost use Rattle.model.specs.Fields.{fields_in};
 ghost use Rattle.model.specs.Input.{Input, width, reading_at_lem};
 ghost use Rattle.model.specs.Failure.{verdict};
 ghost use Rattle.condition.specs.Answers.{ConditionIsRead, conjuncts_of};
 ghost use Rattle.plan.specs.Readings.{signed_at, Few, Lent, Counted, Decoded, Taken};
-ghost use Rattle.filter.specs.Verdict.{verdict_of, Told, judged, few_fields, Triable, FirstFails, BothRead, Judgeable, Judges};
+ghost use Rattle.filter.specs.Verdict.{verdict_of, Told, judged, Triable, FirstFails, BothRead, Judgeable, Judges};
 ghost use Rattle.filter.specs.Decoding.{input_in, Filled, ReadingFits, ReadingsFit, Decodable, FieldPut};
 
 use arith::{Cause, Range};
-use condition::{ConditionRead, Counts};
-use evaluator::Answer;
-use input::InputRead;
+use condition::Counts;
+use refusals::Refusal;
 
-// The input passes, is held, and why it is, or the number of the refusal.
-#[derive(Clone, Copy)]
+// The input passes, or is held, and why it is.
+#[derive(Clone, Copy, Debug, PartialEq, Eq)]
 pub enum Verdict {
     Pass,
     Held(Cause),
-    Refused(u8),
-}
-
-// What the numbers of combinations tell of all conjuncts: one reads a field without a reading; none
-// does, but one has too many combinations; neither.
-#[derive(Clone, Copy)]
-enum Combinations {
-    Blank,
-    TooMany,
-    Within,
 }
 
 // The bytes of the entry of a field.
@@ -46,6 +35,10 @@ const FIELDS: usize = 32;
 const FEW: usize = 4;
 // The most readings of a field.
 const READINGS: usize = 128;
+// Places for the readings of a small condition's fields.
+const SMALL_ROOM: usize = READINGS * FEW;
+// Places for the readings of any condition's fields.
+const ROOM: usize = READINGS * FIELDS;
 // The most combinations of a conjunct.
 const LIMIT: usize = 1_048_576;
 
@@ -69,10 +62,8 @@ fn put_readings(ty: u8, part: &[u8], n: usize, from: usize, mags: &mut [u64], ne
         (signed_at mags.new negs.new) }
 {
     let range = arith::range_of(ty);
-    let mut k: usize = 0;
-    while k < n {
+    for k in 0..n {
         put_reading(range, part, k, from + k, mags, negs);
-        k += 1;
     }
 }
 
@@ -98,10 +89,8 @@ fn decode(fields: &[u8], input: &[u8], counts: &mut [usize], mags: &mut [u64], n
     ensures { Lent counts.new mags.new negs.new
         × Decoded (input_in (fields_in fields.now) input.now) counts.new mags.new negs.new }
 {
-    let mut f: usize = 0;
-    while f < FIELDS {
+    for f in 0..FIELDS {
         counts[f] = put_field(fields, input, f, mags, negs);
-        f += 1;
     }
 }
 
@@ -109,64 +98,66 @@ fn decode(fields: &[u8], input: &[u8], counts: &mut [usize], mags: &mut [u64], n
 
 // What the numbers of combinations tell of all conjuncts. A blank field comes first: it is looked for
 // to the last conjunct, also where one before has too many combinations.
-fn products(condition: &[u8], sizes: Counts, counts: &[usize]) -> Combinations
+fn products(condition: &[u8], sizes: Counts, counts: &[usize]) -> Result<(), Refusal>
     requires { ConditionIsRead condition.now sizes × Few counts.now }
     ensures { (I : Input) → Counted I counts.now → Told result I (conjuncts_of condition.now) }
 {
     let n = sizes.conjuncts;
     let mut many = false;
-    let mut i: usize = 0;
-    while i < n {
+    for i in 0..n {
         let part = condition::conjunct(condition, sizes, i);
         let p = evaluator::product(part, counts);
         if p == 0 {
-            return Combinations::Blank;
+            return Err(Refusal::BlankField);
         }
         if LIMIT < p {
             many = true;
         }
-        i += 1;
     }
     if many {
-        return Combinations::TooMany;
+        return Err(Refusal::TooManyCombinations);
     }
-    Combinations::Within
+    Ok(())
 }
 
 // Why the first conjunct that does not hold does not, or that all do.
-fn try_all(condition: &[u8], sizes: Counts, counts: &[usize], mags: &[u64], negs: &[bool]) -> Answer
+fn try_all(
+    condition: &[u8],
+    sizes: Counts,
+    counts: &[usize],
+    mags: &[u64],
+    negs: &[bool],
+) -> Result<(), Cause>
     requires { Triable condition.now sizes counts.now mags.now negs.now }
     ensures { FirstFails result condition.now counts.now mags.now negs.now }
 {
     let n = sizes.conjuncts;
-    let mut place: usize = 0;
-    while place < n {
+    for place in 0..n {
         let part = condition::conjunct(condition, sizes, place);
-        let answer = evaluator::first_failure(part, counts, mags, negs);
-        if let Answer::Overflows(_) = answer {
-            return answer;
-        }
-        place += 1;
+        evaluator::first_failure(part, counts, mags, negs)?;
     }
-    Answer::Holds
+    Ok(())
 }
 
 // ---- the verdict
 
 // Of a condition that is read, with the readings of an input: nothing is evaluated before all numbers of
 // combinations are known.
-fn judge(condition: &[u8], sizes: Counts, counts: &[usize], mags: &[u64], negs: &[bool]) -> Verdict
+fn judge(
+    condition: &[u8],
+    sizes: Counts,
+    counts: &[usize],
+    mags: &[u64],
+    negs: &[bool],
+) -> Result<Verdict, Refusal>
     requires { ConditionIsRead condition.now sizes × Lent counts.now mags.now negs.now }
     ensures { (I : Input) → Decoded I counts.now mags.now negs.now
         → verdict_of result ≡ judged I (conjuncts_of condition.now) }
 {
-    match products(condition, sizes, counts) {
-        Combinations::Blank => Verdict::Refused(15),
-        Combinations::TooMany => Verdict::Refused(14),
-        Combinations::Within => match try_all(condition, sizes, counts, mags, negs) {
-            Answer::Holds => Verdict::Pass,
-            Answer::Overflows(cause) => Verdict::Held(cause),
-        },
+    products(condition, sizes, counts)?;
+    match try_all(condition, sizes, counts, mags, negs) {
+        Ok(()) => Ok(Verdict::Pass),
+        Err(cause) => Ok(Verdict::Held(cause)),
     }
 }
 
@@ -178,7 +169,7 @@ fn judge_in(
     counts: &mut [usize],
     mags: &mut [u64],
     negs: &mut [bool],
-) -> Verdict
+) -> Result<Verdict, Refusal>
     requires { Judgeable condition.now sizes input.now counts.old mags.old negs.old }
     ensures { Judges result condition.now input.now }
 {
@@ -187,59 +178,38 @@ fn judge_in(
     judge(condition, sizes, counts, mags, negs)
 }
 
-// For a condition of few fields: the less room there is, the less is to be cleared.
-fn judge_small(condition: &[u8], sizes: Counts, input: &[u8]) -> Verdict
-    requires { BothRead condition.now sizes input.now × (sizes.fields ≤ few_fields) }
+// With so many places of its own for the readings.
+fn judge_with<const PLACES: usize>(
+    condition: &[u8],
+    sizes: Counts,
+    input: &[u8],
+) -> Result<Verdict, Refusal>
+    requires { BothRead condition.now sizes input.now
+        × (most_readings * sizes.fields ≤ PLACES) × (PLACES ≤ most_readings * most_fields) }
     ensures { Judges result condition.now input.now }
 {
     let mut counts: [usize; FIELDS] = [0; FIELDS];
-    let mut mags: [u64; READINGS * FEW] = [0; READINGS * FEW];
-    let mut negs: [bool; READINGS * FEW] = [false; READINGS * FEW];
+    let mut mags: [u64; PLACES] = [0; PLACES];
+    let mut negs: [bool; PLACES] = [false; PLACES];
     judge_in(condition, sizes, input, &mut counts, &mut mags, &mut negs)
 }
 
-// For any condition.
-fn judge_large(condition: &[u8], sizes: Counts, input: &[u8]) -> Verdict
-    requires { BothRead condition.now sizes input.now }
-    ensures { Judges result condition.now input.now }
-{
-    let mut counts: [usize; FIELDS] = [0; FIELDS];
-    let mut mags: [u64; READINGS * FIELDS] = [0; READINGS * FIELDS];
-    let mut negs: [bool; READINGS * FIELDS] = [false; READINGS * FIELDS];
-    judge_in(condition, sizes, input, &mut counts, &mut mags, &mut negs)
-}
-
-// Of a condition and an input that are read.
-fn judge_input(condition: &[u8], sizes: Counts, input: &[u8]) -> Verdict
+// Of a condition and an input that are read. The fewer places there are, the less is to be cleared.
+fn judge_input(condition: &[u8], sizes: Counts, input: &[u8]) -> Result<Verdict, Refusal>
     requires { BothRead condition.now sizes input.now }
     ensures { Judges result condition.now input.now }
 {
     if sizes.fields <= FEW {
-        return judge_small(condition, sizes, input);
+        return judge_with::<SMALL_ROOM>(condition, sizes, input);
     }
-    judge_large(condition, sizes, input)
-}
-
-// Of a condition that is read.
-fn check_input(condition: &[u8], sizes: Counts, input: &[u8]) -> Verdict
-    requires { ConditionIsRead condition.now sizes }
-    ensures { verdict_of result ≡ verdict condition.now input.now }
-{
-    let fields = condition::fields(condition, sizes);
-    let r = input::read(fields, input);
-    match r {
-        InputRead::Refused(n) => Verdict::Refused(n),
-        InputRead::Yes => judge_input(condition, sizes, input),
-    }
+    judge_with::<ROOM>(condition, sizes, input)
 }
 
 // The verdict on two byte strings.
-pub fn check(condition: &[u8], input: &[u8]) -> Verdict
+pub fn check(condition: &[u8], input: &[u8]) -> Result<Verdict, Refusal>
     ensures { verdict_of result ≡ verdict condition.now input.now }
 {
-    let r = condition::read(condition);
-    match r {
-        ConditionRead::Refused(n) => Verdict::Refused(n),
-        ConditionRead::Counts(sizes) => check_input(condition, sizes, input),
-    }
+    let sizes = condition::read(condition)?;
+    input::read(condition::fields(condition, sizes), input)?;
+    judge_input(condition, sizes, input)
 }

@@ -1,16 +1,41 @@
 -- `filter::check` meets its contract.
-use mathlib.Core.Path.{sym, ap, ◌∙◌}
-use Rattle.condition.specs.Answers.{condition_answer}
-use Rattle.filter.proofs.Verdicts.{condition-refused}
+use mathlib.Core.Path.{◌≡◌, sym, subst, ◌∙◌}
+use Rattle.std.proofs.lemmas.Result.{err_from_is_err_and}
+use Rattle.model.specs.Refusals.{ok, refused, mapped}
+use Rattle.model.specs.Input.{read_input}
+use Rattle.refusals.specs.Answers.{number_of}
+use Rattle.condition.specs.Answers.{ConditionIsRead, fields_of}
+use Rattle.filter.proofs.Verdicts.{condition-refused, input-refused, both_read}
 use Rattle.filter.proofs.check.Goals as goal
+use Rattle.filter.proofs.check.Goals.{In_ok-sizes, In_ok-read}
 
-pub check_input-requires : goal.check_input-requires
-check_input-requires c = sym c.read-r.ensures ∙ ap condition_answer c.in-Counts.is
+condition-read : (c : In_ok-sizes) → ConditionIsRead c.args.condition.now c.in_ok-sizes.sizes
+condition-read c = sym c.in_ok-sizes.ensures
 
-pub returns-in-Refused : goal.returns-in-Refused
-returns-in-Refused c =
-    condition-refused c.args.condition.now c.args.input.now c.in-Refused.n
-    (sym (ap condition_answer c.in-Refused.is) ∙ c.read-r.ensures)
+input-read : (c : In_ok-read) → mapped (λ I. tt {0}) (read_input (fields_of c.args.condition.now) c.args.input.now) ≡ ok tt
+input-read c =
+    subst (λ fs. mapped (λ I. tt {0}) (read_input fs c.args.input.now) ≡ ok tt) c.fields.ensures.0 (sym c.in_ok-read.ensures)
 
-pub returns-in-Counts : goal.returns-in-Counts
-returns-in-Counts c = c.check_input.ensures
+pub returns-in_err-sizes : goal.returns-in_err-sizes
+returns-in_err-sizes c =
+    let p = err_from_is_err_and c.from_residual.result c.from_residual.ensures.1 in
+    rw (p.1, p.2) (condition-refused c.args.condition.now c.args.input.now (number_of c.in_err-sizes.field-0.0) c.in_err-sizes.ensures)
+
+pub fields-requires : goal.fields-requires
+fields-requires c = condition-read c
+
+pub returns-in_err-read : goal.returns-in_err-read
+returns-in_err-read c =
+    let n = number_of c.in_err-read.field-0.0 in
+    let p = err_from_is_err_and c.from_residual-in_err-read.result c.from_residual-in_err-read.ensures.1 in
+    rw (p.1, p.2)
+    (input-refused c.args.condition.now c.args.input.now c.in_ok-sizes.sizes (condition-read (goal.at.returns-in_err-read c).In_ok-sizes) n
+    (subst (λ fs. refused n ≡ mapped (λ I. tt {0}) (read_input fs c.args.input.now)) c.fields.ensures.0 c.in_err-read.ensures))
+
+pub judge_input-requires : goal.judge_input-requires
+judge_input-requires c = record { of_condition = condition-read (goal.at.judge_input-requires c).In_ok-sizes; of_input = input-read c }
+
+pub returns : goal.returns
+returns c =
+    c.judge_input.ensures
+    ∙ sym (both_read c.args.condition.now c.args.input.now c.in_ok-sizes.sizes (condition-read (goal.at.returns c).In_ok-sizes) (input-read (goal.at.returns c).In_ok-read))

@@ -12,15 +12,15 @@ use Rattle.filter.proofs.decode.Goals as goal
 pub loop-f-init : goal.loop-f-init
 loop-f-init c =
     let a = c.args in
-    (omega arith, c.requires.1, refl, refl, decoded_none (input_in (fields_in a.fields.now) a.input.now) a.counts.now a.mags.now a.negs.now)
+    (c.requires.1, refl, refl, decoded_none (input_in (fields_in a.fields.now) a.input.now) a.counts.now a.mags.now a.negs.now)
 
 pub put_field-requires : goal.put_field-requires
 put_field-requires c = (
   record {
     read = c.requires.0.read;
     typed = c.requires.0.typed;
-    magnitudes = omega (arith, c.requires.0.magnitudes, c.loop-f.invariant.2);
-    signs = omega (arith, c.requires.0.signs, c.loop-f.invariant.3);
+    magnitudes = omega (arith, c.requires.0.magnitudes, c.loop-f.invariant.1);
+    signs = omega (arith, c.requires.0.signs, c.loop-f.invariant.2);
   },
   c.loop-f-test.true,
 )
@@ -28,13 +28,12 @@ put_field-requires c = (
 pub loop-f-preserved : goal.loop-f-preserved
 loop-f-preserved c =
     let a = c.args in (
-      omega arith,
-      length-set c.loop-f.counts c.loop-f.f c.put_field.result ∙ c.loop-f.invariant.1,
-      c.put_field.auto.mags ∙ c.loop-f.invariant.2,
-      c.put_field.auto.negs ∙ c.loop-f.invariant.3,
+      length-set c.loop-f.counts c.loop-f.f c.put_field.result ∙ c.loop-f.invariant.0,
+      c.put_field.auto.mags ∙ c.loop-f.invariant.1,
+      c.put_field.auto.negs ∙ c.loop-f.invariant.2,
       decoded_next (input_in (fields_in a.fields.now) a.input.now) c.loop-f.f c.put_field.result c.loop-f.counts c.loop-f.mags c.put_field.new.mags c.loop-f.negs
           c.put_field.new.negs
-          (omega (arith, c.loop-f.invariant.1)) c.put_field.ensures.count c.put_field.ensures.few c.put_field.ensures.filled c.loop-f.invariant.4,
+          (omega (arith, c.loop-f.invariant.0)) c.put_field.ensures.count c.put_field.ensures.few c.put_field.ensures.filled c.loop-f.invariant.3,
     )
 
 pub returns : goal.returns
@@ -43,8 +42,8 @@ returns c =
     let I = input_in (fields_in a.fields.now) a.input.now in
     let e : c.loop-f.f ≡ most_fields = omega arith in
     let many = fields-length a.fields.now in
-    let d = subst (λ n. DecodedTo I n c.loop-f.counts c.loop-f.mags c.loop-f.negs) e c.loop-f.invariant.4 in
-    let lent = decoded_lent (fields_in a.fields.now) a.input.now c.loop-f.counts c.loop-f.mags c.loop-f.negs d c.loop-f.invariant.1 in (
-      lent (omega (arith, many, c.requires.0.magnitudes, c.loop-f.invariant.2)) (omega (arith, many, c.requires.0.signs, c.loop-f.invariant.3)),
+    let d = subst (λ n. DecodedTo I n c.loop-f.counts c.loop-f.mags c.loop-f.negs) e c.loop-f.invariant.3 in
+    let lent = decoded_lent (fields_in a.fields.now) a.input.now c.loop-f.counts c.loop-f.mags c.loop-f.negs d c.loop-f.invariant.0 in (
+      lent (omega (arith, many, c.requires.0.magnitudes, c.loop-f.invariant.1)) (omega (arith, many, c.requires.0.signs, c.loop-f.invariant.2)),
       decoded_all I c.loop-f.counts c.loop-f.mags c.loop-f.negs d,
     )

@@ -1,6 +1,5 @@
 -- `filter::decode` meets its contract. The loop's invariant: the first f fields are decoded.
 use mathlib.Core.Path.{◌≡◌}
-use Prim.Native.Nat.{◌-◌, ◌≤◌}
 use lib.ListN.{length}
 use Rattle.model.specs.Sizes.{most_fields}
 use Rattle.model.specs.Fields.{fields_in}
@@ -10,8 +9,5 @@ use Rattle.filter.proofs.decode.Given as goal
 
 abbrev pub invariant-loop-f : goal.invariant-loop-f
 invariant-loop-f l =
-    (l.f ≤ most_fields) × (length l.counts ≡ most_fields) × (length l.mags ≡ length l.initial.mags) × (length l.negs ≡ length l.initial.negs)
+    (length l.counts ≡ most_fields) × (length l.mags ≡ length l.initial.mags) × (length l.negs ≡ length l.initial.negs)
     × DecodedTo (input_in (fields_in l.fields) l.input) l.f l.counts l.mags l.negs
-
-abbrev pub decreases-loop-f : goal.decreases-loop-f
-decreases-loop-f l = most_fields - l.f

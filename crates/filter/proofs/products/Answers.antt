@@ -72,7 +72,7 @@ loop-i-preserved c = (
 -- the loop has come to its end
 none-is-left : (c : After-loop-i) → drop c.loop-i.i (conjuncts_of c.args.condition.now) ≡ []
 none-is-left c =
-    none_left c.args.condition.now c.args.sizes c.requires.0 c.loop-i.i c.loop-i-test.false
+    none_left c.args.condition.now c.args.sizes c.requires.0 c.loop-i.i (omega arith)
 
 pub returns-then-many : goal.returns-then-many
 returns-then-many c = λ I n.

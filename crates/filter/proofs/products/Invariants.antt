@@ -1,7 +1,6 @@
 -- `filter::products` meets its contract. The loop's invariant: what is told of the conjuncts before (`FirstPass`); the number of
 -- combinations of the next tells of it (`Calls` of the evaluator).
 use mathlib.Core.Path.{◌≡◌}
-use Prim.Native.Nat.{◌-◌}
 use Rattle.model.specs.Input.{Input}
 use Rattle.condition.specs.Answers.{conjuncts_of}
 use Rattle.plan.specs.Readings.{Counted}
@@ -11,6 +10,3 @@ use Rattle.filter.proofs.products.Given as goal
 abbrev pub invariant-loop-i : goal.invariant-loop-i
 invariant-loop-i l = (l.n ≡ l.sizes.conjuncts)
     × ((I : Input) → Counted I l.counts → ToldTo I (conjuncts_of l.condition) l.i l.many)
-
-abbrev pub decreases-loop-i : goal.decreases-loop-i
-decreases-loop-i l = l.n - l.i

@@ -1,6 +1,6 @@
 -- `filter::put_readings` meets its contract. The loop's invariant: the first k readings stand in their places.
 use mathlib.Core.Path.{◌≡◌}
-use Prim.Native.Nat.{◌*◌, ◌-◌, ◌≤◌}
+use Prim.Native.Nat.{◌*◌}
 use lib.ListN.{length}
 use Rattle.model.specs.Input.{width, reading_at_lem}
 use Rattle.plan.specs.Readings.{signed_at}
@@ -9,8 +9,5 @@ use Rattle.filter.proofs.put_readings.Given as goal
 
 abbrev pub invariant-loop-k : goal.invariant-loop-k
 invariant-loop-k l =
-    (l.k ≤ l.n) × (length l.mags ≡ length l.initial.mags) × (length l.negs ≡ length l.initial.negs)
+    (length l.mags ≡ length l.initial.mags) × (length l.negs ≡ length l.initial.negs)
     × Filled (λ j. reading_at_lem l.ty l.part (j * width l.ty)) l.from l.k (signed_at l.initial.mags l.initial.negs) (signed_at l.mags l.negs)
-
-abbrev pub decreases-loop-k : goal.decreases-loop-k
-decreases-loop-k l = l.n - l.k

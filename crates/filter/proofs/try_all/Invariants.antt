@@ -1,6 +1,5 @@
 -- `filter::try_all` meets its contract. The loop's invariant: what is left to be evaluated answers for all.
 use mathlib.Core.Path.{◌≡◌}
-use Prim.Native.Nat.{◌-◌}
 use lib.ListN.{drop}
 use Rattle.model.specs.Input.{Input}
 use Rattle.model.specs.Failure.{first, failure_in}
@@ -12,6 +11,3 @@ abbrev pub invariant-loop-place : goal.invariant-loop-place
 invariant-loop-place l =
     (l.n ≡ l.sizes.conjuncts)
     × ((I : Input) → Decoded I l.counts l.mags l.negs → first (failure_in I) (conjuncts_of l.condition) ≡ first (failure_in I) (drop l.place (conjuncts_of l.condition)))
-
-abbrev pub decreases-loop-place : goal.decreases-loop-place
-decreases-loop-place l = l.n - l.place
