@@ -1,7 +1,8 @@
 -- Which statement of the model an entry is, and which of the program's list, by its kind.
 use mathlib.Core.Path.{◌≡◌, refl, sym, ◌∙◌}
 use mathlib.Core.Bool.{Bool, true, false, not}
-use Prim.Native.Nat.{ℕ, ◌≤◌, ◌<◌}
+use Prim.Native.Nat.{ℕ, zero, suc, ◌≤◌, ◌<◌}
+use Rattle.model.specs.Values.{Operation, add, sub, mul, div}
 use native.Mathlib.Omega.{arith}
 use borrow.Author.Tests.{eqb-true, eqb-false}
 use lib.Dec.{eqb}
@@ -128,13 +129,12 @@ module _ (T : Tables) (q : Statement) where
 
 -- none of the kinds that a match on the blocks, procedures and calls has arms for
 abbrev pub OtherKind : ℕ → Type 0
-OtherKind k =
-    ((((Unit {0} × (k ≡ if_kind → ⊥)) × (k ≡ else_kind → ⊥)) × (k ≡ while_kind → ⊥)) × (k ≡ procedure_kind → ⊥)) × (k ≡ call_kind → ⊥)
+OtherKind k = (k ≡ if_kind → ⊥) × (k ≡ else_kind → ⊥) × (k ≡ while_kind → ⊥) × (k ≡ procedure_kind → ⊥) × (k ≡ call_kind → ⊥)
 
 pub item_otherwise : (T : Tables) (q : Statement) {k : ℕ} → q.kind ≡ k → if_kind ≤ k → OtherKind k → item_of T q ≡ own end
 item_otherwise T q {k} e h r =
-    item_end T q (omega arith) (λ z. r.0.0.0.0.1 (sym e ∙ z)) (λ z. r.0.0.0.1 (sym e ∙ z)) (λ z. r.0.0.1 (sym e ∙ z)) (λ z. r.0.1 (sym e ∙ z))
-    (λ z. r.1 (sym e ∙ z))
+    item_end T q (omega arith) (λ z. r.0 (sym e ∙ z)) (λ z. r.1 (sym e ∙ z)) (λ z. r.2 (sym e ∙ z)) (λ z. r.3 (sym e ∙ z))
+    (λ z. r.4 (sym e ∙ z))
 
 -- the statement of the list with a label
 pub item_at_lem : (T : Tables) (i : ℕ) → get_or (items_of T) i (own end) ≡ item_of T (statement_of T i)
@@ -172,13 +172,6 @@ module _ (T : Tables) (q : Statement) where
   item_begins-one e = rw (item_procedure T q e)
 
   -- as the code tests it
-  pub begins-none_test : not (eqb q.kind procedure_kind) ≡ begins_none (item_of T q)
-  begins-none_test = go (eqb q.kind procedure_kind) refl
-    where
-      go : (b : Bool) → eqb q.kind procedure_kind ≡ b → not b ≡ begins_none (item_of T q)
-      go true e = rw (item_begins-one (eqb-true q.kind procedure_kind e))
-      go false e = rw (item_begins-none (eqb-false q.kind procedure_kind e))
-
   pub begins_test : eqb q.kind procedure_kind ≡ not (begins_none (item_of T q))
   begins_test = go (eqb q.kind procedure_kind) refl
     where
@@ -209,3 +202,14 @@ module _ (T : Tables) (q : Statement) where
       go a_procedure n = refl
       go a_call n = absurd (other n)
       go no_kind_lem n = refl
+
+-- the numbers of the four operations
+pub is_operation : (k : ℕ) → 2 ≤ k → k ≤ 5 → (o : Operation) × (kind_of k ≡ an_operation o)
+unfolding kind_of
+is_operation zero h l = absurd (omega arith)
+is_operation (suc zero) h l = absurd (omega arith)
+is_operation (suc (suc zero)) h l = (add, refl)
+is_operation (suc (suc (suc zero))) h l = (sub, refl)
+is_operation (suc (suc (suc (suc zero)))) h l = (mul, refl)
+is_operation (suc (suc (suc (suc (suc zero))))) h l = (div, refl)
+is_operation (suc (suc (suc (suc (suc (suc k)))))) h l = absurd (omega arith)

@@ -1,4 +1,5 @@
 pub mod Tables
+pub mod Every
 pub mod Items
 pub mod Answers
 pub mod Known

@@ -23,9 +23,6 @@ use Rattle.program.specs.declared.Layout.{Layout}
 
 -- past the end
 
-pub byte_past : (s : List ℕ) (a n x : ℕ) → a + n ≤ length s → n ≤ x → get_or (part s a n) x 0 ≡ 0
-byte_past s a n x k h = get_or-eq_default (part s a n) 0 (rw (length_part s a n k) h)
-
 entry_past : {A : Type 0} (at : List ℕ → ℕ → A) (size : ℕ) (s : List ℕ) (a n i : ℕ) (d : A) → n ≤ i → get_or (entries at size s a n) i d ≡ d
 entry_past at size s a n i d h = get_or-eq_default (entries at size s a n) d (rw (length-entries at size s n a) h)
 

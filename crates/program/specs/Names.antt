@@ -1,5 +1,5 @@
 -- The variables that a statement names, as the code holds them: the first of five.
-use Rattle.std.specs.Prelude.{◌≡◌, Bool, ◌&&◌, List, [], ◌∷◌, ℕ, ◌+◌, ◌≤◌, leb, ltb, take}
+use Rattle.std.specs.Prelude.{◌≡◌, Bool, ◌&&◌, List, ℕ, ◌+◌, ◌≤◌, leb, ltb, take}
 use Rattle.model.specs.Sizes.{most_parameters}
 use Rattle.program.specs.declared.own_variables.Names.{Names}
 
@@ -7,12 +7,9 @@ use Rattle.program.specs.declared.own_variables.Names.{Names}
 abbrev pub most_names : ℕ
 most_names = most_parameters + 1
 
-abbrev pub five_of : Names → List ℕ
-five_of n = n.first ∷ n.second ∷ n.third ∷ n.fourth ∷ n.fifth ∷ []
-
 -- the names
 abbrev pub names_of : Names → List ℕ
-names_of n = take n.count (five_of n)
+names_of n = take n.count n.five
 
 -- the names are those of a list
 pub record NamesAre (n : Names) (xs : List ℕ) : Type 0 where

@@ -30,6 +30,21 @@ unsigned_codes = 4
 
 -- ---- kinds of statements, by their places in the model's list (`kind_of`): those of the blocks come last
 
+abbrev pub number_kind : ℕ
+number_kind = 0
+
+abbrev pub copy_kind : ℕ
+copy_kind = 1
+
+abbrev pub read_kind : ℕ
+read_kind = 7
+
+abbrev pub load_kind : ℕ
+load_kind = 8
+
+abbrev pub store_kind : ℕ
+store_kind = 9
+
 abbrev pub site_kind : ℕ
 site_kind = 10
 

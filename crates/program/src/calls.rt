@@ -21,17 +21,13 @@ pub fn beginning(program: &[u8], layout: Layout, p: usize) -> Entry
     ensures { (entry_of result ≡ beginning_of (tables_of program.now) p)
         × (eqb result.kind procedure_kind ≡ ltb p (length (beginnings (tables_of program.now).statements))) }
 {
-    let n = layout.statements;
     let mut left = p;
-    let mut i: usize = 0;
-    while i < n {
-        let label = i;
-        i += 1;
-        if kind_at(program, layout, label) != PROCEDURE {
+    for i in 0..layout.statements {
+        if kind_at(program, layout, i) != PROCEDURE {
             continue;
         }
         if left == 0 {
-            return statement(program, layout, label);
+            return statement(program, layout, i);
         }
         left -= 1;
     }
@@ -44,7 +40,7 @@ pub fn beginning(program: &[u8], layout: Layout, p: usize) -> Entry
     }
 }
 
-// Byte j of an immediate.
+// Byte j of an immediate. Not by to_le_bytes: a number has 64 bits here, and byte 3 is promised to be all that is left of it.
 pub fn argument(imm: u64, j: usize) -> u64
     ensures { result ≡ get_or (bytes4 imm) j 0 }
 {
@@ -60,39 +56,26 @@ pub fn argument(imm: u64, j: usize) -> u64
 // ---- check 5
 
 // The beginning of a procedure: its parameters, and its own variables, which there are.
+#[tactic(auto, unfolding(model::specs::Program::procedure_form_lem))]
 pub fn procedure_form(layout: Layout, q: Entry) -> bool
     ensures { (T : Tables) → Sized T layout → result ≡ procedure_form_lem T (entry_of q) }
 {
     let params = q.a as usize;
     let first = q.b as usize;
     let count = q.c as usize;
-    if MOST_PARAMETERS < params {
-        return false;
-    }
-    if layout.variables < first + count {
-        return false;
-    }
-    q.imm == 0
+    params <= MOST_PARAMETERS && first + count <= layout.variables && q.imm == 0
 }
 
 // Whether the first n bytes of an immediate are variables, and the others zero.
 fn arguments_right(imm: u64, n: usize, variables: usize) -> bool
     ensures { result ≡ (every (λ x. ltb x variables) (take n (bytes4 imm)) && every unused (drop n (bytes4 imm))) }
 {
-    let mut j: usize = 0;
-    while j < MOST_PARAMETERS {
+    for j in 0..MOST_PARAMETERS {
         let x = argument(imm, j);
-        if n <= j {
-            if x != 0 {
-                return false;
-            }
-            j += 1;
-            continue;
-        }
-        if variables as u64 <= x {
+        let right = if j < n { x < variables as u64 } else { x == 0 };
+        if !right {
             return false;
         }
-        j += 1;
     }
     true
 }
@@ -102,20 +85,12 @@ pub fn call_form(program: &[u8], layout: Layout, q: Entry) -> bool
     requires { Placed program.now layout }
     ensures { result ≡ call_form_lem (tables_of program.now) (entry_of q) }
 {
-    let target = q.a as usize;
-    let p = q.b as usize;
     let v = layout.variables;
-    if v <= target {
-        return false;
-    }
-    let begun = beginning(program, layout, p);
-    if begun.kind != PROCEDURE {
-        return false;
-    }
-    if q.c != 0 {
-        return false;
-    }
-    arguments_right(q.imm, begun.a as usize, v)
+    let begun = beginning(program, layout, q.b as usize);
+    (q.a as usize) < v
+        && begun.kind == PROCEDURE
+        && q.c == 0
+        && arguments_right(q.imm, begun.a as usize, v)
 }
 
 // ---- check 6
@@ -125,17 +100,11 @@ fn arguments_agree(program: &[u8], layout: Layout, imm: u64, n: usize, x: usize)
     requires { Placed program.now layout × (x < 256) }
     ensures { result ≡ all_alike (tables_of program.now) (take n (bytes4 imm)) x }
 {
-    let mut j: usize = 0;
-    while j < MOST_PARAMETERS {
-        if n <= j {
-            return true;
-        }
-        let b = argument(imm, j) as usize;
-        let given = variable_type(program, layout, b);
+    for j in 0..n.min(MOST_PARAMETERS) {
+        let given = variable_type(program, layout, argument(imm, j) as usize);
         if given != variable_type(program, layout, x + j) {
             return false;
         }
-        j += 1;
     }
     true
 }
@@ -146,21 +115,14 @@ pub fn call_agrees(program: &[u8], layout: Layout, q: Entry) -> bool
     requires { Placed program.now layout }
     ensures { result ≡ call_alike (tables_of program.now) (entry_of q) }
 {
-    let target = q.a as usize;
-    let p = q.b as usize;
-    let begun = beginning(program, layout, p);
+    let begun = beginning(program, layout, q.b as usize);
     let params = begun.a as usize;
     let first = begun.b as usize;
     let count = begun.c as usize;
-    if count == 0 {
+    if count == 0 || count < params {
         return true;
     }
-    if count < params {
-        return true;
-    }
-    if !arguments_agree(program, layout, q.imm, params, first) {
-        return false;
-    }
-    let ty = variable_type(program, layout, target);
-    ty == variable_type(program, layout, first + count - 1)
+    arguments_agree(program, layout, q.imm, params, first)
+        && variable_type(program, layout, q.a as usize)
+            == variable_type(program, layout, first + count - 1)
 }

@@ -72,22 +72,13 @@ fn turn_block(blocks: Open) -> Option<Open>
     requires { Packed blocks }
     ensures { (passed_of result ≡ turning (blocks_of blocks)) × PackedIf result }
 {
-    let inner = blocks.inner;
-    let nested = blocks.nested;
     let word = blocks.word;
-    if inner != 0 {
-        return None;
-    }
-    if nested == 0 {
-        return None;
-    }
-    if word % BLOCK_CODES != IF_CODE {
+    if blocks.inner != 0 || blocks.nested == 0 || word % BLOCK_CODES != IF_CODE {
         return None;
     }
     Some(Open {
-        inner,
-        nested,
         word: word + 1,
+        ..blocks
     })
 }
 
@@ -102,14 +93,10 @@ fn close_block(blocks: Open) -> Option<Open>
     if inner != 0 {
         return Some(Open {
             inner: inner - 1,
-            nested,
-            word,
+            ..blocks
         });
     }
-    if nested == 0 {
-        return None;
-    }
-    if word % BLOCK_CODES == IF_CODE {
+    if nested == 0 || word % BLOCK_CODES == IF_CODE {
         return None;
     }
     Some(Open {
@@ -120,15 +107,14 @@ fn close_block(blocks: Open) -> Option<Open>
 }
 
 // A procedure begins.
-fn open_procedure(blocks: Open) -> Option<Open>
+fn open_procedure(blocks: Open) -> Open
     requires { Packed blocks × (blocks.inner < most_statements) }
-    ensures { (passed_of result ≡ ok (procedure_block ∷ blocks_of blocks)) × PackedIf result }
+    ensures { (blocks_of result ≡ procedure_block ∷ blocks_of blocks) × Packed result }
 {
-    Some(Open {
+    Open {
         inner: blocks.inner + 1,
-        nested: blocks.nested,
-        word: blocks.word,
-    })
+        ..blocks
+    }
 }
 
 // The open blocks behind a statement of a kind, from those before it.
@@ -143,7 +129,7 @@ fn pass_statement(blocks: Open, kind: u8) -> Option<Open>
         IF => open_block(blocks, IF_CODE),
         ELSE => turn_block(blocks),
         WHILE => open_block(blocks, WHILE_CODE),
-        PROCEDURE => open_procedure(blocks),
+        PROCEDURE => Some(open_procedure(blocks)),
         CALL => Some(blocks),
         _ => close_block(blocks),
     }
@@ -156,27 +142,20 @@ pub fn nesting_right(program: &[u8], layout: Layout) -> Option<Blocks>
     requires { Placed program.now layout × (layout.statements ≤ most_statements) }
     ensures { NestingIs (tables_of program.now) result }
 {
-    let n = layout.statements;
     let mut blocks = Open {
         inner: 0,
         nested: 0,
         word: 0,
     };
     let mut found = Blocks::Plain;
-    for i in 0..n {
+    for i in 0..layout.statements {
         let kind = kind_at(program, layout, i);
-        if kind < IF {
-            continue;
-        }
         if kind == PROCEDURE {
             found = Blocks::WithProcedures;
         }
         blocks = pass_statement(blocks, kind)?;
     }
-    if blocks.inner != 0 {
-        return None;
-    }
-    if blocks.nested != 0 {
+    if blocks.inner != 0 || blocks.nested != 0 {
         return None;
     }
     Some(found)

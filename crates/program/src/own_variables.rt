@@ -1,6 +1,7 @@
 // The own variables of procedures: the variables that a statement names, and the tests of check 16 of a program file that
 // speak of variables and calls.
-ghost use Rattle.std.specs.Prelude.{◌≡◌, ◌||◌, not, [], ◌∷◌, ℕ, ◌+◌, ◌≤◌, ◌<◌, leb, get_or, take, drop};
+ghost use Rattle.std.specs.Prelude.{◌≡◌, ◌||◌, not, [], ◌∷◌, ℕ, ◌+◌, ◌≤◌, ◌<◌, leb, take, drop};
+ghost use Rattle.std.specs.List.{list_all};
 ghost use Rattle.model.specs.Lists.{every};
 ghost use Rattle.model.specs.Sizes.{most_parameters};
 ghost use Rattle.model.specs.Bytes.{bytes4};
@@ -8,7 +9,7 @@ ghost use Rattle.model.specs.Procedures.{named, owns, calls_before_lem, procedur
 ghost use Rattle.model.specs.Program.{Tables, arguments_of, item_of, items_of};
 ghost use Rattle.program.specs.Parts.{Stretched, begin_in, procedure_between, body_right_lem, procedure_in_lem, procedures_in, parts_in, PartsListed};
 ghost use Rattle.program.specs.Reading.{entry_of, statement_of, tables_of, Placed};
-ghost use Rattle.program.specs.Names.{most_names, five_of, names_of, within, NamesAre};
+ghost use Rattle.program.specs.Names.{most_names, names_of, within, NamesAre};
 
 use super::calls::{MOST_PARAMETERS, argument, beginning};
 use super::procedures::Main;
@@ -17,15 +18,23 @@ use super::statements::{
 };
 use super::{Entry, Layout, statement};
 
+// the most variables that a statement names: the target of a call and its arguments
+const MOST_NAMES: usize = 5;
+
 // The variables that a statement names: the first `count` of five.
 #[derive(Clone, Copy)]
 struct Names {
     count: usize,
-    first: u64,
-    second: u64,
-    third: u64,
-    fourth: u64,
-    fifth: u64,
+    five: [u64; MOST_NAMES],
+}
+
+impl Names {
+    fn listed(&self) -> &[u64]
+        requires { self.now.count ≤ most_names }
+        ensures { result.now ≡ names_of self.now }
+    {
+        &self.five[..self.count]
+    }
 }
 
 // ---- the variables that a statement names
@@ -37,23 +46,8 @@ fn few(count: usize, first: u8, second: u8, third: u8) -> Names
 {
     Names {
         count,
-        first: first as u64,
-        second: second as u64,
-        third: third as u64,
-        fourth: 0,
-        fifth: 0,
+        five: [first as u64, second as u64, third as u64, 0, 0],
     }
-}
-
-// As many bytes of an immediate as there are parameters, and no more than it has.
-fn as_bytes(params: u8) -> usize
-    ensures { (result ≤ most_parameters) × ((imm : ℕ) → take result (bytes4 imm) ≡ take params (bytes4 imm)) }
-{
-    let n = params as usize;
-    if MOST_PARAMETERS < n {
-        return MOST_PARAMETERS;
-    }
-    n
 }
 
 // The target of a call and its arguments.
@@ -62,13 +56,16 @@ fn call_names(program: &[u8], layout: Layout, q: Entry) -> Names
     ensures { NamesAre result (q.a ∷ arguments_of (tables_of program.now) (entry_of q)) }
 {
     let begun = beginning(program, layout, q.b as usize);
+    let imm = q.imm;
     Names {
-        count: as_bytes(begun.a) + 1,
-        first: q.a as u64,
-        second: argument(q.imm, 0),
-        third: argument(q.imm, 1),
-        fourth: argument(q.imm, 2),
-        fifth: argument(q.imm, 3),
+        count: (begun.a as usize).min(MOST_PARAMETERS) + 1,
+        five: [
+            q.a as u64,
+            argument(imm, 0),
+            argument(imm, 1),
+            argument(imm, 2),
+            argument(imm, 3),
+        ],
     }
 }
 
@@ -77,37 +74,14 @@ fn names_of(program: &[u8], layout: Layout, q: Entry) -> Names
     requires { Placed program.now layout }
     ensures { NamesAre result (named (item_of (tables_of program.now) (entry_of q))) }
 {
-    let kind = q.kind;
-    match kind {
-        NUMBER => few(1, q.a, 0, 0),
-        COPY => few(2, q.a, q.b, 0),
-        ADD => few(3, q.a, q.b, q.c),
-        SUB => few(3, q.a, q.b, q.c),
-        MUL => few(3, q.a, q.b, q.c),
-        DIV => few(3, q.a, q.b, q.c),
-        CONVERSION => few(2, q.a, q.b, 0),
-        READ => few(1, q.a, 0, 0),
+    match q.kind {
+        NUMBER | READ | SITE | IF | WHILE => few(1, q.a, 0, 0),
+        COPY | CONVERSION => few(2, q.a, q.b, 0),
+        ADD | SUB | MUL | DIV => few(3, q.a, q.b, q.c),
         LOAD => few(2, q.a, q.c, 0),
         STORE => few(2, q.b, q.c, 0),
-        SITE => few(1, q.a, 0, 0),
-        IF => few(1, q.a, 0, 0),
-        WHILE => few(1, q.a, 0, 0),
         CALL => call_names(program, layout, q),
         _ => few(0, 0, 0, 0),
-    }
-}
-
-// One of the five.
-fn name_at(names: Names, j: usize) -> u64
-    ensures { result ≡ get_or (five_of names) j 0 }
-{
-    match j {
-        0 => names.first,
-        1 => names.second,
-        2 => names.third,
-        3 => names.fourth,
-        4 => names.fifth,
-        _ => 0,
     }
 }
 
@@ -119,36 +93,21 @@ fn is_within(x: u64, first: u8, count: u8) -> bool
 {
     let low = first as u64;
     let high = low + count as u64;
-    if x < low {
-        return false;
-    }
-    x < high
+    low <= x && x < high
 }
 
 // Whether all names are.
-fn names_within(names: Names, first: u8, count: u8) -> bool
-    requires { names.count ≤ most_names }
-    ensures { result ≡ every (within first count) (names_of names) }
+fn names_within(names: &[u64], first: u8, count: u8) -> bool
+    ensures { result ≡ list_all (within first count) names.now }
 {
-    let mut j: usize = 0;
-    while j < names.count {
-        if !is_within(name_at(names, j), first, count) {
-            return false;
-        }
-        j += 1;
-    }
-    true
+    names.iter().all(|x| is_within(*x, first, count))
 }
 
 // A call, if it is one, is of a procedure before number n.
 fn calls_before(q: Entry, n: usize) -> bool
     ensures { (T : Tables) → result ≡ calls_before_lem n (item_of T (entry_of q)) }
 {
-    let p = q.b as usize;
-    if q.kind != CALL {
-        return true;
-    }
-    p < n
+    q.kind != CALL || (q.b as usize) < n
 }
 
 // The statements of procedure number n use its own variables only, and call earlier procedures only.
@@ -157,23 +116,18 @@ fn body_right(program: &[u8], layout: Layout, begin: usize, end: usize, n: usize
     ensures { result ≡ body_right_lem n (procedure_between (tables_of program.now) begin end) }
 {
     let head = statement(program, layout, begin);
-    let first = head.b;
-    let count = head.c;
-    let mut i = begin + 1;
-    while i < end {
+    for i in begin + 1..end {
         let q = statement(program, layout, i);
-        if !names_within(names_of(program, layout, q), first, count) {
+        let names = names_of(program, layout, q);
+        if !names_within(names.listed(), head.b, head.c) || !calls_before(q, n) {
             return false;
         }
-        if !calls_before(q, n) {
-            return false;
-        }
-        i += 1;
     }
     true
 }
 
 // Procedure number n has an own variable and as many as its parameters, uses these only and calls earlier ones only.
+#[tactic(auto, unfolding(model::specs::Procedures::procedure_right_lem))]
 fn procedure_right(program: &[u8], layout: Layout, begin: usize, end: usize, n: usize) -> bool
     requires { Stretched program.now layout begin end }
     ensures { result ≡ procedure_right_lem n (procedure_between (tables_of program.now) begin end) }
@@ -181,13 +135,7 @@ fn procedure_right(program: &[u8], layout: Layout, begin: usize, end: usize, n: 
     let head = statement(program, layout, begin);
     let params = head.a;
     let count = head.c;
-    if count == 0 {
-        return false;
-    }
-    if count < params {
-        return false;
-    }
-    body_right(program, layout, begin, end, n)
+    0 < count && params <= count && body_right(program, layout, begin, end, n)
 }
 
 // ---- the tests of all procedures
@@ -196,15 +144,12 @@ fn procedures_right(program: &[u8], layout: Layout, table: &[u64], main: Main) -
     requires { PartsListed program.now table.now layout main }
     ensures { result ≡ procedures_right_lem 0 (procedures_in (tables_of program.now) table.now main.procedures) }
 {
-    let n = main.procedures;
-    let mut p: usize = 0;
-    while p < n {
+    for p in 0..main.procedures {
         let begin = table[2 * p] as usize;
         let end = table[2 * p + 1] as usize;
         if !procedure_right(program, layout, begin, end, p) {
             return false;
         }
-        p += 1;
     }
     true
 }
@@ -224,10 +169,7 @@ fn are_apart(q: Entry, r: Entry) -> bool
 {
     let first = q.b as usize;
     let second = r.b as usize;
-    if first + q.c as usize <= second {
-        return true;
-    }
-    second + r.c as usize <= first
+    first + q.c as usize <= second || second + r.c as usize <= first
 }
 
 // Whether the procedure with a number shares no variable with a later one.
@@ -236,15 +178,11 @@ fn apart_from_later(program: &[u8], layout: Layout, table: &[u64], main: Main, p
     ensures { result ≡ every (apart (procedure_in_lem (tables_of program.now) table.now p))
         (drop (p + 1) (procedures_in (tables_of program.now) table.now main.procedures)) }
 {
-    let n = main.procedures;
     let q = begun(program, layout, table, main, p);
-    let mut i = p + 1;
-    while i < n {
-        let other = begun(program, layout, table, main, i);
-        if !are_apart(q, other) {
+    for i in p + 1..main.procedures {
+        if !are_apart(q, begun(program, layout, table, main, i)) {
             return false;
         }
-        i += 1;
     }
     true
 }
@@ -254,13 +192,10 @@ fn all_apart(program: &[u8], layout: Layout, table: &[u64], main: Main) -> bool
     requires { PartsListed program.now table.now layout main }
     ensures { result ≡ all_apart_lem (procedures_in (tables_of program.now) table.now main.procedures) }
 {
-    let n = main.procedures;
-    let mut p: usize = 0;
-    while p < n {
+    for p in 0..main.procedures {
         if !apart_from_later(program, layout, table, main, p) {
             return false;
         }
-        p += 1;
     }
     true
 }
@@ -272,32 +207,24 @@ fn owned_by_none(program: &[u8], layout: Layout, table: &[u64], main: Main, x: u
     requires { PartsListed program.now table.now layout main }
     ensures { result ≡ every (λ q. not (owns q x)) (procedures_in (tables_of program.now) table.now main.procedures) }
 {
-    let n = main.procedures;
-    let mut p: usize = 0;
-    while p < n {
+    for p in 0..main.procedures {
         let q = begun(program, layout, table, main, p);
         if is_within(x, q.b, q.c) {
             return false;
         }
-        p += 1;
     }
     true
 }
 
 // Whether no procedure owns a name.
-fn names_spared(program: &[u8], layout: Layout, table: &[u64], main: Main, names: Names) -> bool
-    requires { PartsListed program.now table.now layout main × (names.count ≤ most_names) }
-    ensures { result ≡ every (λ x. every (λ q. not (owns q x))
-        (procedures_in (tables_of program.now) table.now main.procedures)) (names_of names) }
+fn names_spared(program: &[u8], layout: Layout, table: &[u64], main: Main, names: &[u64]) -> bool
+    requires { PartsListed program.now table.now layout main }
+    ensures { result ≡ list_all (λ x. every (λ q. not (owns q x))
+        (procedures_in (tables_of program.now) table.now main.procedures)) names.now }
 {
-    let mut j: usize = 0;
-    while j < names.count {
-        if !owned_by_none(program, layout, table, main, name_at(names, j)) {
-            return false;
-        }
-        j += 1;
-    }
-    true
+    names
+        .iter()
+        .all(|x| owned_by_none(program, layout, table, main, *x))
 }
 
 // Whether no procedure owns a variable that a statement after the procedures names.
@@ -306,29 +233,24 @@ fn main_spared(program: &[u8], layout: Layout, table: &[u64], main: Main) -> boo
     ensures { result ≡ every (spares (procedures_in (tables_of program.now) table.now main.procedures))
         (drop main.label (items_of (tables_of program.now))) }
 {
-    let n = layout.statements;
-    let mut i = main.label;
-    while i < n {
+    for i in main.label..layout.statements {
         let q = statement(program, layout, i);
-        if !names_spared(program, layout, table, main, names_of(program, layout, q)) {
+        let names = names_of(program, layout, q);
+        if !names_spared(program, layout, table, main, names.listed()) {
             return false;
         }
-        i += 1;
     }
     true
 }
 
 // ---- check 16 of the procedures
 
+#[tactic(auto, unfolding(model::specs::Procedures::parts_right_lem))]
 pub fn parts_right(program: &[u8], layout: Layout, table: &[u64], main: Main) -> bool
     requires { PartsListed program.now table.now layout main }
     ensures { result ≡ parts_right_lem (parts_in (tables_of program.now) table.now main.label main.procedures) }
 {
-    if !procedures_right(program, layout, table, main) {
-        return false;
-    }
-    if !all_apart(program, layout, table, main) {
-        return false;
-    }
-    main_spared(program, layout, table, main)
+    procedures_right(program, layout, table, main)
+        && all_apart(program, layout, table, main)
+        && main_spared(program, layout, table, main)
 }

@@ -28,11 +28,8 @@ fn depth_after(depth: usize, kind: u8) -> usize
         return depth;
     }
     match kind {
-        IF => depth + 1,
-        ELSE => depth,
-        WHILE => depth + 1,
-        PROCEDURE => depth,
-        CALL => depth,
+        IF | WHILE => depth + 1,
+        ELSE | PROCEDURE | CALL => depth,
         _ => depth - 1,
     }
 }
@@ -42,9 +39,8 @@ fn procedure_end(program: &[u8], layout: Layout, begin: usize) -> Option<usize>
     requires { Begins program.now layout begin }
     ensures { EndIs (tables_of program.now) begin result }
 {
-    let n = layout.statements;
     let mut depth: usize = 1;
-    for i in begin + 1..n {
+    for i in begin + 1..layout.statements {
         let kind = kind_at(program, layout, i);
         if kind == PROCEDURE {
             return None;
@@ -64,10 +60,7 @@ pub fn begins_procedure(program: &[u8], layout: Layout, i: usize) -> bool
     requires { Placed program.now layout }
     ensures { result ≡ not (begins_none (item_at (tables_of program.now) i)) }
 {
-    if layout.statements <= i {
-        return false;
-    }
-    kind_at(program, layout, i) == PROCEDURE
+    i < layout.statements && kind_at(program, layout, i) == PROCEDURE
 }
 
 // Whether no statement from a label on begins a procedure.
@@ -75,8 +68,7 @@ fn none_begins(program: &[u8], layout: Layout, from: usize) -> bool
     requires { Placed program.now layout }
     ensures { result ≡ every begins_none (drop from (items_of (tables_of program.now))) }
 {
-    let n = layout.statements;
-    for i in from..n {
+    for i in from..layout.statements {
         if begins_procedure(program, layout, i) {
             return false;
         }

@@ -1,5 +1,6 @@
 // The section table and the tables of types: checks 2 to 4 of a program file.
 ghost use Rattle.std.specs.Prelude.{◌≡◌, ◌+◌, ◌*◌, ◌≤◌, ◌<◌, eqb, length};
+ghost use Rattle.std.specs.List.{list_all};
 ghost use Rattle.model.specs.Sizes.{section_table, pair_size_lem, array_size};
 ghost use Rattle.model.specs.Refusals.{ok, check, wrong_sections};
 ghost use Rattle.model.specs.Bytes.{u32_at, pair_at, part, entries};
@@ -88,13 +89,10 @@ fn read_layout(program: &[u8], entry: usize) -> Result<Layout, Refusal>
     let variables = pair_at(program, VARIABLES_PAIR);
     let arrays = pair_at(program, ARRAYS_PAIR);
     let statements = pair_at(program, STATEMENTS_PAIR);
-    if fields.len % entry != 0 {
-        return Err(Refusal::WrongSections);
-    }
-    if arrays.len % ARRAY_SIZE != 0 {
-        return Err(Refusal::WrongSections);
-    }
-    if statements.len % STATEMENT_SIZE != 0 {
+    if fields.len % entry != 0
+        || arrays.len % ARRAY_SIZE != 0
+        || statements.len % STATEMENT_SIZE != 0
+    {
         return Err(Refusal::WrongSections);
     }
     Ok(Layout {
@@ -114,10 +112,7 @@ fn read_table(program: &[u8], most: usize, entry: usize) -> Result<Layout, Refus
     requires { 0 < entry }
     ensures { program_answer result ≡ check (sections_in most entry program.now) wrong_sections (ok (layout_of program.now)) }
 {
-    if program.len() < SECTION_TABLE {
-        return Err(Refusal::WrongSections);
-    }
-    if most < program.len() {
+    if program.len() < SECTION_TABLE || most < program.len() {
         return Err(Refusal::WrongSections);
     }
     let mut end = SECTION_TABLE;
@@ -147,19 +142,14 @@ pub fn old_sections_right(program: &[u8]) -> bool
 
 // ---- check 3
 
+#[tactic(auto, unfolding(model::specs::Program::counts_right_lem))]
 pub fn counts_right(layout: Layout) -> bool
     ensures { (T : Tables) → Sized T layout → result ≡ counts_right_lem T }
 {
-    if MOST_FIELDS < layout.fields {
-        return false;
-    }
-    if MOST_VARIABLES < layout.variables {
-        return false;
-    }
-    if MOST_ARRAYS < layout.arrays {
-        return false;
-    }
-    layout.statements <= MOST_STATEMENTS
+    layout.fields <= MOST_FIELDS
+        && layout.variables <= MOST_VARIABLES
+        && layout.arrays <= MOST_ARRAYS
+        && layout.statements <= MOST_STATEMENTS
 }
 
 // ---- check 4
@@ -167,14 +157,9 @@ pub fn counts_right(layout: Layout) -> bool
 // Whether n bytes from a place on are all type codes.
 fn are_types(program: &[u8], at: usize, n: usize) -> bool
     requires { at + n ≤ length program.now }
-    ensures { result ≡ every type_right (part program.now at n) }
+    ensures { result ≡ list_all type_right (part program.now at n) }
 {
-    for i in 0..n {
-        if TYPE_CODES <= program[at + i] {
-            return false;
-        }
-    }
-    true
+    program[at..at + n].iter().all(|ty| *ty < TYPE_CODES)
 }
 
 // Whether the entry of an array at a place is right.
@@ -182,17 +167,8 @@ fn array_right(program: &[u8], place: usize) -> bool
     requires { place + array_size ≤ length program.now }
     ensures { result ≡ array_right_lem (array_at program.now place) }
 {
-    if TYPE_CODES <= program[place] {
-        return false;
-    }
-    if program[place + 1] != 0 {
-        return false;
-    }
     let len = bytes_le::u16_at(program, place + 2);
-    if len < 1 {
-        return false;
-    }
-    len <= MOST_CELLS
+    program[place] < TYPE_CODES && program[place + 1] == 0 && 1 <= len && len <= MOST_CELLS
 }
 
 // Whether n entries of arrays from a place on are all right.
@@ -212,11 +188,7 @@ pub fn types_right(program: &[u8], layout: Layout) -> bool
     requires { Placed program.now layout }
     ensures { result ≡ types_right_lem (tables_of program.now) }
 {
-    if !fields::all_right(super::fields(program, layout)) {
-        return false;
-    }
-    if !are_types(program, layout.variables_at, layout.variables) {
-        return false;
-    }
-    are_arrays(program, layout.arrays_at, layout.arrays)
+    fields::all_right(super::fields(program, layout))
+        && are_types(program, layout.variables_at, layout.variables)
+        && are_arrays(program, layout.arrays_at, layout.arrays)
 }

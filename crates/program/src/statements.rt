@@ -53,26 +53,14 @@ const UNSIGNED_CODES: u8 = 4;
 fn operands(q: Entry, a: usize, b: usize, c: usize) -> bool
     ensures { result ≡ (ltb q.a a && ltb q.b b && ltb q.c c) }
 {
-    let x = q.a as usize;
-    let y = q.b as usize;
-    let z = q.c as usize;
-    if a <= x {
-        return false;
-    }
-    if b <= y {
-        return false;
-    }
-    z < c
+    (q.a as usize) < a && (q.b as usize) < b && (q.c as usize) < c
 }
 
 // The same of a statement that has no immediate.
 fn no_immediate(q: Entry, a: usize, b: usize, c: usize) -> bool
     ensures { result ≡ (ltb q.a a && ltb q.b b && ltb q.c c && eqb q.imm 0) }
 {
-    if !operands(q, a, b, c) {
-        return false;
-    }
-    q.imm == 0
+    operands(q, a, b, c) && q.imm == 0
 }
 
 // By kind: what the operands and the immediate have to be.
@@ -80,24 +68,16 @@ fn form_right(program: &[u8], layout: Layout, q: Entry) -> bool
     requires { Placed program.now layout }
     ensures { result ≡ form_right_lem (tables_of program.now) (entry_of q) }
 {
-    let kind = q.kind;
     let v = layout.variables;
-    match kind {
+    match q.kind {
         NUMBER => operands(q, v, 1, 1),
-        COPY => no_immediate(q, v, v, 1),
-        ADD => no_immediate(q, v, v, v),
-        SUB => no_immediate(q, v, v, v),
-        MUL => no_immediate(q, v, v, v),
-        DIV => no_immediate(q, v, v, v),
-        CONVERSION => no_immediate(q, v, v, 1),
+        COPY | CONVERSION => no_immediate(q, v, v, 1),
+        ADD | SUB | MUL | DIV => no_immediate(q, v, v, v),
         READ => no_immediate(q, v, layout.fields, 1),
         LOAD => no_immediate(q, v, layout.arrays, v),
         STORE => no_immediate(q, layout.arrays, v, v),
-        SITE => no_immediate(q, v, 1, 1),
-        IF => no_immediate(q, v, 1, 1),
-        ELSE => no_immediate(q, 1, 1, 1),
-        END => no_immediate(q, 1, 1, 1),
-        WHILE => no_immediate(q, v, 1, 1),
+        SITE | IF | WHILE => no_immediate(q, v, 1, 1),
+        ELSE | END => no_immediate(q, 1, 1, 1),
         PROCEDURE => procedure_form(layout, q),
         CALL => call_form(program, layout, q),
         _ => false,
@@ -119,16 +99,14 @@ fn read_statement(program: &[u8], layout: Layout, i: usize) -> Result<Entry, Ref
 // ---- check 6
 
 // Whether a variable and an array are of one type, and an index is of an unsigned one.
+#[tactic(auto, using(crate::proofs::statements::ByKind::unsigned_first))]
 fn cell_agrees(program: &[u8], layout: Layout, array: usize, x: usize, index: usize) -> bool
     requires { Placed program.now layout }
     ensures { result ≡ cell_alike (tables_of program.now) array x index }
 {
     let ty = array_type(program, layout, array);
-    let tx = variable_type(program, layout, x);
-    if ty != tx {
-        return false;
-    }
-    variable_type(program, layout, index) < UNSIGNED_CODES
+    variable_type(program, layout, x) == ty
+        && variable_type(program, layout, index) < UNSIGNED_CODES
 }
 
 // Whether three variables are of one type.
@@ -137,31 +115,21 @@ fn three_agree(program: &[u8], layout: Layout, a: usize, b: usize, c: usize) -> 
     ensures { result ≡ (alike (tables_of program.now) b a && alike (tables_of program.now) c a) }
 {
     let ty = variable_type(program, layout, a);
-    let tb = variable_type(program, layout, b);
-    if tb != ty {
-        return false;
-    }
-    let tc = variable_type(program, layout, c);
-    tc == ty
+    variable_type(program, layout, b) == ty && variable_type(program, layout, c) == ty
 }
 
 // By kind: whether the types in a statement agree, and an index is unsigned.
+#[tactic(auto, using(crate::proofs::statements::ByKind::agree_none))]
 fn types_agree(program: &[u8], layout: Layout, q: Entry) -> bool
     requires { Placed program.now layout }
     ensures { result ≡ types_agree_lem (tables_of program.now) (entry_of q) }
 {
-    let kind = q.kind;
     let a = q.a as usize;
     let b = q.b as usize;
     let c = q.c as usize;
-    match kind {
-        NUMBER => true,
+    match q.kind {
         COPY => variable_type(program, layout, b) == variable_type(program, layout, a),
-        ADD => three_agree(program, layout, a, b, c),
-        SUB => three_agree(program, layout, a, b, c),
-        MUL => three_agree(program, layout, a, b, c),
-        DIV => three_agree(program, layout, a, b, c),
-        CONVERSION => true,
+        ADD | SUB | MUL | DIV => three_agree(program, layout, a, b, c),
         READ => field_type(program, layout, b) == variable_type(program, layout, a),
         LOAD => cell_agrees(program, layout, b, a, c),
         STORE => cell_agrees(program, layout, a, c, b),

@@ -1,11 +1,10 @@
 -- `program::blocks_checked` meets its contract.
 use Rattle.std.proofs.Common.{sym, ap, subst, ◌∙◌}
-use Rattle.std.proofs.lemmas.Result.{err_from_is_err_and}
 use Rattle.model.specs.Program.{items_of}
 use Rattle.refusals.specs.declared.Refusal.TheVariants.{WrongBlocks}
 use Rattle.program.specs.OpenBlocks.{NestingIs, BlocksMatch, is_plain}
 use Rattle.program.specs.Reading.{tables_of}
-use Rattle.program.proofs.Answers.{taken_of, refused_of}
+use Rattle.program.proofs.Answers.{taken_of}
 use Rattle.program.proofs.Listing.{parts-plain, right-plain}
 use Rattle.program.proofs.blocks_checked.Goals as goal
 use Rattle.program.proofs.blocks_checked.Goals.{In_ok-ok_or}
@@ -14,18 +13,9 @@ matched : (c : In_ok-ok_or) → BlocksMatch (tables_of c.args.program.now) (is_p
 matched c =
     subst (NestingIs (tables_of c.args.program.now)) (taken_of c.nesting_right-nested.result WrongBlocks c.in_ok-ok_or.field-0 c.in_ok-ok_or.ensures.value) c.nesting_right-nested.ensures
 
-pub returns-in_err-ok_or : goal.returns-in_err-ok_or
-returns-in_err-ok_or c =
-    let none = refused_of c.nesting_right-nested.result WrongBlocks c.in_err-ok_or.field-0.0 c.in_err-ok_or.ensures.value in
-    let p = err_from_is_err_and c.from_residual.result c.from_residual.ensures.1 in
-    rw (p.1, p.2, none.1, subst (NestingIs (tables_of c.args.program.now)) none.0 c.nesting_right-nested.ensures)
-
 pub returns-in-Plain : goal.returns-in-Plain
 returns-in-Plain c =
     let T = tables_of c.args.program.now in
     let match = matched (goal.at.returns-in-Plain c).In_ok-ok_or in
     let none = sym match.none ∙ ap is_plain c.in-Plain.is in
     rw (match.closed, parts-plain T none, right-plain (items_of T))
-
-pub returns-in-WithProcedures : goal.returns-in-WithProcedures
-returns-in-WithProcedures c = rw (matched (goal.at.returns-in-WithProcedures c).In_ok-ok_or).closed c.procedures_checked.ensures

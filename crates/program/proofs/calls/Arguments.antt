@@ -18,9 +18,6 @@ module _ (f g : ℕ → Bool) where
   unfoldable pub parted : ℕ → List ℕ → Bool
   parted n xs = every f (take n xs) && every g (drop n xs)
 
-  pub parted_start : (n : ℕ) (xs : List ℕ) → parted n xs ≡ parted (n - 0) xs
-  parted_start n xs = let e : n - 0 ≡ n = omega arith in rw e
-
   module _ (n : ℕ) (xs : List ℕ) (j : ℕ) (h : j < length xs) where
     pub parted_first : (x : ℕ) → x ≡ get_or xs j 0 → j < n → parted (n - j) (drop j xs) ≡ (f x && parted (n - (j + 1)) (drop (j + 1) xs))
     unfolding parted every
@@ -47,12 +44,6 @@ module _ (f g : ℕ → Bool) where
 -- ---- they have the types of the variables from x on
 
 module _ (T : Tables) (n : ℕ) (xs : List ℕ) (x j : ℕ) where
-  pub alike-start : all_alike T (take n xs) x ≡ all_alike T (take (n - 0) xs) (x + 0)
-  alike-start =
-      let e : n - 0 ≡ n = omega arith in
-      let s : x + 0 ≡ x = omega arith in
-      rw (e, s)
-
   -- the argument with number j, by the two types
   pub alike_next : (ty tx : ℕ) → ty ≡ variable_type_lem T (get_or xs j 0) → tx ≡ variable_type_lem T (x + j) → j < length xs → j < n
       → all_alike T (take (n - j) (drop j xs)) (x + j) ≡ (eqb ty tx && all_alike T (take (n - (j + 1)) (drop (j + 1) xs)) (x + (j + 1)))

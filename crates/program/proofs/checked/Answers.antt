@@ -31,9 +31,6 @@ typed c = sym c.types_right.ensures ∙ c.if-not-types_right.false
 pub returns-then-not-types_right : goal.returns-then-not-types_right
 returns-then-not-types_right c = rw (counted (goal.at.returns-then-not-types_right c).Else-not-counts_right, sym c.types_right.ensures ∙ c.if-not-types_right.true)
 
-pub statements_right-requires : goal.statements_right-requires
-statements_right-requires c = (c.requires, typed (goal.at.statements_right-requires c).Else-not-types_right)
-
 pub returns-in_err-statements_right : goal.returns-in_err-statements_right
 returns-in_err-statements_right c =
     let s = c.args.program.now in

@@ -1,39 +1,18 @@
 -- The variables that a statement names, in the code's five words.
-use mathlib.Core.Path.{◌≡◌, refl, sym, ap, ◌∙◌}
+use mathlib.Core.Path.{◌≡◌, refl, ap}
 use mathlib.Core.Bool.{Bool, true, false}
 use mathlib.Core.List.{[], ◌∷◌}
-use Prim.Native.Nat.{ℕ, ◌+◌, ◌≤◌, ◌<◌}
+use Prim.Native.Nat.{ℕ, ◌+◌, ◌≤◌}
 use native.Mathlib.Numerals.{add-one}
 use native.Mathlib.Omega.{arith}
 use borrow.Author.Tests.{eqb-true, eqb-false}
 use lib.Dec.{eqb}
-use lib.ListN.{length, get_or, take}
-use lib.Seq.{length-take-le, take-append-le, take_all, get_or-take}
-use Rattle.model.specs.Sizes.{most_parameters}
+use lib.ListN.{get_or, take}
 use Rattle.model.specs.Bytes.{bytes4}
 use Rattle.model.specs.Procedures.{named}
 use Rattle.model.specs.Program.{Tables, Statement, item_of}
-use Rattle.program.specs.Names.{most_names, five_of, names_of}
 use Rattle.program.specs.Numbers.{else_kind, while_kind, procedure_kind, call_kind}
-use Rattle.program.specs.declared.own_variables.Names.{Names}
 use Rattle.program.proofs.Items.{item_else, item_procedure, item_end}
-use Rattle.program.proofs.calls.Arguments.{four_bytes}
-
-pub names-length : (n : Names) → n.count ≤ most_names → length (names_of n) ≡ n.count
-names-length n h = length-take-le n.count (five_of n) h
-
-pub name_in : (n : Names) (j : ℕ) → j < n.count → get_or (names_of n) j 0 ≡ get_or (five_of n) j 0
-name_in n j h = get_or-take n.count (five_of n) j 0 h
-
--- the first three of the five
-pub first_three : (n x y z : ℕ) → n ≤ 3 → take n (x ∷ y ∷ z ∷ 0 ∷ 0 ∷ []) ≡ take n (x ∷ y ∷ z ∷ [])
-first_three n x y z h = take-append-le n (x ∷ y ∷ z ∷ []) (0 ∷ 0 ∷ []) h
-
--- an immediate has four bytes
-pub whole-immediate : (n v : ℕ) → most_parameters ≤ n → take most_parameters (bytes4 v) ≡ take n (bytes4 v)
-whole-immediate n v h =
-    let e = four_bytes v in
-    take_all most_parameters (bytes4 v) (omega arith) ∙ sym (take_all n (bytes4 v) (omega arith))
 
 -- a target and the first k bytes of an immediate
 pub target-bytes : (k v a w x y z : ℕ) → w ≡ get_or (bytes4 v) 0 0 → x ≡ get_or (bytes4 v) 1 0 → y ≡ get_or (bytes4 v) 2 0 → z ≡ get_or (bytes4 v) 3 0

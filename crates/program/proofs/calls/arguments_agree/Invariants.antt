@@ -1,6 +1,6 @@
 -- `program::calls::arguments_agree` meets its contract. The invariant: the bytes before j agree, those from j on are left.
 use mathlib.Core.Path.{◌≡◌}
-use Prim.Native.Nat.{◌≤◌, ◌-◌, ◌+◌}
+use Prim.Native.Nat.{◌-◌, ◌+◌}
 use lib.ListN.{take, drop}
 use Rattle.model.specs.Bytes.{bytes4}
 use Rattle.model.specs.Program.{all_alike}
@@ -10,7 +10,4 @@ use Rattle.program.proofs.calls.arguments_agree.Given as goal
 abbrev pub invariant-loop-j : goal.invariant-loop-j
 invariant-loop-j l =
     let T = tables_of l.program in
-    (l.j ≤ 4) × (all_alike T (take l.n (bytes4 l.imm)) l.x ≡ all_alike T (take (l.n - l.j) (drop l.j (bytes4 l.imm))) (l.x + l.j))
-
-abbrev pub decreases-loop-j : goal.decreases-loop-j
-decreases-loop-j l = 4 - l.j
+    all_alike T (take l.n (bytes4 l.imm)) l.x ≡ all_alike T (take (l.n - l.j) (drop l.j (bytes4 l.imm))) (l.x + l.j)

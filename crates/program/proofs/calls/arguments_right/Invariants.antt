@@ -1,6 +1,6 @@
 -- `program::calls::arguments_right` meets its contract. The invariant: the bytes before j pass, those from j on are left.
 use mathlib.Core.Path.{◌≡◌}
-use Prim.Native.Nat.{◌≤◌, ◌-◌}
+use Prim.Native.Nat.{◌-◌}
 use lib.Dec.{ltb}
 use lib.ListN.{drop}
 use Rattle.model.specs.Bytes.{bytes4}
@@ -11,7 +11,4 @@ use Rattle.program.proofs.calls.arguments_right.Given as goal
 abbrev pub invariant-loop-j : goal.invariant-loop-j
 invariant-loop-j l =
     let passes = parted (λ x. ltb x l.variables) unused in
-    (l.j ≤ 4) × (passes l.n (bytes4 l.imm) ≡ passes (l.n - l.j) (drop l.j (bytes4 l.imm)))
-
-abbrev pub decreases-loop-j : goal.decreases-loop-j
-decreases-loop-j l = 4 - l.j
+    passes l.n (bytes4 l.imm) ≡ passes (l.n - l.j) (drop l.j (bytes4 l.imm))

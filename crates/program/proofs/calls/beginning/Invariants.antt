@@ -1,6 +1,5 @@
 -- `program::calls::beginning` meets its contract. The invariant: the beginnings from number p on are those from i on without the first `left`.
 use mathlib.Core.Path.{◌≡◌}
-use Prim.Native.Nat.{◌≤◌, ◌-◌}
 use lib.ListN.{drop}
 use Rattle.model.specs.Program.{beginnings}
 use Rattle.program.specs.Reading.{tables_of}
@@ -9,7 +8,4 @@ use Rattle.program.proofs.calls.beginning.Given as goal
 abbrev pub invariant-loop-i : goal.invariant-loop-i
 invariant-loop-i l =
     let ss = (tables_of l.program).statements in
-    (l.i ≤ l.n) × (drop l.p (beginnings ss) ≡ drop l.left (beginnings (drop l.i ss)))
-
-abbrev pub decreases-loop-i : goal.decreases-loop-i
-decreases-loop-i l = l.n - l.i
+    drop l.p (beginnings ss) ≡ drop l.left (beginnings (drop l.i ss))

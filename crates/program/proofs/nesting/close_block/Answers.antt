@@ -4,6 +4,7 @@ use native.Mathlib.Omega.{arith}
 use Rattle.program.specs.OpenBlocks.{in_procedures, blocks_in}
 use Rattle.program.proofs.nesting.Words.{word_less, closes_procedure, closes_no_if, closes_other}
 use Rattle.program.proofs.nesting.close_block.Goals as goal
+use Rattle.program.proofs.nesting.close_block.Goals.{then-nested-eq0-via-then-nested-eq0, then-nested-eq0-via-else-nested-eq0+then-word-eq-IF_CODE}
 
 pub returns-then-inner-ne0 : goal.returns-then-inner-ne0
 returns-then-inner-ne0 c =
@@ -12,13 +13,13 @@ returns-then-inner-ne0 c =
 
 pub returns-then-nested-eq0 : goal.returns-then-nested-eq0
 unfolding in_procedures blocks_in
-returns-then-nested-eq0 c = (rw (c.if-inner-ne0.false, c.if-nested-eq0.true), tt)
-
-pub returns-then-word-eq-IF_CODE : goal.returns-then-word-eq-IF_CODE
-unfolding in_procedures
-returns-then-word-eq-IF_CODE c =
+returns-then-nested-eq0 c =
     let o = c.args.blocks in
-    (rw (c.if-inner-ne0.false, closes_no_if o.nested o.word (omega (arith, c.if-nested-eq0.false)) c.if-word-eq-IF_CODE.true), tt)
+    elim c.then-nested-eq0.branch [
+      | then-nested-eq0-via-then-nested-eq0 w ↦ (rw (c.if-inner-ne0.false, w.if-nested-eq0.true), tt)
+      | then-nested-eq0-via-else-nested-eq0+then-word-eq-IF_CODE w ↦
+          (rw (c.if-inner-ne0.false, closes_no_if o.nested o.word (omega (arith, w.if-nested-eq0.false)) w.if-word-eq-IF_CODE.true), tt)
+    ]
 
 pub returns : goal.returns
 unfolding in_procedures

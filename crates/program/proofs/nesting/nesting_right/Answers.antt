@@ -11,16 +11,15 @@ use Rattle.model.specs.Code.{end}
 use Rattle.model.specs.Refusals.{ok, ◌>>=◌}
 use Rattle.model.specs.Procedures.{Item, own, Block, passing, open_after, all_closed, begins_none}
 use Rattle.model.specs.Program.{item_of, Tables, items_of}
-use Rattle.program.specs.Numbers.{if_kind}
 use Rattle.program.specs.OpenBlocks.{is_plain, blocks_in, blocks_of, in_procedures}
 use Rattle.program.specs.Reading.{statement_of, tables_of}
-use Rattle.program.proofs.Items.{item_plain, item_at_lem, items_length, item_begins-none, item_begins-one}
+use Rattle.program.proofs.Items.{item_at_lem, items_length, item_begins-none, item_begins-one}
 use Rattle.model.proofs.Basics.Passes.{pass_gathers, pass_gathered}
 use Rattle.program.proofs.Tables.{sized}
 use Rattle.program.proofs.nesting.Passing.{pass_on, pass_stops, pass_ends, grows_by_one}
 use Rattle.program.proofs.nesting.Words.{length-procedures, inner_open, blocks_open, none_open}
 use Rattle.program.proofs.nesting.nesting_right.Goals as goal
-use Rattle.program.proofs.nesting.nesting_right.Goals.{then-kind-eq-PROCEDURE, else-kind-eq-PROCEDURE, In_ok-blocks, After-loop-i, At-loop-i, In-loop-i}
+use Rattle.program.proofs.nesting.nesting_right.Goals.{then-blocks-ne0-via-then-blocks-ne0, then-blocks-ne0-via-else-blocks-ne0+then-blocks-ne0-2, then-kind-eq-PROCEDURE, else-kind-eq-PROCEDURE, In_ok-blocks, After-loop-i, At-loop-i, In-loop-i}
 
 abbrev tables : At-loop-i → Tables
 tables c = tables_of c.args.program.now
@@ -76,20 +75,6 @@ pub loop-i-init : goal.loop-i-init
 unfolding in_procedures blocks_in
 loop-i-init c = (record { few = omega arith; small = omega arith }, omega arith, refl, refl)
 
-pub loop-i-preserved-then-kind-lt-IF : goal.loop-i-preserved-then-kind-lt-IF
-unfolding passing
-loop-i-preserved-then-kind-lt-IF c =
-    let lp = c.loop-i in
-    let small : (statement_of (tables (goal.at.loop-i-preserved-then-kind-lt-IF c).At-loop-i) lp.i).kind < if_kind = omega (arith, c.kind_at-kind.ensures, c.if-kind-lt-IF.true) in
-    let plain = item_at_lem (tables (goal.at.loop-i-preserved-then-kind-lt-IF c).At-loop-i) lp.i ∙ (item_plain (tables (goal.at.loop-i-preserved-then-kind-lt-IF c).At-loop-i) (statement_of (tables (goal.at.loop-i-preserved-then-kind-lt-IF c).At-loop-i) lp.i) small).1 in
-    let kept : passing (item (goal.at.loop-i-preserved-then-kind-lt-IF c).At-loop-i) (opened (goal.at.loop-i-preserved-then-kind-lt-IF c).At-loop-i) ≡ ok (opened (goal.at.loop-i-preserved-then-kind-lt-IF c).At-loop-i) = ap (λ (x : Item). passing x (opened (goal.at.loop-i-preserved-then-kind-lt-IF c).At-loop-i)) plain in (
-      lp.invariant.0,
-      omega (arith, lp.invariant.1),
-      pass_on (items (goal.at.loop-i-preserved-then-kind-lt-IF c).At-loop-i) lp.i (opened (goal.at.loop-i-preserved-then-kind-lt-IF c).At-loop-i) lp.invariant.2 (in_list (goal.at.loop-i-preserved-then-kind-lt-IF c).In-loop-i) (opened (goal.at.loop-i-preserved-then-kind-lt-IF c).At-loop-i) kept,
-      pass_gathers begins_none (own end) (items (goal.at.loop-i-preserved-then-kind-lt-IF c).At-loop-i) lp.i (is_plain lp.found) (in_list (goal.at.loop-i-preserved-then-kind-lt-IF c).In-loop-i) lp.invariant.3
-          ∙ ap (◌&& every begins_none (drop (lp.i + 1) (items (goal.at.loop-i-preserved-then-kind-lt-IF c).At-loop-i))) (ap (λ (x : Item). is_plain lp.found && begins_none x) plain ∙ and-true (is_plain lp.found)),
-    )
-
 pub pass_statement-requires : goal.pass_statement-requires
 pass_statement-requires c = (c.loop-i.invariant.0, omega (arith, inner-few (goal.at.pass_statement-requires c).In-loop-i))
 
@@ -116,12 +101,11 @@ loop-i-preserved c =
 pub returns-then-blocks-ne0 : goal.returns-then-blocks-ne0
 returns-then-blocks-ne0 c =
     let o = c.loop-i.blocks in
-    ap (◌>>= all_closed) (ended (goal.at.returns-then-blocks-ne0 c).After-loop-i) ∙ inner_open o.inner (blocks_in o.nested o.word) (omega (arith, c.if-blocks-ne0.true))
-
-pub returns-then-blocks-ne0-2 : goal.returns-then-blocks-ne0-2
-returns-then-blocks-ne0-2 c =
-    let o = c.loop-i.blocks in
-    ap (◌>>= all_closed) (ended (goal.at.returns-then-blocks-ne0-2 c).After-loop-i) ∙ blocks_open o.inner o.nested o.word (omega (arith, c.if-blocks-ne0-2.true))
+    ap (◌>>= all_closed) (ended (goal.at.returns-then-blocks-ne0 c).After-loop-i)
+    ∙ elim c.then-blocks-ne0.branch [
+      | then-blocks-ne0-via-then-blocks-ne0 w ↦ inner_open o.inner (blocks_in o.nested o.word) (omega (arith, w.if-blocks-ne0.true))
+      | then-blocks-ne0-via-else-blocks-ne0+then-blocks-ne0-2 w ↦ blocks_open o.inner o.nested o.word (omega (arith, w.if-blocks-ne0-2.true))
+    ]
 
 pub returns : goal.returns
 returns c =

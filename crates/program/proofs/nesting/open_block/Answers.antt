@@ -8,7 +8,6 @@ use Rattle.model.specs.Sizes.{most_nested}
 use Rattle.program.specs.OpenBlocks.{in_procedures, blocks_in, blocks_of}
 use Rattle.program.specs.declared.nesting.Open.{Open}
 use Rattle.program.proofs.nesting.Words.{word_room, word_more, nesting-procedures, nesting-blocks, blocks_more}
-use borrow.Author.Rules.{rules}
 use Rattle.program.proofs.nesting.open_block.Goals as goal
 use Rattle.program.proofs.nesting.open_block.Goals.{Else-not-has_room}
 
@@ -25,9 +24,6 @@ room c = word_room c.args.blocks.nested c.args.blocks.word (fewer c) c.requires.
 pub returns-then-not-has_room : goal.returns-then-not-has_room
 returns-then-not-has_room c =
     (rw (counted c.args.blocks, sym c.has_room.ensures ∙ c.if-not-has_room.true), tt)
-
-pub overflow_add-result : goal.overflow_add-result
-overflow_add-result c = search (rules, fewer c)
 
 pub overflow_mul-result : goal.overflow_mul-result
 overflow_mul-result c = omega (arith, room c)

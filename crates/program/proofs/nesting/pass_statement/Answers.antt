@@ -1,5 +1,6 @@
 -- `program::nesting::pass_statement` meets its contract.
-use mathlib.Core.Path.{◌∙◌}
+use mathlib.Core.Path.{ap, ◌∙◌}
+use Rattle.model.specs.Refusals.{ok}
 use native.Mathlib.Omega.{arith}
 use Rattle.model.specs.Procedures.{passing}
 use Rattle.program.specs.OpenBlocks.{block_of}
@@ -24,7 +25,7 @@ returns-in-14 c = (λ T q e. rw (item_while T q (e ∙ c.in-14.is)) c.open_block
 
 pub returns-in-15 : goal.returns-in-15
 unfolding passing
-returns-in-15 c = (λ T q e. rw (item_procedure T q (e ∙ c.in-15.is)) c.open_procedure.ensures.0, c.open_procedure.ensures.1)
+returns-in-15 c = (λ T q e. rw (item_procedure T q (e ∙ c.in-15.is)) (ap ok c.open_procedure.ensures.0), c.open_procedure.ensures.1)
 
 pub returns-in-16 : goal.returns-in-16
 unfolding passing
@@ -33,7 +34,7 @@ returns-in-16 c = (λ T q e. rw (item_call T q (e ∙ c.in-16.is)), c.requires.0
 pub returns-in_default : goal.returns-in_default
 unfolding passing
 returns-in_default c =
-    let r : OtherKind c.args.kind = (((((tt, λ k. omega arith), λ k. omega arith), λ k. omega arith), λ k. omega arith), λ k. omega arith) in
+    let r : OtherKind c.args.kind = (λ k. omega arith, λ k. omega arith, λ k. omega arith, λ k. omega arith, λ k. omega arith) in
     let closed = c.close_block.ensures in (
       λ T q e.
           rw (item_otherwise T q e (omega arith) r)

@@ -1,5 +1,5 @@
 -- `program::own_variables::all_apart` meets its contract.
-use mathlib.Core.Path.{◌≡◌, refl, sym, ap, ◌∙◌}
+use mathlib.Core.Path.{◌≡◌, sym, ap, ◌∙◌}
 use mathlib.Core.Bool.{◌&&◌}
 use mathlib.Core.List.{List}
 use Prim.Native.Nat.{◌+◌}
@@ -34,9 +34,6 @@ tested c =
     ∙ ap (λ (q : Procedure). every (apart q) later && all_apart_lem later) one ∙ ap (◌&& all_apart_lem later) (sym c.apart_from_later.ensures)
 
 -- ---- the answers
-pub loop-p-init : goal.loop-p-init
-loop-p-init c = refl
-
 pub returns-then-not-apart_from_later : goal.returns-then-not-apart_from_later
 returns-then-not-apart_from_later c =
     sym (tested (goal.at.returns-then-not-apart_from_later c).After-apart_from_later ∙ ap (◌&& all_apart_lem (drop (c.loop-p.p + 1) (listed (goal.at.returns-then-not-apart_from_later c).At-loop-p))) (c.if-not-apart_from_later.true))

@@ -1,6 +1,5 @@
 -- `program::own_variables::all_apart` meets its contract.
 use mathlib.Core.Path.{◌≡◌}
-use Prim.Native.Nat.{◌-◌}
 use lib.ListN.{drop}
 use Rattle.model.specs.Procedures.{all_apart_lem}
 use Rattle.program.specs.Parts.{procedures_in}
@@ -11,6 +10,3 @@ abbrev pub invariant-loop-p : goal.invariant-loop-p
 invariant-loop-p l =
     let ps = procedures_in (tables_of l.program) l.table l.main.procedures in
     all_apart_lem ps ≡ all_apart_lem (drop l.p ps)
-
-abbrev pub decreases-loop-p : goal.decreases-loop-p
-decreases-loop-p l = l.n - l.p

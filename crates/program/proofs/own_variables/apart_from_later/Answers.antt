@@ -1,5 +1,5 @@
 -- `program::own_variables::apart_from_later` meets its contract.
-use mathlib.Core.Path.{◌≡◌, refl, sym, ap, ◌∙◌}
+use mathlib.Core.Path.{◌≡◌, sym, ap, ◌∙◌}
 use mathlib.Core.Bool.{Bool, ◌||◌}
 use mathlib.Core.List.{List}
 use Prim.Native.Nat.{◌<◌, ◌+◌}
@@ -37,23 +37,20 @@ in_list c = rw (all (goal.at.In-loop-i c).At-loop-i) (omega arith)
 tested : (c : After-are_apart) → c.are_apart.result ≡ apart (one (goal.at.After-are_apart c).At-loop-i) (get_or (listed (goal.at.After-are_apart c).At-loop-i) c.loop-i.i no_procedure_lem)
 tested c =
     let q = c.begun-q.ensures in
-    let r = c.begun-other.ensures in
+    let r = c.begun.ensures in
     let other = procedure-at (tables (goal.at.After-are_apart c).At-loop-i) c.args.table.now c.args.main.procedures c.loop-i.i (omega arith) in
     c.are_apart.ensures ∙ (λ j. shares_none (q j) (r j)) ∙ ap (apart (one (goal.at.After-are_apart c).At-loop-i)) (sym other)
-
-pub loop-i-init : goal.loop-i-init
-loop-i-init c = (omega arith, refl)
 
 pub returns-then-not-are_apart : goal.returns-then-not-are_apart
 returns-then-not-are_apart c =
     let shared = sym (tested (goal.at.returns-then-not-are_apart c).After-are_apart) ∙ c.if-not-are_apart.true in
-    sym (rest-fails (apart (one (goal.at.returns-then-not-are_apart c).At-loop-i)) no_procedure_lem (listed (goal.at.returns-then-not-are_apart c).At-loop-i) c.loop-i.i (in_list (goal.at.returns-then-not-are_apart c).In-loop-i) _ c.loop-i.invariant.1 shared)
+    sym (rest-fails (apart (one (goal.at.returns-then-not-are_apart c).At-loop-i)) no_procedure_lem (listed (goal.at.returns-then-not-are_apart c).At-loop-i) c.loop-i.i (in_list (goal.at.returns-then-not-are_apart c).In-loop-i) _ c.loop-i.invariant shared)
 
 pub loop-i-preserved : goal.loop-i-preserved
 loop-i-preserved c =
     let none = sym (tested (goal.at.loop-i-preserved c).After-are_apart) ∙ c.if-not-are_apart.false in
-    (omega arith, rest_goes (apart (one (goal.at.loop-i-preserved c).At-loop-i)) no_procedure_lem (listed (goal.at.loop-i-preserved c).At-loop-i) c.loop-i.i (in_list (goal.at.loop-i-preserved c).In-loop-i) _ c.loop-i.invariant.1 none)
+    rest_goes (apart (one (goal.at.loop-i-preserved c).At-loop-i)) no_procedure_lem (listed (goal.at.loop-i-preserved c).At-loop-i) c.loop-i.i (in_list (goal.at.loop-i-preserved c).In-loop-i) _ c.loop-i.invariant none
 
 pub returns : goal.returns
 returns c =
-    sym (rest-ends (apart (one (goal.at.returns c).At-loop-i)) no_procedure_lem (listed (goal.at.returns c).At-loop-i) c.loop-i.i (rw (all (goal.at.returns c).At-loop-i) (omega arith)) _ c.loop-i.invariant.1)
+    sym (rest-ends (apart (one (goal.at.returns c).At-loop-i)) no_procedure_lem (listed (goal.at.returns c).At-loop-i) c.loop-i.i (rw (all (goal.at.returns c).At-loop-i) (omega arith)) _ c.loop-i.invariant)

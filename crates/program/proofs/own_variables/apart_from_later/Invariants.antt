@@ -1,6 +1,6 @@
 -- `program::own_variables::apart_from_later` meets its contract.
 use mathlib.Core.Path.{◌≡◌}
-use Prim.Native.Nat.{◌≤◌, ◌-◌, ◌+◌}
+use Prim.Native.Nat.{◌+◌}
 use lib.ListN.{drop}
 use Rattle.model.specs.Lists.{every}
 use Rattle.model.specs.Procedures.{apart}
@@ -13,7 +13,4 @@ invariant-loop-i l =
     let T = tables_of l.program in
     let ps = procedures_in T l.table l.main.procedures in
     let f = apart (procedure_in_lem T l.table l.p) in
-    (l.i ≤ l.n) × (every f (drop (l.p + 1) ps) ≡ every f (drop l.i ps))
-
-abbrev pub decreases-loop-i : goal.decreases-loop-i
-decreases-loop-i l = l.n - l.i
+    every f (drop (l.p + 1) ps) ≡ every f (drop l.i ps)

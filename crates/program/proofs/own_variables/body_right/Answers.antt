@@ -16,7 +16,9 @@ use Rattle.model.proofs.Basics.Passes.{pass_fails, pass_goes, pass_ends}
 use Rattle.program.proofs.Tables.{sized}
 use Rattle.program.proofs.own_variables.Bodies.{body-length, body-at}
 use Rattle.program.proofs.own_variables.body_right.Invariants.{uses}
+use Rattle.program.proofs.Every.{every-is}
 use Rattle.program.proofs.own_variables.body_right.Goals as goal
+use Rattle.program.proofs.own_variables.body_right.Goals.{then-not-names_within-via-then-not-names_within, then-not-names_within-via-else-not-names_within+then-not-calls_before}
 use Rattle.program.proofs.own_variables.body_right.Goals.{After-calls_before, After-names_within, After-statement-q, At-loop-i, In-loop-i}
 
 abbrev tables : At-loop-i → Tables
@@ -51,8 +53,8 @@ own-variables c =
     let head = c.statement-head.ensures in
     let first = ap (λ (s : Statement). s.b) head in
     let count = ap (λ (s : Statement). s.c) head in
-    let names = c.names_of.ensures.same ∙ ap named (item (goal.at.After-names_within c).After-statement-q) in
-    c.names_within.ensures ∙ (λ j. every (within (first j) (count j)) (names j))
+    let names = c.listed.ensures ∙ c.names_of-names.ensures.same ∙ ap named (item (goal.at.After-names_within c).After-statement-q) in
+    c.names_within.ensures ∙ sym (every-is _ _) ∙ (λ j. every (within (first j) (count j)) (names j))
 
 earlier-calls : (c : After-calls_before) → c.calls_before.result ≡ calls_before_lem c.args.n (get_or (tested (goal.at.After-calls_before c).At-loop-i).body (place (goal.at.After-calls_before c).At-loop-i) (own end))
 earlier-calls c =
@@ -62,26 +64,23 @@ earlier-calls c =
 next : (c : In-loop-i) → place (goal.at.In-loop-i c).At-loop-i + 1 ≡ c.loop-i.i + 1 - (c.args.begin + 1)
 next c = omega (arith, c.loop-i.invariant.0)
 
-pub loop-i-init : goal.loop-i-init
-loop-i-init c =
-    let z : c.args.begin + 1 - (c.args.begin + 1) ≡ 0 = omega arith in
-    (omega arith, omega arith, rw z, rw z)
-
-pub names_within-requires : goal.names_within-requires
-names_within-requires c = c.names_of.ensures.few
-
 pub returns-then-not-names_within : goal.returns-then-not-names_within
 returns-then-not-names_within c =
-    let q = tested (goal.at.returns-then-not-names_within c).At-loop-i in
-    let wrong = sym (own-variables (goal.at.returns-then-not-names_within c).After-names_within) ∙ c.if-not-names_within.true in
-    sym (ap (◌&& every (calls_before_lem c.args.n) q.body) (pass_fails (uses q) (own end) q.body (place (goal.at.returns-then-not-names_within c).At-loop-i) (in_list (goal.at.returns-then-not-names_within c).In-loop-i) c.loop-i.invariant.2 wrong))
-
-pub returns-then-not-calls_before : goal.returns-then-not-calls_before
-returns-then-not-calls_before c =
-    let q = tested (goal.at.returns-then-not-calls_before c).At-loop-i in
+    let here = goal.at.returns-then-not-names_within c in
+    let q = tested here.At-loop-i in
     let f = calls_before_lem c.args.n in
-    let wrong = sym (earlier-calls (goal.at.returns-then-not-calls_before c).After-calls_before) ∙ c.if-not-calls_before.true in
-    sym (ap (every (uses q) q.body &&◌) (pass_fails f (own end) q.body (place (goal.at.returns-then-not-calls_before c).At-loop-i) (in_list (goal.at.returns-then-not-calls_before c).In-loop-i) c.loop-i.invariant.3 wrong) ∙ and-false (every (uses q) q.body))
+    let at = place here.At-loop-i in
+    let in_body = in_list here.In-loop-i in
+    let T = tables here.At-loop-i in
+    elim c.then-not-names_within.branch [
+      | then-not-names_within-via-then-not-names_within w ↦
+          let wrong = sym (own-variables here.After-names_within) ∙ w.if-not-names_within.true in
+          sym (ap (◌&& every f q.body) (pass_fails (uses q) (own end) q.body at in_body c.loop-i.invariant.1 wrong))
+      | then-not-names_within-via-else-not-names_within+then-not-calls_before w ↦
+          let earlier = w.calls_before.ensures T ∙ ap f (item here.After-statement-q) in
+          let wrong = sym earlier ∙ w.if-not-calls_before.true in
+          sym (ap (every (uses q) q.body &&◌) (pass_fails f (own end) q.body at in_body c.loop-i.invariant.2 wrong) ∙ and-false (every (uses q) q.body))
+    ]
 
 pub loop-i-preserved : goal.loop-i-preserved
 loop-i-preserved c =
@@ -90,13 +89,12 @@ loop-i-preserved c =
     let owned = sym (own-variables (goal.at.loop-i-preserved c).After-names_within) ∙ c.if-not-names_within.false in
     let calls = sym (earlier-calls (goal.at.loop-i-preserved c).After-calls_before) ∙ c.if-not-calls_before.false in (
       omega (arith, c.loop-i.invariant.0),
-      omega arith,
-      rw (← next (goal.at.loop-i-preserved c).In-loop-i) (pass_goes (uses q) (own end) q.body (place (goal.at.loop-i-preserved c).At-loop-i) (in_list (goal.at.loop-i-preserved c).In-loop-i) c.loop-i.invariant.2 owned),
-      rw (← next (goal.at.loop-i-preserved c).In-loop-i) (pass_goes f (own end) q.body (place (goal.at.loop-i-preserved c).At-loop-i) (in_list (goal.at.loop-i-preserved c).In-loop-i) c.loop-i.invariant.3 calls),
+      rw (← next (goal.at.loop-i-preserved c).In-loop-i) (pass_goes (uses q) (own end) q.body (place (goal.at.loop-i-preserved c).At-loop-i) (in_list (goal.at.loop-i-preserved c).In-loop-i) c.loop-i.invariant.1 owned),
+      rw (← next (goal.at.loop-i-preserved c).In-loop-i) (pass_goes f (own end) q.body (place (goal.at.loop-i-preserved c).At-loop-i) (in_list (goal.at.loop-i-preserved c).In-loop-i) c.loop-i.invariant.2 calls),
     )
 
 pub returns : goal.returns
 returns c =
     let q = tested (goal.at.returns c).At-loop-i in
     let past : length q.body ≤ place (goal.at.returns c).At-loop-i = rw (all (goal.at.returns c).At-loop-i) (omega arith) in
-    sym (rw (pass_ends (uses q) (own end) q.body (place (goal.at.returns c).At-loop-i) past c.loop-i.invariant.2) (pass_ends (calls_before_lem c.args.n) (own end) q.body (place (goal.at.returns c).At-loop-i) past c.loop-i.invariant.3))
+    sym (rw (pass_ends (uses q) (own end) q.body (place (goal.at.returns c).At-loop-i) past c.loop-i.invariant.1) (pass_ends (calls_before_lem c.args.n) (own end) q.body (place (goal.at.returns c).At-loop-i) past c.loop-i.invariant.2))

@@ -1,7 +1,7 @@
 -- `program::own_variables::body_right` meets its contract.
 use mathlib.Core.Path.{◌≡◌}
 use mathlib.Core.Bool.{Bool}
-use Prim.Native.Nat.{◌≤◌, ◌<◌, ◌-◌, ◌+◌}
+use Prim.Native.Nat.{◌<◌, ◌-◌, ◌+◌}
 use lib.ListN.{drop}
 use Rattle.model.specs.Lists.{every}
 use Rattle.model.specs.Procedures.{Item, Procedure, named, owns, calls_before_lem}
@@ -16,9 +16,6 @@ uses q x = every (owns q) (named x)
 abbrev pub invariant-loop-i : goal.invariant-loop-i
 invariant-loop-i l =
     let q = procedure_between (tables_of l.program) l.begin l.end in
-    (l.begin < l.i) × (l.i ≤ l.end)
+    (l.begin < l.i)
     × (every (uses q) q.body ≡ every (uses q) (drop (l.i - (l.begin + 1)) q.body))
     × (every (calls_before_lem l.n) q.body ≡ every (calls_before_lem l.n) (drop (l.i - (l.begin + 1)) q.body))
-
-abbrev pub decreases-loop-i : goal.decreases-loop-i
-decreases-loop-i l = l.end - l.i

@@ -1,5 +1,5 @@
 -- `program::own_variables::main_spared` meets its contract.
-use mathlib.Core.Path.{◌≡◌, refl, sym, ap, ◌∙◌}
+use mathlib.Core.Path.{◌≡◌, sym, ap, ◌∙◌}
 use mathlib.Core.Bool.{not}
 use mathlib.Core.List.{List}
 use Prim.Native.Nat.{◌<◌}
@@ -14,6 +14,7 @@ use Rattle.program.specs.Reading.{tables_of}
 use Rattle.program.proofs.Items.{item_at_lem, items_length}
 use Rattle.model.proofs.Basics.Passes.{rest-fails, rest_goes, rest-ends}
 use Rattle.program.proofs.Tables.{sized}
+use Rattle.program.proofs.Every.{every-is}
 use Rattle.program.proofs.own_variables.main_spared.Goals as goal
 use Rattle.program.proofs.own_variables.main_spared.Goals.{After-names_spared, At-loop-i, In-loop-i}
 
@@ -33,16 +34,10 @@ in_list c = rw (all (goal.at.In-loop-i c).At-loop-i) (omega arith)
 tested : (c : After-names_spared) → c.names_spared.result ≡ spares (listed (goal.at.After-names_spared c).At-loop-i) (item_at (tables (goal.at.After-names_spared c).At-loop-i) c.loop-i.i)
 tested c =
     let T = tables (goal.at.After-names_spared c).At-loop-i in
-    let names = c.names_of.ensures.same ∙ ap (λ (s : Statement). named (item_of T s)) c.statement-q.ensures ∙ ap named (sym (item_at_lem T c.loop-i.i)) in
-    c.names_spared.ensures ∙ ap (every (λ x. every (λ q. not (owns q x)) (listed (goal.at.After-names_spared c).At-loop-i))) names
+    let names = c.listed.ensures ∙ c.names_of-names.ensures.same ∙ ap (λ (s : Statement). named (item_of T s)) c.statement-q.ensures ∙ ap named (sym (item_at_lem T c.loop-i.i)) in
+    c.names_spared.ensures ∙ sym (every-is _ _) ∙ ap (every (λ x. every (λ q. not (owns q x)) (listed (goal.at.After-names_spared c).At-loop-i))) names
 
 -- ---- the answers
-pub loop-i-init : goal.loop-i-init
-loop-i-init c = refl
-
-pub names_spared-requires : goal.names_spared-requires
-names_spared-requires c = (c.requires, c.names_of.ensures.few)
-
 pub returns-then-not-names_spared : goal.returns-then-not-names_spared
 returns-then-not-names_spared c =
     let owned = sym (tested (goal.at.returns-then-not-names_spared c).After-names_spared) ∙ c.if-not-names_spared.true in

@@ -1,6 +1,5 @@
 -- `program::own_variables::main_spared` meets its contract.
 use mathlib.Core.Path.{◌≡◌}
-use Prim.Native.Nat.{◌-◌}
 use lib.ListN.{drop}
 use Rattle.model.specs.Lists.{every}
 use Rattle.model.specs.Procedures.{spares}
@@ -14,6 +13,3 @@ invariant-loop-i l =
     let T = tables_of l.program in
     let f = spares (procedures_in T l.table l.main.procedures) in
     every f (drop l.main.label (items_of T)) ≡ every f (drop l.i (items_of T))
-
-abbrev pub decreases-loop-i : goal.decreases-loop-i
-decreases-loop-i l = l.n - l.i

@@ -1,45 +1,36 @@
 -- `program::own_variables::names_of` meets its contract.
-use mathlib.Core.Path.{◌∙◌, ap, sym}
+use Rattle.std.proofs.Common.{◌≡◌, ◌⊎◌, inl, inr, arith, ◌∙◌, ap, sym}
 use Rattle.model.specs.Kinds.{kind_of}
 use Rattle.model.specs.Procedures.{named}
 use Rattle.model.specs.Program.{item_of, stmt_of}
+use Rattle.program.specs.Numbers.{number_kind, read_kind, site_kind, if_kind, while_kind}
 use Rattle.program.specs.Reading.{entry_of}
-use Rattle.program.proofs.Items.{item_call}
-use native.Mathlib.Omega.{arith}
+use Rattle.program.proofs.Items.{item_call, is_operation}
 use Rattle.program.proofs.own_variables.Naming.{names-none}
 use Rattle.program.proofs.own_variables.names_of.Goals as goal
 
 pub returns-in-0 : goal.returns-in-0
 unfolding item_of stmt_of kind_of
-returns-in-0 c = record { same = rw c.in-0.is c.few.ensures.same; few = c.few.ensures.few }
+returns-in-0 c =
+    let k = c.args.q.kind in
+    let same = c.few-in-0.ensures.same in
+    let kind : (k ≡ number_kind) ⊎ ((k ≡ read_kind) ⊎ ((k ≡ site_kind) ⊎ ((k ≡ if_kind) ⊎ (k ≡ while_kind)))) = grind arith in
+    record {
+      same = elim kind [ inl e ↦ rw e same | inr l ↦ elim l [ inl e ↦ rw e same | inr m ↦ elim m [ inl e ↦ rw e same | inr n ↦ elim n [ inl e ↦ rw e same | inr e ↦ rw e same ] ] ] ];
+      few = c.few-in-0.ensures.few;
+    }
 
 pub returns-in-1 : goal.returns-in-1
 unfolding item_of stmt_of kind_of
-returns-in-1 c = record { same = rw c.in-1.is c.few-in-1.ensures.same; few = c.few-in-1.ensures.few }
+returns-in-1 c =
+    let same = c.few.ensures.same in
+    record { same = elim c.in-1.is [ inl e ↦ rw e same | inr e ↦ rw e same ]; few = c.few.ensures.few }
 
 pub returns-in-2 : goal.returns-in-2
-unfolding item_of stmt_of kind_of
-returns-in-2 c = record { same = rw c.in-2.is c.few-in-2.ensures.same; few = c.few-in-2.ensures.few }
-
-pub returns-in-3 : goal.returns-in-3
-unfolding item_of stmt_of kind_of
-returns-in-3 c = record { same = rw c.in-3.is c.few-in-3.ensures.same; few = c.few-in-3.ensures.few }
-
-pub returns-in-4 : goal.returns-in-4
-unfolding item_of stmt_of kind_of
-returns-in-4 c = record { same = rw c.in-4.is c.few-in-4.ensures.same; few = c.few-in-4.ensures.few }
-
-pub returns-in-5 : goal.returns-in-5
-unfolding item_of stmt_of kind_of
-returns-in-5 c = record { same = rw c.in-5.is c.few-in-5.ensures.same; few = c.few-in-5.ensures.few }
-
-pub returns-in-6 : goal.returns-in-6
-unfolding item_of stmt_of kind_of
-returns-in-6 c = record { same = rw c.in-6.is c.few-in-6.ensures.same; few = c.few-in-6.ensures.few }
-
-pub returns-in-7 : goal.returns-in-7
-unfolding item_of stmt_of kind_of
-returns-in-7 c = record { same = rw c.in-7.is c.few-in-7.ensures.same; few = c.few-in-7.ensures.few }
+unfolding item_of stmt_of
+returns-in-2 c =
+    let o = is_operation c.args.q.kind (grind arith) (grind arith) in
+    record { same = rw (o.1, o.1) c.few-in-2.ensures.same; few = c.few-in-2.ensures.few }
 
 pub returns-in-8 : goal.returns-in-8
 unfolding item_of stmt_of kind_of
@@ -49,18 +40,6 @@ pub returns-in-9 : goal.returns-in-9
 unfolding item_of stmt_of kind_of
 returns-in-9 c = record { same = rw c.in-9.is c.few-in-9.ensures.same; few = c.few-in-9.ensures.few }
 
-pub returns-in-10 : goal.returns-in-10
-unfolding item_of stmt_of kind_of
-returns-in-10 c = record { same = rw c.in-10.is c.few-in-10.ensures.same; few = c.few-in-10.ensures.few }
-
-pub returns-in-11 : goal.returns-in-11
-unfolding item_of stmt_of kind_of
-returns-in-11 c = record { same = rw c.in-11.is c.few-in-11.ensures.same; few = c.few-in-11.ensures.few }
-
-pub returns-in-14 : goal.returns-in-14
-unfolding item_of stmt_of kind_of
-returns-in-14 c = record { same = rw c.in-14.is c.few-in-14.ensures.same; few = c.few-in-14.ensures.few }
-
 pub returns-in-16 : goal.returns-in-16
 returns-in-16 c =
     let q = entry_of c.args.q in
@@ -69,4 +48,4 @@ returns-in-16 c =
 pub returns-in_default : goal.returns-in_default
 returns-in_default c =
     let q = entry_of c.args.q in
-    record { same = c.few-in_default.ensures.same ∙ sym (names-none _ q (omega arith) (λ k. omega arith) (λ k. omega arith)); few = c.few-in_default.ensures.few }
+    record { same = c.few-in_default.ensures.same ∙ sym (names-none _ q (grind arith) (grind arith) (grind arith)); few = c.few-in_default.ensures.few }

@@ -1,5 +1,5 @@
 -- `program::own_variables::owned_by_none` meets its contract.
-use mathlib.Core.Path.{◌≡◌, refl, sym, ap, ◌∙◌}
+use mathlib.Core.Path.{◌≡◌, sym, ap, ◌∙◌}
 use mathlib.Core.Bool.{not}
 use mathlib.Core.List.{List}
 use Prim.Native.Nat.{◌<◌}
@@ -35,9 +35,6 @@ tested c =
     ap not c.is_within.ensures ∙ ap (λ (s : Statement). not (within s.b s.c c.args.x)) q ∙ ap (spared c.args.x) (sym one)
 
 -- ---- the answers
-pub loop-p-init : goal.loop-p-init
-loop-p-init c = refl
-
 pub returns-then-is_within : goal.returns-then-is_within
 returns-then-is_within c =
     let owned = sym (tested (goal.at.returns-then-is_within c).After-is_within) ∙ ap not c.if-is_within.true in

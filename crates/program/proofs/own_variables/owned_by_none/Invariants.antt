@@ -1,7 +1,7 @@
 -- `program::own_variables::owned_by_none` meets its contract.
 use mathlib.Core.Path.{◌≡◌}
 use mathlib.Core.Bool.{Bool, not}
-use Prim.Native.Nat.{ℕ, ◌-◌}
+use Prim.Native.Nat.{ℕ}
 use lib.ListN.{drop}
 use Rattle.model.specs.Lists.{every}
 use Rattle.model.specs.Procedures.{Procedure, owns}
@@ -17,6 +17,3 @@ abbrev pub invariant-loop-p : goal.invariant-loop-p
 invariant-loop-p l =
     let ps = procedures_in (tables_of l.program) l.table l.main.procedures in
     every (spared l.x) ps ≡ every (spared l.x) (drop l.p ps)
-
-abbrev pub decreases-loop-p : goal.decreases-loop-p
-decreases-loop-p l = l.n - l.p

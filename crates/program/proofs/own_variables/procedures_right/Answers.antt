@@ -1,5 +1,5 @@
 -- `program::own_variables::procedures_right` meets its contract.
-use mathlib.Core.Path.{◌≡◌, refl, sym, ap, ◌∙◌}
+use mathlib.Core.Path.{◌≡◌, sym, ap, ◌∙◌}
 use mathlib.Core.Bool.{◌&&◌}
 use mathlib.Core.List.{List}
 use Prim.Native.Nat.{◌+◌}
@@ -41,29 +41,11 @@ tested c =
     ∙ ap (λ (q : Procedure). procedure_right_lem p q && later) one ∙ ap (◌&& later) (sym c.procedure_right.ensures)
 
 -- ---- the answers
-pub loop-p-init : goal.loop-p-init
-loop-p-init c = refl
-
-pub overflow_mul-begin : goal.overflow_mul-begin
-overflow_mul-begin c = search (rules, stands c)
-
 pub offset_bounds-table-p : goal.offset_bounds-table-p
 offset_bounds-table-p c = search (rules, stands c)
 
 pub bounds-table-p : goal.bounds-table-p
 bounds-table-p c = omega (arith, (stands (goal.at.bounds-table-p c).In-loop-p).room)
-
-pub overflow_mul-end : goal.overflow_mul-end
-overflow_mul-end c = search (rules, stands (goal.at.overflow_mul-end c).In-loop-p)
-
-pub overflow_add-end : goal.overflow_add-end
-overflow_add-end c = search (rules, stands (goal.at.overflow_add-end c).In-loop-p)
-
-pub offset_bounds-table-p-in-loop-p : goal.offset_bounds-table-p-in-loop-p
-offset_bounds-table-p-in-loop-p c = search (rules, stands (goal.at.offset_bounds-table-p-in-loop-p c).In-loop-p)
-
-pub bounds-table-p-in-loop-p : goal.bounds-table-p-in-loop-p
-bounds-table-p-in-loop-p c = (stands (goal.at.bounds-table-p-in-loop-p c).In-loop-p).room
 
 pub procedure_right-requires : goal.procedure_right-requires
 procedure_right-requires c =

@@ -1,6 +1,5 @@
 -- `program::own_variables::procedures_right` meets its contract.
 use mathlib.Core.Path.{◌≡◌}
-use Prim.Native.Nat.{◌-◌}
 use lib.ListN.{drop}
 use Rattle.model.specs.Procedures.{procedures_right_lem}
 use Rattle.program.specs.Parts.{procedures_in}
@@ -9,8 +8,5 @@ use Rattle.program.proofs.own_variables.procedures_right.Given as goal
 
 abbrev pub invariant-loop-p : goal.invariant-loop-p
 invariant-loop-p l =
-    let ps = procedures_in (tables_of l.program) l.table l.n in
+    let ps = procedures_in (tables_of l.program) l.table l.p-end in
     procedures_right_lem 0 ps ≡ procedures_right_lem l.p (drop l.p ps)
-
-abbrev pub decreases-loop-p : goal.decreases-loop-p
-decreases-loop-p l = l.n - l.p

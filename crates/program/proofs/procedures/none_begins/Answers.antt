@@ -1,5 +1,5 @@
 -- `program::procedures::none_begins` meets its contract.
-use mathlib.Core.Path.{◌≡◌, refl, sym, ◌∙◌}
+use mathlib.Core.Path.{◌≡◌, sym, ◌∙◌}
 use mathlib.Core.List.{List}
 use Prim.Native.Nat.{◌<◌}
 use native.Mathlib.Omega.{arith}
@@ -26,9 +26,6 @@ in_list : (c : In-loop-i) → c.loop-i.i < length (items (goal.at.In-loop-i c).A
 in_list c = omega (arith, all (goal.at.In-loop-i c).At-loop-i)
 
 -- ---- the answers
-pub loop-i-init : goal.loop-i-init
-loop-i-init c = refl
-
 pub returns-then-begins_procedure : goal.returns-then-begins_procedure
 returns-then-begins_procedure c =
     let one = not-true _ (sym c.begins_procedure.ensures ∙ c.if-begins_procedure.true) in

@@ -63,13 +63,6 @@ pub procedure_end-requires : goal.procedure_end-requires
 procedure_end-requires c =
     record { placed = c.requires.placed; few = c.requires.few; label = in_list c; kind = begun-kind (tables (goal.at.procedure_end-requires c).At-loop-layout) c.loop-layout.i (begun c) }
 
-pub shape_of-table-in_err-end : goal.shape_of-table-in_err-end
-shape_of-table-in_err-end c = c.loop-layout.invariant.2
-
-pub returns-in_err-end : goal.returns-in_err-end
-returns-in_err-end c =
-    rw c.from_residual.ensures (c.loop-layout.invariant.3 ∙ c.in_err-end.ensures (procedures_in (tables (goal.at.returns-in_err-end c).At-loop-layout) c.loop-layout.table c.loop-layout.count))
-
 pub bounds-table-count : goal.bounds-table-count
 bounds-table-count c = omega (arith, room c)
 
@@ -100,16 +93,10 @@ loop-layout-preserved c =
       each-noted T lp.table lp.count lp.i e (room c) lp.i lp.invariant.4 (omega (arith, ends.later)) here,
     )
 
-pub shape_of-table-then-not-none_begins : goal.shape_of-table-then-not-none_begins
-shape_of-table-then-not-none_begins c = c.loop-layout.invariant.2
-
 pub returns-then-not-none_begins : goal.returns-then-not-none_begins
 returns-then-not-none_begins c =
     let some = sym c.none_begins.ensures ∙ c.if-not-none_begins.true in
     main (goal.at.returns-then-not-none_begins c).After-none_begins ∙ rw some
-
-pub shape_of-table : goal.shape_of-table
-shape_of-table c = c.loop-layout.invariant.2
 
 pub returns : goal.returns
 returns c =

@@ -1,5 +1,5 @@
 -- `program::sections::are_arrays` meets its contract.
-use mathlib.Core.Path.{◌≡◌, refl, sym, ◌∙◌}
+use mathlib.Core.Path.{◌≡◌, sym, ◌∙◌}
 use mathlib.Core.Bool.{true, false}
 use mathlib.Core.List.{List}
 use Prim.Native.Nat.{◌+◌, ◌*◌, ◌<◌}
@@ -33,9 +33,6 @@ entry c =
     entries-get_or array_at array_size a.program.now a.n a.at c.loop-i.i none (omega arith)
 
 -- ---- the answers
-pub loop-i-init : goal.loop-i-init
-loop-i-init c = refl
-
 pub returns-then-not-array_right : goal.returns-then-not-array_right
 returns-then-not-array_right c =
     let wrong : array_right_lem (get_or (arrays (goal.at.returns-then-not-array_right c).At-loop-i) c.loop-i.i none) ≡ false = rw (entry (goal.at.returns-then-not-array_right c).In-loop-i) (sym c.array_right.ensures ∙ c.if-not-array_right.true) in

@@ -1,6 +1,6 @@
 -- `program::sections::read_table` meets its contract. The invariant: what the table has to be from the pair i on is what it has to
 -- be as a whole.
-use mathlib.Core.Path.{◌≡◌, refl, ◌∙◌}
+use mathlib.Core.Path.{◌≡◌, ◌∙◌}
 use mathlib.Core.List.{List}
 use Prim.Native.Nat.{ℕ, ◌*◌, ◌≤◌}
 use native.Mathlib.Omega.{arith}
@@ -16,6 +16,7 @@ use Rattle.program.proofs.sections.Chain.{chain_goes, chain_breaks, chain_ends, 
 use Rattle.std.proofs.lemmas.Result.{err_from_is_err_and}
 use Rattle.refusals.specs.Answers.{number_of}
 use Rattle.program.proofs.sections.read_table.Goals as goal
+use Rattle.program.proofs.sections.read_table.Goals.{then-program-lt-SECTION_TABLE-via-then-program-lt-SECTION_TABLE, then-program-lt-SECTION_TABLE-via-else-program-lt-SECTION_TABLE+then-most-program}
 use Rattle.program.proofs.sections.read_table.Goals.{After-loop-i, At-loop-i, In_ok-pair}
 
 abbrev bytes : At-loop-i → List ℕ
@@ -45,13 +46,13 @@ ended c = c.loop-i.invariant ∙ chain_ends (bytes (goal.at.After-loop-i c).At-l
 
 -- ---- the answers
 pub returns-then-program-lt-SECTION_TABLE : goal.returns-then-program-lt-SECTION_TABLE
-returns-then-program-lt-SECTION_TABLE c = let a = c.args in rw (table-short a.program.now a.most a.entry (omega arith))
-
-pub returns-then-most-program : goal.returns-then-most-program
-returns-then-most-program c = let a = c.args in rw (table-long a.program.now a.most a.entry (omega arith) (omega arith))
-
-pub loop-i-init : goal.loop-i-init
-loop-i-init c = refl
+returns-then-program-lt-SECTION_TABLE c =
+    let a = c.args in
+    elim c.then-program-lt-SECTION_TABLE.branch [
+      | then-program-lt-SECTION_TABLE-via-then-program-lt-SECTION_TABLE w ↦ rw (table-short a.program.now a.most a.entry w.if-program-lt-SECTION_TABLE.true)
+      | then-program-lt-SECTION_TABLE-via-else-program-lt-SECTION_TABLE+then-most-program w ↦
+          rw (table-long a.program.now a.most a.entry w.if-program-lt-SECTION_TABLE.false w.if-most-program.true)
+    ]
 
 pub returns-in_err-pair : goal.returns-in_err-pair
 returns-in_err-pair c =
@@ -64,9 +65,6 @@ returns-in_err-pair c =
       table_broken (bytes (goal.at.returns-in_err-pair c).At-loop-i) (most (goal.at.returns-in_err-pair c).At-loop-i) (entry (goal.at.returns-in_err-pair c).At-loop-i) (long (goal.at.returns-in_err-pair c).At-loop-i) (short (goal.at.returns-in_err-pair c).At-loop-i) (c.loop-i.invariant ∙ breaks),
       w.1,
     )
-
-pub overflow_add-end : goal.overflow_add-end
-overflow_add-end c = omega (arith, c.in_ok-pair.ensures.1)
 
 pub loop-i-preserved : goal.loop-i-preserved
 loop-i-preserved c =
