@@ -10,7 +10,7 @@ use borrow.Author.Tests.{le-leb, lt-leb}
 use Rattle.model.specs.Sizes.{most_program, most_fields}
 use Rattle.model.specs.Refusals.{Out, ok, refused, ◌>>=◌, mapped, lent_too_short, wrong_sections, too_many_entries, wrong_blocks}
 use Rattle.model.specs.Fields.{whole_field}
-use Rattle.model.specs.Program.{Program, Outline, tables_with, sections_in, counts_right_lem, read_outline, read_program, layout_of}
+use Rattle.model.specs.Program.{Outline, tables_with, sections_in, counts_right_lem, read_outline, read_program, layout_of}
 use Rattle.model.specs.OldForm.{most_old, old_field_size, old_count, old_tables, old_fields, read_old, new_form, convert}
 use Rattle.model.specs.Condition.{analysis}
 use Rattle.model.specs.Demands.{OldRefusal}
@@ -23,10 +23,9 @@ use Rattle.model.proofs.Files.Lent.{scratch_as_it_was, scratch-worked}
 use Rattle.model.proofs.Files.OldForms.{old_sections, new-program}
 use Rattle.bytes_le.specs.Overlay.{overlay}
 use Rattle.code_table.specs.Table.{table_words}
-use Rattle.std.specs.Prelude.{Result, Ok, Err}
+use Rattle.std.specs.Prelude.{Result, Err}
 use Rattle.refusals.specs.Answers.{number_of}
 use Rattle.refusals.specs.declared.Refusal.{Refusal}
-use Rattle.inliner.specs.Loading.{LoadedAs}
 use Rattle.widening.specs.Converting.{conversion, ConversionAnswers, Converts, Copied, OldTable}
 use Rattle.widening.proofs.NewFiles.{old_types, count-types}
 
@@ -59,27 +58,11 @@ module _ (old : List ℕ) (count : ℕ) (t : OldTable old count) where
   unfolding convert
   program-refused k e = ap (◌>>= λ P. ok (new_form old)) (sym same ∙ e)
 
-  pub program-read : (P : Program) → read_program (new_form old) ≡ ok P → convert old ≡ ok (new_form old)
-  unfolding convert
-  program-read P e = ap (◌>>= λ P. ok (new_form old)) (sym same ∙ e)
-
   pub listing-refused : (k : ℕ) → refused k ≡ mapped (λ O. layout_of (new_form old)) (read_outline (new_form old)) → convert old ≡ refused k
   unfolding read_program
   listing-refused k h =
       let z = mapped-refused (λ (O : Outline). layout_of (new_form old)) (read_outline (new_form old)) k h in
       program-refused k (rw z)
-
--- ---- the copy of a new file
-
-module _ (new output : List ℕ) where
-  -- it cannot be written out
-  pub copied_not : (e : Refusal) (m m' : List ℕ) → LoadedAs new (Err e) 0 m m' → Copied new (Err e) output output
-  copied_not e m m' r = record { answer = rw r; output = rw r }
-
-  -- it can
-  pub copied : (output' : List ℕ) (n : ℕ) (m m' : List ℕ) → LoadedAs new (Ok n) 0 m m' → output' ≡ overlay output 0 new
-      → Copied new (Ok (length new)) output output'
-  copied output' n m m' loads put = let r = loads.rows.read in record { answer = rw r; output = rw r put }
 
 -- ---- the whole
 

@@ -50,12 +50,6 @@ returns-then-count-gt-MOST_FIELDS c =
     unchanged _ _ a.output.now a.scratch.now
     (enough (goal.at.returns-then-count-gt-MOST_FIELDS c).Else-scratch-lt-SCRATCH ∙ fields-many a.old.now (right (goal.at.returns-then-count-gt-MOST_FIELDS c).Else-not-old_sections_right) (omega (arith, c.if-count-gt-MOST_FIELDS.true, c.u32_at-count.ensures.0)))
 
-pub convert_few-requires : goal.convert_few-requires
-convert_few-requires c = (
-  record { sections = right (goal.at.convert_few-requires c).Else-not-old_sections_right; few = omega (arith, c.if-count-gt-MOST_FIELDS.false); is = c.u32_at-count.ensures.0 },
-  record { bytes = c.if-output-lt-PROGRAM.false; words = c.if-scratch-lt-SCRATCH.false },
-)
-
 pub returns : goal.returns
 returns c =
     let a = c.args in

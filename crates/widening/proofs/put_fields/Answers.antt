@@ -1,11 +1,10 @@
 -- `widening::put_fields` meets its contract. The invariant: the fields before the turn stand in the new form.
-use mathlib.Core.Path.{refl, ap, ◌∙◌}
-use Prim.Native.Nat.{◌+◌, ◌*◌}
+use mathlib.Core.Path.{refl}
+use Prim.Native.Nat.{◌+◌}
 use native.Mathlib.Omega.{arith}
-use lib.ListN.{get_or, length-set}
+use lib.ListN.{get_or}
 use Rattle.model.proofs.Files.OldForms.{OldSections, old_sections}
-use Rattle.bytes_le.specs.Overlay.{overlay}
-use Rattle.widening.proofs.NewFiles.{none_first, field_more, all-fields}
+use Rattle.widening.proofs.NewFiles.{none_first, field_more}
 use Rattle.widening.proofs.put_fields.Goals as goal
 use Rattle.widening.proofs.put_fields.Goals.{Start}
 
@@ -21,17 +20,6 @@ bounds-old-f c =
     let o = sections (goal.at.bounds-old-f c).Start in
     omega (arith, o.ends, c.requires.table.is)
 
-pub bounds-file-at : goal.bounds-file-at
-bounds-file-at c =
-    let p = c.requires in
-    omega (arith, p.room, p.table.few)
-
-pub bounds-file-at-in-loop-f : goal.bounds-file-at-in-loop-f
-bounds-file-at-in-loop-f c =
-    let i = c.loop-f.f in
-    let same = length-set c.loop-f.file (32 + 2 * i) (get_or c.args.old.now (32 + i) 0) in
-    omega (arith, c.requires.room, c.requires.table.few, same)
-
 pub loop-f-preserved : goal.loop-f-preserved
 loop-f-preserved c =
     let a = c.args in
@@ -39,7 +27,3 @@ loop-f-preserved c =
     let ty = get_or a.old.now (32 + i) 0 in
     field_more a.old.now (sections (goal.at.loop-f-preserved c).Start) a.file.now c.loop-f.file i ty c.whole_size.result (omega (arith, c.requires.table.is)) refl
     c.whole_size.ensures c.loop-f.invariant
-
-pub returns : goal.returns
-returns c =
-    c.loop-f.invariant ∙ ap (overlay c.args.file.now 32) (all-fields c.args.old.now (sections (goal.at.returns c).Start) c.loop-f.f (omega (arith, c.requires.table.is)))

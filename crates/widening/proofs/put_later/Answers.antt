@@ -6,19 +6,6 @@ use Rattle.bytes_le.proofs.Overlays.{stored_then}
 use Rattle.widening.proofs.NewFiles.{four}
 use Rattle.widening.proofs.put_later.Goals as goal
 
-pub overflow_add-begin : goal.overflow_add-begin
-overflow_add-begin c = omega (arith, c.requires.small, c.u32_at.ensures.0)
-
-pub put_u32-requires : goal.put_u32-requires
-put_u32-requires c =
-    let p = c.requires in
-    (omega (arith, p.inside, p.room), omega (arith, p.small, c.u32_at.ensures.0))
-
-pub put_u32-requires-2 : goal.put_u32-requires-2
-put_u32-requires-2 c =
-    let p = c.requires in
-    (omega (arith, p.inside, p.room, c.put_u32.auto), omega (arith, c.u32_at-len.ensures.1))
-
 pub returns : goal.returns
 returns c =
     let a = c.args in

@@ -14,14 +14,6 @@ use Rattle.widening.proofs.put_table.Goals.{Start}
 sections : (c : Start) → OldSections c.args.old.now
 sections c = old_sections c.args.old.now c.requires.table.sections
 
--- ---- the answers
-pub put_u32-requires : goal.put_u32-requires
-put_u32-requires c = (omega (arith, c.requires.room), omega arith)
-
-pub put_u32-requires-2 : goal.put_u32-requires-2
-put_u32-requires-2 c =
-    (omega (arith, c.requires.room, c.put_u32.auto), omega (arith, c.requires.table.few))
-
 pub put_later-requires : goal.put_later-requires
 put_later-requires c =
     let o = sections (goal.at.put_later-requires c).Start in

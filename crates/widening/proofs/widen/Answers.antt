@@ -9,10 +9,6 @@ use Rattle.widening.proofs.widen.Goals.{Start}
 sections : (c : Start) → OldSections c.args.old.now
 sections c = old_sections c.args.old.now c.requires.table.sections
 
-pub put_fields-requires : goal.put_fields-requires
-put_fields-requires c =
-    record { table = c.requires.table; room = omega (arith, c.requires.room, c.put_table.auto) }
-
 pub slice_bounds-rest-count : goal.slice_bounds-rest-count
 slice_bounds-rest-count c = let o = sections (goal.at.slice_bounds-rest-count c).Start in omega (arith, o.ends, c.requires.table.is)
 
