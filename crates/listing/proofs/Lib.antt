@@ -1,2 +1,3 @@
 pub mod Texts
 pub mod Sizes
+pub mod Decimals

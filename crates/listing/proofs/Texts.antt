@@ -1,11 +1,12 @@
--- Text put to an output part by part, and the digits of a number one after the other.
+-- Text put to an output part by part, and how many digits a number has.
 use mathlib.Core.Path.{◌≡◌, refl, sym, ap, ◌∙◌, subst}
-use mathlib.Core.Bool.{Bool, true, false, cond}
+use mathlib.Core.Bool.{Bool, true, false, not, cond}
+use mathlib.Core.Logic.{◌⊎◌, ⊎_elim}
 use mathlib.Core.List.{List, [], ◌∷◌, ◌++◌, flat_map}
 use Prim.Native.Nat.{ℕ, zero, suc, ◌+◌, ◌-◌, ◌*◌, ◌/◌, ◌%◌, ◌≤◌, ◌<◌}
 use native.Mathlib.Numerals.{add-one}
 use native.Mathlib.Omega.{arith}
-use borrow.Author.Tests.{lt-ltb, le-ltb}
+use borrow.Author.Tests.{lt-ltb, le-ltb, not-true, not-false}
 use lib.Dec.{ltb}
 use lib.ListN.{length, set, drop, get_or, length-append, length-set}
 use lib.Seq.{drop-cons, length-take-le}
@@ -94,9 +95,6 @@ pub record Remains (whole : List ℕ) (at : ℕ) (before : List ℕ) (left : Lis
   pub room : Room left next out
   pub then : (r : ℕ) (o : List ℕ) → Puts left next out r o → Puts whole at before r o
 
-pub remains_all : {a : List ℕ} {at : ℕ} {l : List ℕ} → Room a at l → Remains a at l a at l
-remains_all h = record { room = h; then = λ r o p. p }
-
 pub remains_next : {w : List ℕ} {at : ℕ} {l left a b : List ℕ} {next : ℕ} {out : List ℕ} {m : ℕ} {k : List ℕ}
     → left ≡ a ++ b → Remains w at l left next out → Puts a next out m k → Remains w at l b m k
 remains_next e q p = record { room = room_then (room_as e q.room) p; then = λ r o s. q.then r o (puts_as (sym e) (puts_then p s)) }
@@ -112,17 +110,6 @@ unfolding digits
 length_digits zero n = refl
 length_digits (suc k) n = length-append (digits k (n / 10)) ((48 + n % 10) ∷ []) ∙ omega (arith, length_digits k (n / 10))
 
--- the last digit behind the others
-pub digits-next : (l : List ℕ) (at k n : ℕ) → 1 ≤ k
-    → set (overlay l at (digits (k - 1) (n / 10))) (at + (k - 1)) (48 + n % 10) ≡ overlay l at (digits k n)
-unfolding digits overlay
-digits-next l at zero n h = absurd (omega arith)
-digits-next l at (suc k) n h =
-    let e : suc k - 1 ≡ k = omega arith in
-    let ds = digits k (n / 10) in
-    let d = (48 + n % 10) ∷ [] in
-    rw e (sym (overlay-append ds l at d ∙ ap (λ m. overlay (overlay l at ds) (at + m) d) (length_digits k (n / 10))))
-
 pub places-one : (k n : ℕ) → n < 10 → places k n ≡ 1
 unfolding places
 places-one zero n h = refl
@@ -137,19 +124,19 @@ pub length-decimal : (n : ℕ) → length (decimal n) ≡ places 19 n
 unfolding decimal
 length-decimal n = length_digits (places 19 n) n
 
-pub puts-decimal : (n k at : ℕ) (l o : List ℕ) → k ≡ places 19 n → o ≡ overlay l at (digits k n) → Puts (decimal n) at l (at + k) o
-unfolding decimal
-puts-decimal n k at l o e d = record { end = omega (arith, length-decimal n); bytes = d ∙ rw e refl }
-
 -- ---- signs
 
-pub number_plus : (b : Bool) (m : ℕ) → b ≡ false → decimal m ≡ number (of_sign b m)
+number_plus : (b : Bool) (m : ℕ) → b ≡ false → decimal m ≡ number (of_sign b m)
 unfolding number
 number_plus b m e = rw e refl
 
-pub number-zero : (b : Bool) (m : ℕ) → b ≡ true → m ≡ 0 → decimal m ≡ number (of_sign b m)
+number-zero : (b : Bool) (m : ℕ) → b ≡ true → m ≡ 0 → decimal m ≡ number (of_sign b m)
 unfolding number
 number-zero b m e z = rw (e, z) refl
+
+-- without a sign, or 0
+pub number-plain : (b : Bool) (m : ℕ) → (not b ≡ true) ⊎ ((not b ≡ false) × (m ≡ 0)) → decimal m ≡ number (of_sign b m)
+number-plain b m = ⊎_elim (λ e. number_plus b m (not-true b e)) (λ e. number-zero b m (not-false b e.0) e.1)
 
 pub number-minus : (b : Bool) (m : ℕ) → b ≡ true → (m ≡ 0 → ⊥) → (45 ∷ decimal m) ≡ number (of_sign b m)
 unfolding number

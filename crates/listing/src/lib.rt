@@ -7,13 +7,15 @@ ghost use Rattle.std.specs.Prelude.{◌≡◌, cond, ◌+◌, ◌≤◌, ◌<◌
 ghost use mathlib.Core.List.{[], ◌∷◌, ◌++◌, flat_map};
 ghost use Rattle.arith.specs.Types.{signed};
 ghost use Rattle.arith.specs.Whole.{value_of};
-ghost use Rattle.model.specs.Decimal.{digits, places, decimal, number};
+ghost use Rattle.model.specs.Decimal.{decimal, number};
 ghost use Rattle.model.specs.Listing.{type_text_lem, node_name, node_text_lem, line_text, lines_from, listing_text, refusal_text};
-ghost use Rattle.bytes_le.specs.Overlay.{overlay};
+ghost use Rattle.refusals.specs.Answers.{number_of};
 ghost use Rattle.condition.specs.Answers.{node_from, part_nodes, ConditionIsRead, conjuncts_of};
 ghost use Rattle.listing.specs.Text.{Room, Puts, Lists, text_most, refusing, listed};
 
-use condition::{ConditionRead, Counts, Node};
+use condition::{Counts, Node};
+use itoa::Buffer;
+use refusals::Refusal;
 
 // The bytes that an output needs for every listing.
 pub const TEXT: usize = 370079;
@@ -29,55 +31,23 @@ fn put(out: &mut [u8], at: usize, text: &[u8]) -> usize
     at + n
 }
 
-// The last k digits of a number.
-fn put_digits(out: &mut [u8], at: usize, n: u64, k: usize)
-    requires { at + k ≤ length out.old }
-    ensures { out.new ≡ overlay out.old at (digits k n) }
-{
-    if k == 0 {
-        return;
-    }
-    put_digits(out, at, n / 10, k - 1);
-    let last = at + (k - 1);
-    out[last] = (48 + n % 10) as u8;
-}
-
-// How many digits a number has, 1 to k + 1.
-fn places_of(n: u64, k: usize) -> usize
-    requires { k < 20 }
-    ensures { (result ≡ places k n) × (result ≤ k + 1) }
-{
-    if k == 0 {
-        return 1;
-    }
-    if n < 10 {
-        return 1;
-    }
-    1 + places_of(n / 10, k - 1)
-}
-
 fn put_decimal(out: &mut [u8], at: usize, n: u64) -> usize
     requires { Room (decimal n) at out.old }
     ensures { Puts (decimal n) at out.old result out.new }
 {
-    let k = places_of(n, 19);
-    put_digits(out, at, n, k);
-    at + k
+    let mut buffer = Buffer::new();
+    put(out, at, buffer.format(n).as_bytes())
 }
 
 fn put_number(out: &mut [u8], at: usize, z: arith::Num) -> usize
     requires { Room (number (value_of z)) at out.old }
     ensures { Puts (number (value_of z)) at out.old result out.new }
 {
-    let mag = z.mag;
-    if !z.neg {
-        return put_decimal(out, at, mag);
-    }
-    if mag == 0 {
-        return put_decimal(out, at, mag);
+    if !z.neg || z.mag == 0 {
+        return put_decimal(out, at, z.mag);
     }
     out[at] = b'-';
-    put_decimal(out, at + 1, mag)
+    put_decimal(out, at + 1, z.mag)
 }
 
 // ---- a node
@@ -85,10 +55,7 @@ fn put_number(out: &mut [u8], at: usize, z: arith::Num) -> usize
 fn letter(ty: u8) -> u8
     ensures { result ≡ cond (signed ty) 105 117 }
 {
-    if ty < 4 {
-        return b'u';
-    }
-    b'i'
+    if ty < 4 { b'u' } else { b'i' }
 }
 
 // A type behind its colon.
@@ -159,10 +126,8 @@ fn put_nodes(out: &mut [u8], at: usize, part: &[u8]) -> usize
 {
     let n = part.len() / 8;
     let mut next = at;
-    let mut k: usize = 0;
-    while k < n {
+    for k in 0..n {
         next = put_node(out, next, condition::node_at(part, k));
-        k += 1;
     }
     next
 }
@@ -188,10 +153,8 @@ fn put_lines(out: &mut [u8], at: usize, condition: &[u8], counts: Counts) -> usi
 {
     let n = counts.conjuncts;
     let mut next = at;
-    let mut i: usize = 0;
-    while i < n {
+    for i in 0..n {
         next = put_line(out, next, i, condition::conjunct(condition, counts, i));
-        i += 1;
     }
     next
 }
@@ -207,10 +170,11 @@ fn put_conjuncts(out: &mut [u8], condition: &[u8], counts: Counts) -> usize
     put_lines(out, end + 1, condition, counts)
 }
 
-fn put_refusal(out: &mut [u8], n: u8) -> usize
+fn put_refusal(out: &mut [u8], refusal: Refusal) -> usize
     requires { text_most ≤ length out.old }
-    ensures { Puts (refusal_text n) 0 out.old result out.new }
+    ensures { Puts (refusal_text (number_of refusal)) 0 out.old result out.new }
 {
+    let n = u8::from(refusal);
     let first = put(out, 0, b"refused ");
     let end = put_decimal(out, first, n as u64);
     out[end] = b'\n';
@@ -219,13 +183,13 @@ fn put_refusal(out: &mut [u8], n: u8) -> usize
 
 // The text of a refusal at the start of the output, and how many bytes it has; none where the output
 // is shorter than TEXT.
-pub fn refusal(n: u8, out: &mut [u8]) -> usize
-    ensures { Lists (refusing (length out.old) n) out.old result out.new }
+pub fn refusal(refusal: Refusal, out: &mut [u8]) -> usize
+    ensures { Lists (refusing (length out.old) (number_of refusal)) out.old result out.new }
 {
     if out.len() < TEXT {
         return 0;
     }
-    put_refusal(out, n)
+    put_refusal(out, refusal)
 }
 
 // The listing of a condition file at the start of the output, and how many bytes it has; none where
@@ -236,9 +200,8 @@ pub fn text(condition: &[u8], out: &mut [u8]) -> usize
     if out.len() < TEXT {
         return 0;
     }
-    let read = condition::read(condition);
-    match read {
-        ConditionRead::Refused(n) => put_refusal(out, n),
-        ConditionRead::Counts(counts) => put_conjuncts(out, condition, counts),
+    match condition::read(condition) {
+        Ok(counts) => put_conjuncts(out, condition, counts),
+        Err(refusal) => put_refusal(out, refusal),
     }
 }

@@ -8,6 +8,6 @@ pub returns-then-ty-lt4 : goal.returns-then-ty-lt4
 unfolding signed
 returns-then-ty-lt4 c = rw (lt-leb 4 c.args.ty (omega arith))
 
-pub returns : goal.returns
+pub returns-else-ty-lt4 : goal.returns-else-ty-lt4
 unfolding signed
-returns c = rw (le-leb 4 c.args.ty (omega arith))
+returns-else-ty-lt4 c = rw (le-leb 4 c.args.ty (omega arith))

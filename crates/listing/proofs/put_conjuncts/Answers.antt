@@ -7,7 +7,7 @@ use Rattle.model.specs.Decimal.{decimal}
 use Rattle.model.specs.Listing.{lines_from, listing_text}
 use Rattle.condition.specs.Answers.{conjuncts_of}
 use Rattle.listing.specs.Text.{Room}
-use Rattle.listing.proofs.Texts.{room_as, room-part, room_then, room-first, puts_as, puts_first, puts_then, puts-length, name_text, listing_by}
+use Rattle.listing.proofs.Texts.{room_as, room-part, room_then, room-first, puts_as, puts_first, puts_then, name_text, listing_by}
 use Rattle.listing.proofs.Sizes.{conjuncts-are, room-listing}
 use Rattle.listing.proofs.put_conjuncts.Goals as goal
 use Rattle.listing.proofs.put_conjuncts.Goals.{After-put_decimal-end, Start}
@@ -31,9 +31,6 @@ returns c =
     puts_as (text (goal.at.returns c).Start)
     (puts_then c.put-first.ensures (puts_then c.put_decimal-end.ensures (puts_first c.put_lines.ensures)))
 
-pub put-first-requires : goal.put-first-requires
-put-first-requires c = room-part _ (room (goal.at.put-first-requires c).Start)
-
 pub put_decimal-end-requires : goal.put_decimal-end-requires
 put_decimal-end-requires c = room-part _ (room_then (room (goal.at.put_decimal-end-requires c).Start) c.put-first.ensures)
 
@@ -45,6 +42,3 @@ overflow_add-end c = omega (arith, (after-number (goal.at.overflow_add-end c).Af
 
 pub put_lines-requires : goal.put_lines-requires
 put_lines-requires c = (c.requires.0, room-first (after-number (goal.at.put_lines-requires c).After-put_decimal-end))
-
-pub shape_of-out : goal.shape_of-out
-shape_of-out c = puts-length (returns c)

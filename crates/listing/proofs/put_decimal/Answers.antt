@@ -1,12 +1,17 @@
 -- `listing::put_decimal` meets its contract.
+use mathlib.Core.Path.{◌≡◌, sym, ◌∙◌}
 use native.Mathlib.Omega.{arith}
-use Rattle.listing.proofs.Texts.{length-decimal, puts-decimal}
+use Rattle.model.specs.Decimal.{decimal}
+use Rattle.listing.proofs.Decimals.{written-decimal}
+use Rattle.listing.proofs.Texts.{room_as, puts_as}
 use Rattle.listing.proofs.put_decimal.Goals as goal
+use Rattle.listing.proofs.put_decimal.Goals.{After-as_bytes}
 
-pub put_digits-requires : goal.put_digits-requires
-put_digits-requires c = omega (arith, length-decimal c.args.n)
+digits_of : (c : After-as_bytes) → c.as_bytes.result.now ≡ decimal c.args.n
+digits_of c = c.as_bytes.ensures.value ∙ c.format.ensures.text ∙ written-decimal c.args.n (omega arith)
+
+pub put-requires : goal.put-requires
+put-requires c = room_as (sym (digits_of (goal.at.put-requires c).After-as_bytes)) c.requires
 
 pub returns : goal.returns
-returns c =
-    let a = c.args in
-    puts-decimal a.n _ a.at _ _ c.places_of-k.ensures.0 c.put_digits.ensures
+returns c = puts_as (digits_of (goal.at.returns c).After-as_bytes) c.put.ensures

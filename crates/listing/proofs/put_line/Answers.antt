@@ -1,7 +1,7 @@
 -- `listing::put_line` meets its contract.
 use native.Mathlib.Omega.{arith}
 use Rattle.model.specs.Listing.{line_text}
-use Rattle.listing.proofs.Texts.{room-part, room_then, room-first, puts_first, puts_then, puts_byte, puts-length}
+use Rattle.listing.proofs.Texts.{room-part, room_then, room-first, puts_first, puts_then, puts_byte}
 use Rattle.listing.proofs.put_line.Goals as goal
 
 pub put_decimal-colon-requires : goal.put_decimal-colon-requires
@@ -32,6 +32,3 @@ bounds-out-end c =
 
 pub overflow_add-result : goal.overflow_add-result
 overflow_add-result c = omega (arith, (returns c).end)
-
-pub shape_of-out : goal.shape_of-out
-shape_of-out c = puts-length (returns c)

@@ -5,7 +5,7 @@ use native.Mathlib.Omega.{arith}
 use Prim.Native.Nat.{ℕ, ◌+◌}
 use Rattle.model.specs.Listing.{line_text}
 use Rattle.condition.specs.Answers.{part_nodes, conjuncts_of}
-use Rattle.listing.proofs.Texts.{remains_all, remains_next, remains_none, room_as, room-part, puts-length, lines, lines_step, lines_end}
+use Rattle.listing.proofs.Texts.{remains_next, remains_none, room_as, room-part, lines, lines_step, lines_end}
 use Rattle.listing.proofs.Sizes.{conjuncts-are}
 use Rattle.listing.proofs.put_lines.Goals as goal
 use Rattle.listing.proofs.put_lines.Goals.{After-conjunct}
@@ -19,22 +19,13 @@ step c =
     let n = conjuncts-are (file c) c.args.counts c.requires.0 in
     lines_step (conjuncts_of (file c)) c.loop-i.i (part_nodes c.conjunct.result.now) (omega arith) c.conjunct.ensures.nodes
 
-pub loop-i-init : goal.loop-i-init
-loop-i-init c = (omega arith, remains_all c.requires.1)
-
 pub returns : goal.returns
 returns c =
     let n = conjuncts-are c.args.condition.now c.args.counts c.requires.0 in
-    remains_none (lines_end (conjuncts_of c.args.condition.now) c.loop-i.i (omega arith)) c.loop-i.invariant.1
-
-pub conjunct-requires : goal.conjunct-requires
-conjunct-requires c = (c.requires.0, omega arith)
+    remains_none (lines_end (conjuncts_of c.args.condition.now) c.loop-i.i (omega arith)) c.loop-i.invariant
 
 pub loop-i-preserved : goal.loop-i-preserved
-loop-i-preserved c = (omega arith, remains_next (step (goal.at.loop-i-preserved c).After-conjunct) c.loop-i.invariant.1 c.put_line-next.ensures)
+loop-i-preserved c = remains_next (step (goal.at.loop-i-preserved c).After-conjunct) c.loop-i.invariant c.put_line-next.ensures
 
 pub put_line-next-requires : goal.put_line-next-requires
-put_line-next-requires c = room-part _ (room_as (step c) c.loop-i.invariant.1.room)
-
-pub shape_of-out : goal.shape_of-out
-shape_of-out c = puts-length (returns c)
+put_line-next-requires c = room-part _ (room_as (step c) c.loop-i.invariant.room)

@@ -5,7 +5,7 @@ use native.Mathlib.Omega.{arith}
 use Rattle.model.specs.Decimal.{number}
 use Rattle.model.specs.Listing.{operation_text, atom_text, node_name}
 use Rattle.condition.specs.Answers.{node_by, node_from}
-use Rattle.listing.proofs.Texts.{room_as, puts_as, puts-length, name_by, name_last}
+use Rattle.listing.proofs.Texts.{room_as, puts_as, name_by, name_last}
 use Rattle.listing.proofs.put_name.Goals as goal
 use Rattle.listing.proofs.put_name.Goals.{In_default}
 
@@ -68,24 +68,3 @@ put-requires-in-5 c = room_as (sym (name_by c.args.v 5 c.in-5.is)) c.requires
 
 pub put-requires-in_default : goal.put-requires-in_default
 put-requires-in_default c = room_as (sym (last (goal.at.put-requires-in_default c).In_default)) c.requires
-
-pub shape_of-out-in-0 : goal.shape_of-out-in-0
-shape_of-out-in-0 c = puts-length (returns-in-0 c)
-
-pub shape_of-out-in-1 : goal.shape_of-out-in-1
-shape_of-out-in-1 c = puts-length (returns-in-1 c)
-
-pub shape_of-out-in-2 : goal.shape_of-out-in-2
-shape_of-out-in-2 c = puts-length (returns-in-2 c)
-
-pub shape_of-out-in-3 : goal.shape_of-out-in-3
-shape_of-out-in-3 c = puts-length (returns-in-3 c)
-
-pub shape_of-out-in-4 : goal.shape_of-out-in-4
-shape_of-out-in-4 c = puts-length (returns-in-4 c)
-
-pub shape_of-out-in-5 : goal.shape_of-out-in-5
-shape_of-out-in-5 c = puts-length (returns-in-5 c)
-
-pub shape_of-out-in_default : goal.shape_of-out-in_default
-shape_of-out-in_default c = puts-length (returns-in_default c)

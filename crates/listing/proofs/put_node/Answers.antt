@@ -1,6 +1,6 @@
 -- `listing::put_node` meets its contract.
 use mathlib.Core.Path.{sym}
-use Rattle.listing.proofs.Texts.{room_as, room-part, room_then, room-first, puts_as, puts_first, puts_then, puts-length, node_text}
+use Rattle.listing.proofs.Texts.{room_as, room-part, room_then, room-first, puts_as, puts_first, puts_then, node_text}
 use Rattle.model.specs.Listing.{node_text_lem}
 use borrow.Author.Rules.{rules}
 use Rattle.listing.proofs.put_node.Goals as goal
@@ -18,6 +18,3 @@ put_name-next-requires c = room-part _ (room-first (room_as (sym (node_text c.ar
 pub put_type-requires : goal.put_type-requires
 put_type-requires c =
     room_then (room-first (room_as (sym (node_text c.args.v)) c.requires)) c.put_name-next.ensures
-
-pub shape_of-out : goal.shape_of-out
-shape_of-out c = puts-length (returns c)

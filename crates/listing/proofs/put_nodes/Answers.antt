@@ -1,5 +1,5 @@
 -- `listing::put_nodes` meets its contract. What is left to put is the text of the nodes from k on.
-use mathlib.Core.Path.{◌≡◌, sym, ap}
+use mathlib.Core.Path.{◌≡◌, ap}
 use mathlib.Core.List.{List, ◌++◌, flat_map}
 use native.Mathlib.Omega.{arith}
 use Prim.Native.Nat.{ℕ, ◌+◌, ◌/◌}
@@ -7,7 +7,7 @@ use lib.ListN.{length}
 use Rattle.model.specs.Listing.{node_text_lem}
 use Rattle.condition.specs.Answers.{node_from}
 use Rattle.condition.proofs.Nodes.{rest, rest_all}
-use Rattle.listing.proofs.Texts.{remains_all, remains_next, remains_none, room_as, room-part, puts_as, puts-length, nodes-step, nodes-end}
+use Rattle.listing.proofs.Texts.{remains_next, remains_none, room_as, room-part, puts_as, nodes-step, nodes-end}
 use Rattle.listing.proofs.put_nodes.Goals as goal
 use Rattle.listing.proofs.put_nodes.Goals.{After-node_at}
 
@@ -19,20 +19,14 @@ step : (c : After-node_at)
     → left c c.loop-k.k ≡ node_text_lem (node_from c.node_at.result) ++ left c (c.loop-k.k + 1)
 step c = nodes-step _ _ _ _ (omega arith) c.node_at.ensures
 
-pub loop-k-init : goal.loop-k-init
-loop-k-init c = (omega arith, remains_all (room_as (ap (flat_map node_text_lem) (sym (rest_all c.args.part.now _))) c.requires))
-
 pub returns : goal.returns
 returns c =
     let s = c.args.part.now in
     puts_as (ap (flat_map node_text_lem) (rest_all s (length s / 8)))
-    (remains_none (nodes-end s (length s / 8) c.loop-k.k (omega arith)) c.loop-k.invariant.1)
+    (remains_none (nodes-end s (length s / 8) c.loop-k.k (omega arith)) c.loop-k.invariant)
 
 pub put_node-next-requires : goal.put_node-next-requires
-put_node-next-requires c = room-part _ (room_as (step c) c.loop-k.invariant.1.room)
+put_node-next-requires c = room-part _ (room_as (step c) c.loop-k.invariant.room)
 
 pub loop-k-preserved : goal.loop-k-preserved
-loop-k-preserved c = (omega arith, remains_next (step (goal.at.loop-k-preserved c).After-node_at) c.loop-k.invariant.1 c.put_node-next.ensures)
-
-pub shape_of-out : goal.shape_of-out
-shape_of-out c = puts-length (returns c)
+loop-k-preserved c = remains_next (step (goal.at.loop-k-preserved c).After-node_at) c.loop-k.invariant c.put_node-next.ensures

@@ -5,7 +5,7 @@ use lib.ListN.{length-set}
 use mathlib.Core.List.{◌∷◌}
 use Rattle.model.specs.Decimal.{decimal}
 use Rattle.model.specs.Listing.{type_text_lem}
-use Rattle.listing.proofs.Texts.{room_as, room-first, puts_first, puts_as, puts-length, type_text}
+use Rattle.listing.proofs.Texts.{room_as, room-first, puts_first, puts_as, type_text}
 use borrow.Author.Rules.{rules}
 use Rattle.listing.proofs.put_type.Goals as goal
 use Rattle.listing.proofs.put_type.Goals.{After-range_of-range}
@@ -24,12 +24,5 @@ pub bounds-out-next : goal.bounds-out-next
 unfolding type_text_lem
 bounds-out-next c = simp length-set (omega arith)
 
-pub overflow_add-next-2 : goal.overflow_add-next-2
-unfolding type_text_lem
-overflow_add-next-2 c = omega arith
-
 pub put_decimal-requires : goal.put_decimal-requires
 put_decimal-requires c = room-first (room-first (room_as (sym (by_parts (goal.at.put_decimal-requires c).After-range_of-range)) c.requires))
-
-pub shape_of-out : goal.shape_of-out
-shape_of-out c = puts-length (returns c)
