@@ -7,12 +7,11 @@ use native.Mathlib.Nat.{pow-suc}
 use native.Mathlib.Numerals.{add-one}
 use native.Mathlib.Omega.{arith}
 use lib.ListN.{length, get_or, take, drop, length-drop, length-map, get_or-append}
-use lib.Seq.{get_or-append-add, get_or-take, length-take-le, take-length, drop-cons, drop-length}
+use lib.Seq.{get_or-append-add, length-take-le, drop-cons, drop-length}
 use Rattle.model.specs.Conjunct.{field, Atom, const, atom, Conj}
 use Rattle.model.specs.Walk.{swap, subsets}
 use Rattle.conjunct.specs.Word.{node_of, nodes_of_lem}
 use Rattle.rules.proofs.Distinct.{subsets-length}
-use Rattle.rules.proofs.Limiting.{take-few}
 
 -- what stands past the end of a list of atoms
 abbrev pub no_atom_lem : Atom
@@ -27,22 +26,11 @@ atoms-count l m ks h e = sym (length-map ks atom) ∙ ap length (sym e) ∙ leng
 pub atoms-length : (l : List ℕ) (ks : List Atom) → nodes_of_lem l ≡ map atom ks → length ks ≡ length l
 atoms-length l ks e = sym (length-map ks atom) ∙ ap length (sym e) ∙ length-map l node_of
 
--- all words are the first of them, as many as there are
-pub all-atoms : (l : List ℕ) (ks : List Atom) → nodes_of_lem l ≡ map atom ks → nodes_of_lem (take (length l) l) ≡ map atom ks
-all-atoms l ks e = ap nodes_of_lem (take-length l) ∙ e
-
-word-atom : (ws : List ℕ) (ks : List Atom) (i : ℕ) → nodes_of_lem ws ≡ map atom ks → i < length ks → node_of (get_or ws i 0) ≡ atom (get_or ks i no_atom_lem)
+pub word-atom : (ws : List ℕ) (ks : List Atom) (i : ℕ) → nodes_of_lem ws ≡ map atom ks → i < length ks → node_of (get_or ws i 0) ≡ atom (get_or ks i no_atom_lem)
 word-atom ws [] i e h = absurd (omega arith)
 word-atom [] (k ∷ ks) i e h = absurd (omega (arith, ap length e))
 word-atom (w ∷ ws) (k ∷ ks) zero e h = ap (λ l. get_or l 0 (const 0 0)) e
 word-atom (w ∷ ws) (k ∷ ks) (suc i) e h = word-atom ws ks i (ap (drop 1) e) (omega arith)
-
--- the i-th of the first m words
-pub word_of : (l : List ℕ) (m : ℕ) (ks : List Atom) (i : ℕ) → nodes_of_lem (take m l) ≡ map atom ks → i < length ks
-    → node_of (get_or l i 0) ≡ atom (get_or ks i no_atom_lem)
-word_of l m ks i e h =
-    let n : length (take m l) ≡ length ks = sym (length-map (take m l) node_of) ∙ ap length e ∙ length-map ks atom in
-    ap node_of (sym (get_or-take m l i 0 (omega (arith, take-few m l)))) ∙ word-atom (take m l) ks i e h
 
 -- ---- halves
 

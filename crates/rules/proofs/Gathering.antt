@@ -23,8 +23,9 @@ use Rattle.sets.specs.Region.{set_of, Within, region_words}
 use Rattle.rules.proofs.ByKind.{stores}
 use Rattle.rules.proofs.Limiting.{store-short, set-short, set-limits}
 use Rattle.rules.specs.Adding.{NoneLong, Added}
-use Rattle.rules.specs.declared.Answer.{Answer}
-use Rattle.rules.specs.declared.Answer.TheVariants.{Done, Refused}
+use Rattle.refusals.specs.Answers.{number_of}
+use Rattle.refusals.specs.declared.Refusal.{Refusal}
+use Rattle.std.specs.Prelude.{Ok, Err}
 
 sub-take : (k : ℕ) (S : Conjuncts) → Sub (take k S) S
 sub-take zero S x m = absurd m
@@ -62,13 +63,13 @@ module _ (f : Conj → List Conj) where
       step : union_of (map renumber (f e)) (set_of s room) ≡ gather f (take (k + 1) (set_of s₀ b))
       step = ap₂ (λ d T. union_of (map renumber (f d)) T) own so ∙ gather-next (set_of s₀ b) k few
 
-      pub gathered_more : (a : Answer) → a ≡ Done → Added a P (map renumber (f e)) room s t → set_of t room ≡ gather f (take (k + 1) (set_of s₀ b))
-      gathered_more a q h = subst (λ r. Added r P (map renumber (f e)) room s t) q h ∙ step
+      pub gathered_more : Added (Ok tt) P (map renumber (f e)) room s t → set_of t room ≡ gather f (take (k + 1) (set_of s₀ b))
+      gathered_more h = h ∙ step
 
-      pub gathered_refused : (a : Answer) (n : ℕ) → a ≡ Refused n → Added a P (map renumber (f e)) room s t → P (gather f (set_of s₀ b))
-          → limits (gather f (set_of s₀ b)) ≡ refused n
-      gathered_refused a n q h p =
-          subst (λ r. Added r P (map renumber (f e)) room s t) q h (gather f (set_of s₀ b)) (gather-canon f (set_of s₀ b))
+      pub gathered_refused : (r : Refusal) → Added (Err r) P (map renumber (f e)) room s t → P (gather f (set_of s₀ b))
+          → limits (gather f (set_of s₀ b)) ≡ refused (number_of r)
+      gathered_refused r h p =
+          h (gather f (set_of s₀ b)) (gather-canon f (set_of s₀ b))
           (λ x m. gather_mono f (take (k + 1) (set_of s₀ b)) (set_of s₀ b) (sub-take (k + 1) (set_of s₀ b)) x (subst (λ S. Mem x S) step m)) p
 
 -- ---- the rule

@@ -1,5 +1,5 @@
 -- What the functions for one conjunct are given and promise: the right side of an assignment, and what is added to the set of a region.
-use Rattle.std.specs.Prelude.{false, List, [], ◌≢◌, ◌≡◌, ℕ, ◌+◌, ◌≤◌, ◌<◌, ◌^◌, length}
+use Rattle.std.specs.Prelude.{false, List, [], ◌≢◌, ◌≡◌, ℕ, ◌+◌, ◌≤◌, ◌<◌, ◌^◌, length, Ok, Err}
 use Rattle.model.specs.Code.{Right, number, copy, calc, change, read, load}
 use Rattle.model.specs.Conjunct.{Conjuncts, union_of, long, limits}
 use Rattle.model.specs.Lists.{All}
@@ -11,8 +11,8 @@ use Rattle.code_table.specs.declared.Decoded.{Decoded}
 use Rattle.code_table.specs.Statements.{number_of, OfKind, Known}
 use Rattle.conjunct.specs.Value.{conj_of, ConjunctIn}
 use Rattle.sets.specs.Region.{set_of, Room, region_words}
-use Rattle.rules.specs.declared.Answer.{Answer}
-use Rattle.rules.specs.declared.Answer.TheVariants.{Done, Refused}
+use Rattle.refusals.specs.Answers.{number_of as refusal_number}
+use Rattle.rules.specs.Answers.{Answer}
 
 -- the right side of an assignment of a kind; a load for every kind that is none
 abbrev pub side_for : Kind → Decoded → Right
@@ -41,10 +41,10 @@ abbrev pub NoneLong : Conjuncts → Type 0
 NoneLong G = long G ≡ false
 
 -- the conjuncts R added to the set of the region at b; or, of every canonical set that has all of both and for which P holds, the
--- limits' refusal n
+-- limits' refusal r
 abbrev pub Added : Answer → (Conjuncts → Type 0) → Conjuncts → ℕ → List ℕ → List ℕ → Type 0
-Added Done P R b s t = set_of t b ≡ union_of R (set_of s b)
-Added (Refused n) P R b s t = (G : Conjuncts) → Canon G → Sub (union_of R (set_of s b)) G → P G → limits G ≡ refused n
+Added (Ok u) P R b s t = set_of t b ≡ union_of R (set_of s b)
+Added (Err r) P R b s t = (G : Conjuncts) → Canon G → Sub (union_of R (set_of s b)) G → P G → limits G ≡ refused (refusal_number r)
 
 -- two lists of words to work in, each of 120 or more
 abbrev pub Buffers : List ℕ → List ℕ → Type 0
@@ -60,12 +60,11 @@ pub record Renumbered (e : List ℕ) (n : ℕ) (seen : List ℕ) : Type 0 where
   pub conjunct : ConjunctIn e n
   pub space : most_nodes ≤ length seen
 
--- a choice among the subsets of k atoms, for a conjunct in the first n words: the j-th
-pub record Choosing (w : List ℕ) (n : ℕ) (ks : List ℕ) (k j : ℕ) : Type 0 where
+-- a choice among the subsets of some atoms, for a conjunct in the first n words: the j-th
+pub record Choosing (w : List ℕ) (n : ℕ) (ks : List ℕ) (j : ℕ) : Type 0 where
   pub conjunct : n ≤ length w
-  pub few : k ≤ 6
-  pub atoms : k ≤ length ks
-  pub subset : j < 2 ^ k
+  pub few : length ks ≤ 6
+  pub subset : j < 2 ^ length ks
 
 -- what is given with one conjunct: a region to add to, the conjunct in the first n words of e, and words to work in
 pub record Given (s : List ℕ) (b : ℕ) (e : List ℕ) (n : ℕ) (out seen : List ℕ) : Type 0 where

@@ -1,14 +1,17 @@
 -- What the answer of a rule or a walk on a region of sets stands for, and what it leaves.
-use Rattle.std.specs.Prelude.{List, ◌≡◌, ℕ, ◌<◌, get_or}
+use Rattle.std.specs.Prelude.{List, ◌≡◌, ℕ, ◌<◌, get_or, Result}
 use Rattle.model.specs.Conjunct.{Conjuncts}
-use Rattle.model.specs.Refusals.{Out, ok, refused}
-use Rattle.rules.specs.declared.Answer.{Answer}
-use Rattle.rules.specs.declared.Answer.TheVariants.{Done, Refused}
+use Rattle.model.specs.Refusals.{Out}
+use Rattle.refusals.specs.Answers.{out_of}
+use Rattle.refusals.specs.declared.Refusal.{Refusal}
+
+-- done, or a refusal
+abbrev pub Answer : Type 0
+Answer = Result (Unit {0}) Refusal
 
 -- the set that the region holds afterwards, or the number of the refusal
 abbrev pub answered : Answer → Conjuncts → Out Conjuncts
-answered Done S = ok S
-answered (Refused n) S = refused n
+answered r S = out_of (λ u. S) r
 
 -- nothing before the region at b differs
 abbrev pub Below : ℕ → List ℕ → List ℕ → Type 0

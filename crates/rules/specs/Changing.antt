@@ -1,9 +1,9 @@
 -- Statements before which a conjunct comes to one: what a conjunct's slot becomes, and what the slots of a region become.
-use Rattle.std.specs.Prelude.{List, [], map, ◌⊎◌, ◌≡◌, ℕ, ◌+◌, ◌*◌, ◌≤◌, ◌<◌, ◌^◌, length, get_or}
+use Rattle.std.specs.Prelude.{List, [], map, ◌⊎◌, ◌≡◌, ℕ, ◌+◌, ◌*◌, ◌≤◌, ◌<◌, ◌^◌, length, get_or, Ok, Err}
 use Rattle.model.specs.Conjunct.{AtAtom, Conj, renumber}
 use Rattle.model.specs.Kinds.{a_store, a_site}
 use Rattle.model.specs.Lists.{All}
-use Rattle.model.specs.Refusals.{refused, too_many_nodes}
+use Rattle.model.specs.Refusals.{refused}
 use Rattle.model.specs.Sizes.{most_nodes}
 use Rattle.model.specs.TidySets.{Numbered}
 use Rattle.model.specs.Walk.{before, back}
@@ -14,8 +14,9 @@ use Rattle.conjunct.specs.Word.{nodes_of_lem}
 use Rattle.conjunct.specs.declared.numbering.Right.{Right}
 use Rattle.sets.specs.Region.{slot_at, set_of, Outside, Within, slot_words, region_words}
 use Rattle.rules.specs.Adding.{Buffers, Labelled}
-use Rattle.rules.specs.declared.Answer.{Answer}
-use Rattle.rules.specs.declared.Answer.TheVariants.{Done, Refused}
+use Rattle.refusals.specs.Answers.{number_of}
+use Rattle.rules.specs.Answers.{Answer}
+use Rattle.refusals.specs.declared.Refusal.TheVariants.{TooManyNodes}
 
 -- what a conjunct comes to before the statement, where that is one
 unfoldable pub image_of : ℕ → Decoded → Conj → Conj
@@ -69,8 +70,8 @@ Renewed e a s t = (nodes_of_lem (slot_at t a) ≡ e) × Outside a slot_words s t
 
 -- the same; or a refusal, for e has over 120 nodes
 abbrev pub ChangedTo : Answer → Conj → ℕ → (s t : List ℕ) → Type 0
-ChangedTo Done e a s t = Renewed e a s t
-ChangedTo (Refused n) e a s t = (n ≡ too_many_nodes) × (most_nodes < length e) × Outside a slot_words s t
+ChangedTo (Ok u) e a s t = Renewed e a s t
+ChangedTo (Err r) e a s t = (r ≡ TooManyNodes) × (most_nodes < length e) × Outside a slot_words s t
 
 -- ---- all slots of a region
 
@@ -83,8 +84,8 @@ pub record GivenSlots (s : List ℕ) (b label : ℕ) (d : Decoded) : Type 0 wher
 
 -- each conjunct of the region at b is what it comes to; or the rule's refusal
 abbrev pub AllChanged : Answer → ℕ → Decoded → ℕ → (s t : List ℕ) → Type 0
-AllChanged Done l d b s t = (set_of t b ≡ map (image_of l d) (set_of s b)) × Within b s t
-AllChanged (Refused n) l d b s t = (back l (instr_of d) (set_of s b) ≡ refused n) × Within b s t
+AllChanged (Ok u) l d b s t = (set_of t b ≡ map (image_of l d) (set_of s b)) × Within b s t
+AllChanged (Err r) l d b s t = (back l (instr_of d) (set_of s b) ≡ refused (number_of r)) × Within b s t
 
 -- ---- the rule
 

@@ -10,55 +10,30 @@ ghost use Rattle.model.specs.Kinds.{a_load, a_site};
 ghost use Rattle.model.specs.Walk.{nodes, replace, loads, subsets, before, back};
 ghost use Rattle.code_table.specs.Statements.{number_of, instr_of};
 ghost use Rattle.conjunct.specs.Word.{node_of, nodes_of_lem};
-ghost use Rattle.conjunct.specs.Value.{conj_of};
+ghost use Rattle.conjunct.specs.Value.{conj_of, ConjunctIn};
 ghost use Rattle.conjunct.specs.Behind.{right_of_lem};
-ghost use Rattle.sets.specs.Region.{slot_at, set_of, Within, Room, Inserted};
+ghost use Rattle.sets.specs.Region.{slot_at, set_of, Within, Room};
 ghost use Rattle.rules.specs.Adding.{side_of, NoneLong, Added, Buffers, Given, GivenStore, GivenSet, Labelled, SeveralCells, Renumbered, Choosing, Working};
 ghost use Rattle.rules.specs.Changing.{image_of, ToOne, OneCell, NumberedSlot, OneForOne, SeveralForOne, GivenSlot, GivenSlots, Ruled, OneEach, Renewed, ChangedTo, AllChanged};
 ghost use Rattle.rules.specs.Answers.{answered, Below};
 
 use code_table::Decoded;
 use conjunct::MOST_NODES;
-use conjunct::numbering::{Right, Substituted};
-
-// the refusals of a rule
-const TOO_MANY_NODES: u8 = 9;
-
-const TOO_MANY_CONJUNCTS: u8 = 10;
-
-// The set is in its region, or a refusal: 9, 10 or 11.
-#[derive(Clone, Copy)]
-pub enum Answer {
-    Done,
-    Refused(u8),
-}
+use conjunct::numbering::Right;
+use refusals::Refusal;
 
 // ---- assignments: kinds 0 to 8
 
-fn one_node(v: u64) -> Right
-    ensures { (result.len ≤ 3) × (right_of_lem result ≡ node_of v ∷ []) }
+// at most three nodes
+fn right(nodes: &[u64]) -> Right
+    requires { length nodes.now ≤ 3 }
+    ensures { (result.len ≤ 3) × (right_of_lem result ≡ nodes_of_lem nodes.now) }
 {
+    let mut all: [u64; 3] = [0; 3];
+    all[..nodes.len()].copy_from_slice(nodes);
     Right {
-        len: 1,
-        nodes: [v, 0, 0],
-    }
-}
-
-fn two_nodes(u: u64, v: u64) -> Right
-    ensures { (result.len ≤ 3) × (right_of_lem result ≡ node_of u ∷ node_of v ∷ []) }
-{
-    Right {
-        len: 2,
-        nodes: [u, v, 0],
-    }
-}
-
-fn three_nodes(u: u64, v: u64, w: u64) -> Right
-    ensures { (result.len ≤ 3) × (right_of_lem result ≡ node_of u ∷ node_of v ∷ node_of w ∷ []) }
-{
-    Right {
-        len: 3,
-        nodes: [u, v, w],
+        len: nodes.len(),
+        nodes: all,
     }
 }
 
@@ -67,33 +42,23 @@ fn right_side(label: u64, d: Decoded) -> Right
     requires { Labelled label d a_load }
     ensures { (result.len ≤ 3) × (right_of_lem result ≡ nodes label d.ty (side_of d)) }
 {
-    let kind = d.kind;
     let ty = d.ty as u64;
     let b = d.b as u64;
-    if kind == 0 {
-        return one_node(conjunct::node::constant(ty, d.imm));
-    }
-    if kind == 1 {
-        return one_node(conjunct::node::variable(b, ty));
-    }
-    if kind <= 5 {
-        let c = d.c as u64;
-        return three_nodes(
+    match d.kind {
+        0 => right(&[conjunct::node::constant(ty, d.imm)]),
+        1 => right(&[conjunct::node::variable(b, ty)]),
+        2..=5 => right(&[
             conjunct::node::variable(b, ty),
-            conjunct::node::variable(c, ty),
-            conjunct::node::operation(kind as u64, ty),
-        );
-    }
-    if kind == 6 {
-        return two_nodes(
+            conjunct::node::variable(d.c as u64, ty),
+            conjunct::node::operation(d.kind as u64, ty),
+        ]),
+        6 => right(&[
             conjunct::node::variable(b, d.from as u64),
             conjunct::node::conversion(ty),
-        );
+        ]),
+        7 => right(&[conjunct::node::reading(b, ty)]),
+        _ => right(&[conjunct::node::load(label, b, d.len, ty)]),
     }
-    if kind == 7 {
-        return one_node(conjunct::node::reading(b, ty));
-    }
-    one_node(conjunct::node::load(label, b, d.len, ty))
 }
 
 // ---- a conjunct in its slot: statements before which a conjunct comes to one
@@ -115,19 +80,16 @@ fn substitute_slot(
     right: Right,
     out: &mut [u64],
     seen: &mut [u64],
-) -> Answer
+) -> Result<(), Refusal>
     requires { SeveralForOne s.old a right out.old seen.old }
     ensures { ChangedTo result (renumber (flat_map (replace x (right_of_lem right)) (nodes_of_lem (slot_at s.old a)))) a s.old s.new }
 {
     let n = conjunct::capped(s[a] as usize);
-    let t = conjunct::numbering::substitute(&s[a + 1..], n, x, right, out, seen);
-    match t {
-        Substituted::Over => Answer::Refused(TOO_MANY_NODES),
-        Substituted::Nodes(m) => {
-            sets::slots::write_slot(s, a, out, m);
-            Answer::Done
-        }
-    }
+    let Some(m) = conjunct::numbering::substitute(&s[a + 1..], n, x, right, out, seen) else {
+        return Err(Refusal::TooManyNodes);
+    };
+    sets::slots::write_slot(s, a, out, m);
+    Ok(())
 }
 
 // The right side of the assignment d for its variable.
@@ -138,7 +100,7 @@ fn assign_slot(
     d: Decoded,
     out: &mut [u64],
     seen: &mut [u64],
-) -> Answer
+) -> Result<(), Refusal>
     requires { GivenSlot s.old a label d out.old seen.old × (d.kind ≤ number_of a_load) }
     ensures { ChangedTo result (image_of label d (nodes_of_lem (slot_at s.old a))) a s.old s.new }
 {
@@ -146,11 +108,11 @@ fn assign_slot(
     let x = d.a as u64;
     if right.len == 1 {
         exchange_slot(s, a, x, right, seen);
-        return Answer::Done;
+        return Ok(());
     }
     let n = conjunct::capped(s[a] as usize);
     if !conjunct::mentions_variable(&s[a + 1..], n, x) {
-        return Answer::Done;
+        return Ok(());
     }
     substitute_slot(s, a, x, right, out, seen)
 }
@@ -174,7 +136,7 @@ fn change_slot(
     d: Decoded,
     out: &mut [u64],
     seen: &mut [u64],
-) -> Answer
+) -> Result<(), Refusal>
     requires { GivenSlot s.old a label d out.old seen.old × ToOne d }
     ensures { ChangedTo result (image_of label d (nodes_of_lem (slot_at s.old a))) a s.old s.new }
 {
@@ -185,7 +147,7 @@ fn change_slot(
     if kind == 9 {
         store_slot(s, a, d);
     }
-    Answer::Done
+    Ok(())
 }
 
 // What each conjunct of the region at b comes to before the statement d, in the place of that conjunct.
@@ -196,64 +158,54 @@ fn change_all(
     d: Decoded,
     out: &mut [u64],
     seen: &mut [u64],
-) -> Answer
+) -> Result<(), Refusal>
     requires { GivenSlots s.old b label d × Buffers out.old seen.old }
     ensures { AllChanged result label d b s.old s.new }
 {
     let count = sets::size(s, b);
-    let mut k: usize = 0;
-    while k < count {
+    for k in 0..count {
         let a = b + 1 + sets::SLOT * k;
-        let answer = change_slot(s, a, label, d, out, seen);
-        match answer {
-            Answer::Done => k += 1,
-            Answer::Refused(n) => return Answer::Refused(n),
-        }
+        change_slot(s, a, label, d, out, seen)?;
     }
-    Answer::Done
+    Ok(())
 }
 
 // The rule of a statement before which a conjunct comes to one. The region after that at b is room to
 // work in.
-fn change(s: &mut [u64], b: usize, label: u64, d: Decoded) -> Answer
+fn change(s: &mut [u64], b: usize, label: u64, d: Decoded) -> Result<(), Refusal>
     requires { Ruled s.old b × OneEach label d }
     ensures { (back label (instr_of d) (set_of s.old b) ≡ answered result (set_of s.new b))
         × Below b s.old s.new }
 {
     let mut out: [u64; MOST_NODES] = [0; MOST_NODES];
     let mut seen: [u64; MOST_NODES] = [0; MOST_NODES];
-    let answer = change_all(s, b, label, d, &mut out, &mut seen);
-    match answer {
-        Answer::Refused(n) => Answer::Refused(n),
-        Answer::Done => {
-            sets::arrange(s, b);
-            Answer::Done
-        }
-    }
+    change_all(s, b, label, d, &mut out, &mut seen)?;
+    sets::arrange(s, b);
+    Ok(())
 }
 
 // ---- stores to an array of several cells, before which a conjunct comes to several
 
-// One conjunct more, renumbered; false where the set would have over 64.
-fn add(s: &mut [u64], room: usize, e: &mut [u64], n: usize, seen: &mut [u64]) -> bool
+// One conjunct more, within the limits.
+fn insert(s: &mut [u64], room: usize, e: &[u64], n: usize) -> Result<(), Refusal>
+    requires { Room s.old room × ConjunctIn e.now n }
+    ensures { Added result NoneLong (conj_of e.now n ∷ []) room s.old s.new
+        × Within room s.old s.new }
+{
+    if sets::insert(s, room, e, n) {
+        return Ok(());
+    }
+    Err(Refusal::TooManyConjuncts)
+}
+
+// The same, renumbered.
+fn add(s: &mut [u64], room: usize, e: &mut [u64], n: usize, seen: &mut [u64]) -> Result<(), Refusal>
     requires { Room s.old room × Renumbered e.old n seen.old }
-    ensures { Inserted result room (renumber (conj_of e.old n)) s.old s.new
+    ensures { Added result NoneLong (renumber (conj_of e.old n) ∷ []) room s.old s.new
         × Within room s.old s.new }
 {
     conjunct::numbering::renumber(e, n, seen);
-    sets::insert(s, room, e, n)
-}
-
-// The first n words of e to `out`.
-fn copy(e: &[u64], n: usize, out: &mut [u64])
-    requires { (n ≤ length e.now) × (n ≤ length out.old) }
-    ensures { take n out.new ≡ take n e.now }
-{
-    let mut i: usize = 0;
-    while i < n {
-        out[i] = e[i];
-        i += 1;
-    }
+    insert(s, room, e, n)
 }
 
 // 2 to the power n
@@ -261,34 +213,24 @@ fn power(n: usize) -> u64
     requires { n ≤ 6 }
     ensures { result ≡ 2 ^ n }
 {
-    match n {
-        0 => 1,
-        1 => 2,
-        2 => 4,
-        3 => 8,
-        4 => 16,
-        5 => 32,
-        _ => 64,
-    }
+    1 << n
 }
 
-// The j-th of the conjuncts for the subsets of k loads, from the conjunct itself: from the first load
+// The j-th of the conjuncts for the subsets of the loads, from the conjunct itself: from the first load
 // on, it is left in the lower half of them and replaced by the variable v in the upper half.
-fn choose(w: &mut [u64], n: usize, atoms: &[u64], k: usize, j: u64, v: u64)
-    requires { Choosing w.old n atoms.now k j }
-    ensures { (ks : List Atom) (x ty : ℕ) → conj_of atoms.now k ≡ map atom ks → node_of v ≡ var x ty
+fn choose(w: &mut [u64], n: usize, atoms: &[u64], j: u64, v: u64)
+    requires { Choosing w.old n atoms.now j }
+    ensures { (ks : List Atom) (x ty : ℕ) → nodes_of_lem atoms.now ≡ map atom ks → node_of v ≡ var x ty
         → conj_of w.new n ≡ get_or (subsets ks x ty (conj_of w.old n)) j [] }
 {
     let mut rest = j;
-    let mut half = power(k);
-    let mut i: usize = 0;
-    while i < k {
-        half = half / 2;
+    let mut half = power(atoms.len());
+    for &atom in atoms {
+        half /= 2;
         if rest >= half {
-            conjunct::replace_one(w, n, atoms[i], v);
+            conjunct::replace_one(w, n, atom, v);
             rest -= half;
         }
-        i += 1;
     }
 }
 
@@ -302,23 +244,18 @@ fn add_subsets(
     v: u64,
     out: &mut [u64],
     seen: &mut [u64],
-) -> Answer
+) -> Result<(), Refusal>
     requires { Given s.old room e.now n out.old seen.old × (length atoms.now ≤ 6) }
     ensures { ((ks : List Atom) (x ty : ℕ) → nodes_of_lem atoms.now ≡ map atom ks → node_of v ≡ var x ty
         → Added result NoneLong (map renumber (subsets ks x ty (conj_of e.now n))) room s.old s.new)
         × Within room s.old s.new }
 {
-    let k = atoms.len();
-    let mut j = power(k);
-    while j > 0 {
-        j -= 1;
-        copy(e, n, out);
-        choose(out, n, atoms, k, j, v);
-        if !add(s, room, out, n, seen) {
-            return Answer::Refused(TOO_MANY_CONJUNCTS);
-        }
+    for j in (0..power(atoms.len())).rev() {
+        out[..n].copy_from_slice(&e[..n]);
+        choose(out, n, atoms, j, v);
+        add(s, room, out, n, seen)?;
     }
-    Answer::Done
+    Ok(())
 }
 
 // a store: the array with its length, and the stored variable as a node
@@ -339,7 +276,7 @@ fn store_subsets(
     t: Store,
     out: &mut [u64],
     seen: &mut [u64],
-) -> Answer
+) -> Result<(), Refusal>
     requires { Given s.old room e.now n out.old seen.old }
     ensures { ((x ty : ℕ) → node_of t.variable ≡ var x ty
         → Added result NoneLong (map renumber (subsets (loads t.array t.len (atoms (conj_of e.now n))) x ty (conj_of e.now n)))
@@ -349,7 +286,7 @@ fn store_subsets(
     let mut atoms: [u64; MOST_NODES] = [0; MOST_NODES];
     let k = conjunct::numbering::loads(e, n, t.array, t.len, &mut atoms);
     if k >= 7 {
-        return Answer::Refused(TOO_MANY_CONJUNCTS);
+        return Err(Refusal::TooManyConjuncts);
     }
     add_subsets(s, room, e, n, &atoms[0..k], t.variable, out, seen)
 }
@@ -364,17 +301,14 @@ fn add_before(
     d: Decoded,
     out: &mut [u64],
     seen: &mut [u64],
-) -> Answer
+) -> Result<(), Refusal>
     requires { GivenStore s.old room e.now n out.old seen.old d }
     ensures { ((label : ℕ) → Added result NoneLong (map renumber (before label (instr_of d) (conj_of e.now n)))
         room s.old s.new)
         × Within room s.old s.new }
 {
     if !conjunct::mentions_array(e, n, d.a as u64, d.len) {
-        if !sets::insert(s, room, e, n) {
-            return Answer::Refused(TOO_MANY_CONJUNCTS);
-        }
-        return Answer::Done;
+        return insert(s, room, e, n);
     }
     let t = Store {
         array: d.a as u64,
@@ -394,26 +328,21 @@ fn gather(
     e: &mut [u64],
     out: &mut [u64],
     seen: &mut [u64],
-) -> Answer
+) -> Result<(), Refusal>
     requires { GivenSet s.old b room d × Working e.old out.old seen.old }
     ensures { ((label : ℕ) → back label (instr_of d) (set_of s.old b) ≡ answered result (set_of s.new room))
         × Within room s.old s.new }
 {
     let count = sets::size(s, b);
-    let mut k: usize = 0;
-    while k < count {
+    for k in 0..count {
         let n = sets::get(s, b, k, e);
-        let answer = add_before(s, room, e, n, d, out, seen);
-        match answer {
-            Answer::Done => k += 1,
-            Answer::Refused(n) => return Answer::Refused(n),
-        }
+        add_before(s, room, e, n, d, out, seen)?;
     }
-    Answer::Done
+    Ok(())
 }
 
 // The same, with room to work in.
-fn gather_all(s: &mut [u64], b: usize, room: usize, d: Decoded) -> Answer
+fn gather_all(s: &mut [u64], b: usize, room: usize, d: Decoded) -> Result<(), Refusal>
     requires { GivenSet s.old b room d }
     ensures { ((label : ℕ) → back label (instr_of d) (set_of s.old b) ≡ answered result (set_of s.new room))
         × Within room s.old s.new }
@@ -425,37 +354,28 @@ fn gather_all(s: &mut [u64], b: usize, room: usize, d: Decoded) -> Answer
 }
 
 // The rule of a store to an array of several cells. The region after that at b is room to work in.
-fn spread(s: &mut [u64], b: usize, d: Decoded) -> Answer
+fn spread(s: &mut [u64], b: usize, d: Decoded) -> Result<(), Refusal>
     requires { Ruled s.old b × SeveralCells d }
     ensures { ((label : ℕ) → back label (instr_of d) (set_of s.old b) ≡ answered result (set_of s.new b))
         × Below b s.old s.new }
 {
     let room = b + sets::REGION;
     sets::clear(s, room);
-    let answer = gather_all(s, b, room, d);
-    match answer {
-        Answer::Done => {
-            sets::copy(s, b, room);
-            Answer::Done
-        }
-        Answer::Refused(n) => Answer::Refused(n),
-    }
+    gather_all(s, b, room, d)?;
+    sets::copy(s, b, room);
+    Ok(())
 }
 
 // ---- the rule
 
 // The rule of the statement d with a label on the set of the region at b. The region after it, at
 // b + sets::REGION, is room to work in.
-pub fn rule(s: &mut [u64], b: usize, label: u64, d: Decoded) -> Answer
+pub fn rule(s: &mut [u64], b: usize, label: u64, d: Decoded) -> Result<(), Refusal>
     requires { Ruled s.old b × Labelled label d a_site }
     ensures { (back label (instr_of d) (set_of s.old b) ≡ answered result (set_of s.new b))
         × Below b s.old s.new }
 {
-    let kind = d.kind;
-    if kind != 9 {
-        return change(s, b, label, d);
-    }
-    if d.len == 1 {
+    if d.kind != 9 || d.len == 1 {
         return change(s, b, label, d);
     }
     spread(s, b, d)

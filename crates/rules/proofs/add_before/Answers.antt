@@ -4,14 +4,11 @@ use mathlib.Core.Path.{◌≡◌, sym, subst, ◌∙◌}
 use Prim.Native.Nat.{ℕ}
 use Rattle.model.proofs.Walks.Skip.{before-none}
 use Rattle.model.specs.Conjunct.{renumber}
-use Rattle.model.specs.Refusals.{too_many_conjuncts}
 use Rattle.model.specs.Walk.{before}
 use Rattle.code_table.specs.Statements.{instr_of}
 use Rattle.conjunct.specs.Value.{conj_of}
-use Rattle.rules.proofs.Additions.{added_in, added_out}
 use Rattle.rules.proofs.ByKind.{writes-store, before-cells}
 use Rattle.rules.specs.Adding.{NoneLong, Added}
-use Rattle.rules.specs.declared.Answer.TheVariants.{Done, Refused}
 use Rattle.rules.proofs.add_before.Goals as goal
 use Rattle.rules.proofs.add_before.Goals.{Then-not-mentions_array}
 
@@ -26,20 +23,10 @@ unchanged c label =
     let none = sym c.mentions_array.ensures ∙ c.if-not-mentions_array.true in
     before-none label (instr_of a.d) e (sym (writes-store a.d e c.requires.statement.store) ∙ none) c.requires.numbered
 
-pub returns-then-not-insert : goal.returns-then-not-insert
-returns-then-not-insert c =
-    let a = c.args in (
-      λ label. subst (λ R. Added (Refused too_many_conjuncts) NoneLong R a.room a.s.now c.insert.new.s) (sym (unchanged (goal.at.returns-then-not-insert c).Then-not-mentions_array label))
-          (added_out (conj_of a.e.now a.n) a.room a.s.now c.insert.new.s c.insert.result c.if-not-insert.true
-          c.requires.given.room.canon c.insert.ensures.0),
-      c.insert.ensures.1,
-    )
-
 pub returns-then-not-mentions_array : goal.returns-then-not-mentions_array
 returns-then-not-mentions_array c =
     let a = c.args in (
-      λ label. subst (λ R. Added Done NoneLong R a.room a.s.now c.insert.new.s) (sym (unchanged (goal.at.returns-then-not-mentions_array c).Then-not-mentions_array label))
-          (added_in (conj_of a.e.now a.n) a.room a.s.now c.insert.new.s c.insert.result c.if-not-insert.false c.insert.ensures.0),
+      λ label. subst (λ R. Added c.insert.result NoneLong R a.room a.s.now c.insert.new.s) (sym (unchanged (goal.at.returns-then-not-mentions_array c).Then-not-mentions_array label)) c.insert.ensures.0,
       c.insert.ensures.1,
     )
 

@@ -5,56 +5,54 @@ use Prim.Native.Nat.{◌+◌, ◌-◌, ◌/◌, ◌^◌, ◌<◌}
 use native.Mathlib.Omega.{arith}
 use lib.ListN.{length, get_or}
 use Rattle.model.specs.Conjunct.{Atom, atom}
-use Rattle.conjunct.specs.Word.{node_of}
+use Rattle.conjunct.specs.Word.{node_of, nodes_of_lem}
 use Rattle.conjunct.specs.Value.{conj_of}
-use Rattle.rules.proofs.Choices.{no_atom_lem, atoms-count, word_of, twice_half, half_power, atom-left, atom_replaced, all-chosen}
+use Rattle.rules.proofs.Choices.{no_atom_lem, atoms-length, word-atom, twice_half, half_power, atom-left, atom_replaced, all-chosen}
 use Rattle.rules.proofs.choose.Goals as goal
 use Rattle.rules.proofs.choose.Goals.{then-rest-half, else-rest-half}
 
-pub loop-i-init : goal.loop-i-init
-loop-i-init c =
-    let z : c.args.k - 0 ≡ c.args.k = omega arith in
-    (omega arith, c.power-half.ensures ∙ ap (2 ^◌) (sym z), rw c.power-half.ensures c.requires.subset, refl, λ ks x ty p q. refl)
+pub loop-atom-init : goal.loop-atom-init
+loop-atom-init c =
+    let n = length c.args.atoms.now in
+    let z : n - 0 ≡ n = omega arith in
+    (c.power-half.ensures ∙ ap (2 ^◌) (sym z), rw c.power-half.ensures c.requires.subset, λ ks x ty p q. refl)
 
-pub loop-i-preserved : goal.loop-i-preserved
-loop-i-preserved c =
+pub loop-atom-preserved : goal.loop-atom-preserved
+loop-atom-preserved c =
     let a = c.args in
-    let small : c.loop-i.i < a.k = omega arith in
-    let half : c.loop-i.half / 2 ≡ 2 ^ (a.k - (c.loop-i.i + 1)) = ap (◌/ 2) c.loop-i.invariant.1 ∙ half_power a.k c.loop-i.i small in
-    let twice = twice_half a.k c.loop-i.i small in
-    let len : (ks : List Atom) → conj_of a.atoms.now a.k ≡ map atom ks → length ks ≡ a.k =
-    λ ks p. atoms-count a.atoms.now a.k ks c.requires.atoms p in (
-      omega arith,
+    let n = length a.atoms.now in
+    let i = c.loop-atom.atom-index in
+    let small : i < n = omega arith in
+    let half : c.loop-atom.half / 2 ≡ 2 ^ (n - (i + 1)) = ap (◌/ 2) c.loop-atom.invariant.0 ∙ half_power n i small in
+    let twice = twice_half n i small in
+    let len : (ks : List Atom) → nodes_of_lem a.atoms.now ≡ map atom ks → length ks ≡ n = atoms-length a.atoms.now in (
       half,
       elim c.if-rest-half.branch [
-        | then-rest-half w ↦ omega (arith, c.loop-i.invariant.1, c.loop-i.invariant.2)
-        | else-rest-half w ↦ omega (arith, c.loop-i.invariant.1, c.loop-i.invariant.2)
-      ],
-      elim c.if-rest-half.branch [
-        | then-rest-half w ↦ ap length w.w-is ∙ w.replace_one.auto.w ∙ c.loop-i.invariant.3
-        | else-rest-half w ↦ ap length w.w-is ∙ c.loop-i.invariant.3
+        | then-rest-half w ↦ omega (arith, c.loop-atom.invariant.0, c.loop-atom.invariant.1)
+        | else-rest-half w ↦ omega (arith, c.loop-atom.invariant.0, c.loop-atom.invariant.1)
       ],
       λ ks x ty p q. elim c.if-rest-half.branch [
         | then-rest-half w ↦
-            let b : node_of (get_or a.atoms.now c.loop-i.i 0) ≡ atom (get_or ks c.loop-i.i no_atom_lem) =
-            word_of a.atoms.now a.k ks c.loop-i.i p (omega (arith, len ks p)) in
+            let b : node_of (get_or a.atoms.now i 0) ≡ atom (get_or ks i no_atom_lem) = word-atom a.atoms.now ks i p (omega (arith, len ks p)) in
             rw (w.w-is, w.rest-is)
-            (atom_replaced ks x ty (conj_of a.w.now a.n) a.k a.j c.loop-i.i (conj_of c.loop-i.w a.n) c.loop-i.rest (c.loop-i.half / 2)
-            (len ks p) small half (c.loop-i.invariant.4 ks x ty p q) w.if-rest-half.true (conj_of w.replace_one.new.w a.n)
-            (w.replace_one.ensures (get_or ks c.loop-i.i no_atom_lem) x ty b q))
+            (atom_replaced ks x ty (conj_of a.w.now a.n) n a.j i (conj_of c.loop-atom.w a.n) c.loop-atom.rest (c.loop-atom.half / 2)
+            (len ks p) small half (c.loop-atom.invariant.2 ks x ty p q) w.if-rest-half.true (conj_of w.replace_one.new.w a.n)
+            (w.replace_one.ensures (get_or ks i no_atom_lem) x ty b q))
         | else-rest-half w ↦
             rw (w.w-is, w.rest-is)
-            (atom-left ks x ty (conj_of a.w.now a.n) a.k a.j c.loop-i.i (conj_of c.loop-i.w a.n) c.loop-i.rest (c.loop-i.half / 2)
-            (len ks p) small half (c.loop-i.invariant.4 ks x ty p q) w.if-rest-half.false)
+            (atom-left ks x ty (conj_of a.w.now a.n) n a.j i (conj_of c.loop-atom.w a.n) c.loop-atom.rest (c.loop-atom.half / 2)
+            (len ks p) small half (c.loop-atom.invariant.2 ks x ty p q) w.if-rest-half.false)
       ],
     )
 
 pub returns : goal.returns
 returns c =
     let a = c.args in
-    let n : c.loop-i.i ≡ a.k = omega arith in
-    let z : a.k - c.loop-i.i ≡ 0 = omega arith in
-    let one : c.loop-i.half ≡ 1 = c.loop-i.invariant.1 ∙ ap (2 ^◌) z in
+    let n = length a.atoms.now in
+    let i = c.loop-atom.atom-index in
+    let e : i ≡ n = omega arith in
+    let z : n - i ≡ 0 = omega arith in
+    let one : c.loop-atom.half ≡ 1 = c.loop-atom.invariant.0 ∙ ap (2 ^◌) z in
     λ ks x ty p q.
-    all-chosen ks x ty (conj_of a.w.now a.n) a.j c.loop-i.i (conj_of c.loop-i.w a.n) c.loop-i.rest
-    (atoms-count a.atoms.now a.k ks c.requires.atoms p ∙ sym n) (omega arith) (c.loop-i.invariant.4 ks x ty p q)
+    all-chosen ks x ty (conj_of a.w.now a.n) a.j i (conj_of c.loop-atom.w a.n) c.loop-atom.rest (atoms-length a.atoms.now ks p ∙ sym e) (omega arith)
+    (c.loop-atom.invariant.2 ks x ty p q)
