@@ -14,7 +14,10 @@ use Rattle.sets.specs.Region.{region_words, set_of, Within}
 use Rattle.sets.proofs.Rows.{frame}
 use Rattle.walk.specs.Light.{Next, settled, again, by_new_lem}
 use Rattle.walk.specs.Turn.{Closed}
-use Rattle.walk.specs.declared.Round.TheVariants.{Settled, Again, Refused}
+use Rattle.refusals.specs.Answers.{number_of}
+use Rattle.refusals.specs.declared.Refusal.{Refusal}
+use Rattle.std.specs.Prelude.{Ok, Err}
+use Rattle.walk.specs.declared.Round.TheVariants.{Settled, Again}
 use Rattle.walk.proofs.Kept.{minus-tidy}
 use Rattle.walk.proofs.Regions.{below_trans, within-below}
 
@@ -30,7 +33,7 @@ module _ (s t : List ℕ) (b : ℕ) (room : b + 3 * region_words ≤ length s) (
   next : Conjuncts → Out Next
   next U = ok (cond (same (set_of s (b + region_words)) U) (settled U) (again U U))
 
-  pub start-refused : (n : ℕ) → limits (union_of (set_of s b) (set_of s (b + 2 * region_words))) ≡ refused n → Closed false (Refused n) b s t
+  pub start-refused : (n : Refusal) → limits (union_of (set_of s b) (set_of s (b + 2 * region_words))) ≡ refused (number_of n) → Closed false (Err n) b s t
   unfolding next
   start-refused n e = record { next = ap (◌>>= next) e; same = start_t; below = within-below b (b + 2 * region_words) s t (omega arith) w }
 
@@ -42,7 +45,7 @@ module _ (s t : List ℕ) (b : ℕ) (room : b + 3 * region_words ≤ length s) (
     given_u : set_of u (b + 2 * region_words) ≡ set_of t (b + 2 * region_words)
     given_u = frame t u (b + region_words) (b + 2 * region_words) same_u (omega arith) (inl (omega arith)) v
 
-    pub start-settled : same (set_of t (b + region_words)) (set_of t (b + 2 * region_words)) ≡ true → Closed false Settled b s u
+    pub start-settled : same (set_of t (b + region_words)) (set_of t (b + 2 * region_words)) ≡ true → Closed false (Ok Settled) b s u
     unfolding next
     start-settled q =
         let U = set_of t (b + 2 * region_words) in
@@ -52,7 +55,7 @@ module _ (s t : List ℕ) (b : ℕ) (room : b + 3 * region_words ≤ length s) (
           below = below_trans b s t u (within-below b (b + 2 * region_words) s t (omega arith) w) (within-below b (b + region_words) t u (omega arith) v);
         }
 
-    pub start-again : same (set_of t (b + region_words)) (set_of t (b + 2 * region_words)) ≡ false → Closed false Again b s u
+    pub start-again : same (set_of t (b + region_words)) (set_of t (b + 2 * region_words)) ≡ false → Closed false (Ok Again) b s u
     unfolding next
     start-again q =
         let U = set_of t (b + 2 * region_words) in
@@ -81,7 +84,7 @@ module _ (s t : List ℕ) (b : ℕ) (room : b + 4 * region_words ≤ length s) (
   all_t : set_of t (b + region_words) ≡ set_of s (b + region_words)
   all_t = frame s t (b + 3 * region_words) (b + region_words) same-t (omega arith) (inr (omega arith)) w
 
-  pub nothing-new : length (set_of t (b + 3 * region_words)) ≡ 0 → Closed true Settled b s t
+  pub nothing-new : length (set_of t (b + 3 * region_words)) ≡ 0 → Closed true (Ok Settled) b s t
   nothing-new h = record {
     next = ap (by_new_lem (set_of s (b + region_words))) (sym new) ∙ none-new (set_of s (b + region_words)) (set_of t (b + 3 * region_words)) h ∙ ap (λ S. ok (settled S)) (sym all_t);
     same = begun;
@@ -105,7 +108,7 @@ module _ (s t : List ℕ) (b : ℕ) (room : b + 4 * region_words ≤ length s) (
     begun_u : set_of u b ≡ set_of s b
     begun_u = frame t u (b + region_words) b same_u (omega arith) (inr (omega arith)) x ∙ begun
 
-    pub new-refused : (n : ℕ) → limits (union_of (set_of t (b + 3 * region_words)) (set_of t (b + region_words))) ≡ refused n → Closed true (Refused n) b s u
+    pub new-refused : (n : Refusal) → limits (union_of (set_of t (b + 3 * region_words)) (set_of t (b + region_words))) ≡ refused (number_of n) → Closed true (Err n) b s u
     new-refused n e = record {
       next = joins ∙ ap (◌>>= λ U. ok (again U (set_of t (b + 3 * region_words)))) e;
       same = begun_u;
@@ -114,7 +117,7 @@ module _ (s t : List ℕ) (b : ℕ) (room : b + 4 * region_words ≤ length s) (
 
     module _ (united : limits (union_of (set_of t (b + 3 * region_words)) (set_of t (b + region_words))) ≡ ok (set_of u (b + region_words))) (v : List ℕ)
         (same-v : length v ≡ length u) (copied : set_of v (b + 2 * region_words) ≡ set_of u (b + 3 * region_words)) (y : Within (b + 2 * region_words) u v) where
-      pub new-again : Closed true Again b s v
+      pub new-again : Closed true (Ok Again) b s v
       new-again =
           let all-v = frame u v (b + 2 * region_words) (b + region_words) same-v (omega arith) (inr (omega arith)) y in
           let new-u = frame t u (b + region_words) (b + 3 * region_words) same_u (omega arith) (inl (omega arith)) x in

@@ -13,9 +13,10 @@ use Rattle.model.specs.Placement.{Laid}
 use Rattle.model.specs.TidySets.{Tidy}
 use Rattle.model.proofs.Basics.Results.{gives_ok}
 use Rattle.code_table.specs.Table.{table_words, table_of, stmts, mates}
-use Rattle.rules.specs.Answers.{answered, Below}
-use Rattle.rules.specs.declared.Answer.TheVariants.{Done, Refused}
-use Rattle.rules.specs.declared.Answer.{Answer}
+use Rattle.rules.specs.Answers.{Answer, answered, Below}
+use Rattle.refusals.specs.Answers.{number_of}
+use Rattle.refusals.specs.declared.Refusal.{Refusal}
+use Rattle.std.specs.Prelude.{Ok, Err}
 use Rattle.sets.specs.Region.{region_words, set_of}
 use Rattle.walk.proofs.Kept.{by_tidy}
 use Rattle.walk.proofs.Regions.{below_trans, below_less, below_set, below-table, walked_done, walked_refused, walked_from}
@@ -35,7 +36,7 @@ module _ (light : Bool) (stmt : ℕ → Stmt) (mate : ℕ → ℕ) (p e f b : �
       to_t : Below b s₀ t
       to_t = below_trans b s₀ s t opened.below (below_less b (b + 2 * region_words) s t (omega arith) first.1)
 
-      pub first-refused : (k : ℕ) → r ≡ Refused k → Branched (refused k) × Below b s₀ t
+      pub first-refused : (k : Refusal) → r ≡ Err k → Branched (refused (number_of k)) × Below b s₀ t
       first-refused k a = (
         λ y n h g.
             ap (◌>>= λ A. walk_by light n (set_of s₀ b) >>= λ B. limits (union_of A B))
@@ -43,7 +44,7 @@ module _ (light : Bool) (stmt : ℕ → Stmt) (mate : ℕ → ℕ) (p e f b : �
         to_t,
       )
 
-      module _ (told : r ≡ Done) where
+      module _ (told : r ≡ Ok tt) where
         first_walk : (y : Code) → Laid stmt mate y p e → walk_by light y (set_of s₀ b) ≡ ok (set_of t (b + 2 * region_words))
         first_walk y h = ap (walk_by light y) (sym opened.second) ∙ walked_done light stmt mate r p e (b + 2 * region_words) s t first told y h
 
@@ -57,7 +58,7 @@ module _ (light : Bool) (stmt : ℕ → Stmt) (mate : ℕ → ℕ) (p e f b : �
             to_v : Below b s₀ v
             to_v = below_trans b s₀ u v (below_trans b s₀ t u to_t turned.below) (below_less b (b + 2 * region_words) u v (omega arith) other.1)
 
-            pub other-refused : (k : ℕ) → r' ≡ Refused k → Branched (refused k) × Below b s₀ v
+            pub other-refused : (k : Refusal) → r' ≡ Err k → Branched (refused (number_of k)) × Below b s₀ v
             other-refused k a = (
               λ y n h g.
                   ap (◌>>= λ A. walk_by light n (set_of s₀ b) >>= λ B. limits (union_of A B)) (first_walk y h)
@@ -66,7 +67,7 @@ module _ (light : Bool) (stmt : ℕ → Stmt) (mate : ℕ → ℕ) (p e f b : �
               to_v,
             )
 
-            module _ (told' : r' ≡ Done) where
+            module _ (told' : r' ≡ Ok tt) where
               other-walk : (n : Code) → Laid stmt mate n (e + 1) f → walk_by light n (set_of s₀ b) ≡ ok (set_of v (b + 2 * region_words))
               other-walk n g = ap (walk_by light n) (sym other-start) ∙ walked_done light stmt mate r' (e + 1) f (b + 2 * region_words) u v other told' n g
 
@@ -109,7 +110,7 @@ module _ (light : Bool) (p e f b : ℕ) (s₀ : List ℕ) where
     pub t : List ℕ
     pub u : List ℕ
     pub first : First first-answer t
-    pub told : first-answer ≡ Done
+    pub told : first-answer ≡ Ok tt
     pub same_u : length u ≡ length t
     pub table : table_of 0 u ≡ table_of 0 s₀
     pub switched : BranchSwitched b t u
@@ -126,10 +127,10 @@ module _ (light : Bool) (p e f b : ℕ) (s₀ : List ℕ) where
     first-here : WalkedBy light stmt mate r p e (b + 2 * region_words) w.s t
     first-here = walked_from s₀ w.s w.table light r p e (b + 2 * region_words) t w.walked
 
-    pub first-branch-refused : (k : ℕ) → r ≡ Refused k → Branches light (Refused k) p e f b s₀ t
+    pub first-branch-refused : (k : Refusal) → r ≡ Err k → Branches light (Err k) p e f b s₀ t
     first-branch-refused = first-refused light stmt mate p e f b s₀ w.s w.room w.opened t w.same_length r first-here
 
-    module _ (told : r ≡ Done) (u : List ℕ) (same_u : length u ≡ length t) (switched : BranchSwitched b t u) where
+    module _ (told : r ≡ Ok tt) (u : List ℕ) (same_u : length u ≡ length t) (switched : BranchSwitched b t u) where
       -- the other branch begins with the same set
       pub other-branch-start : set_of u (b + 2 * region_words) ≡ set_of s₀ b
       other-branch-start = other-start light stmt mate p e f b s₀ w.s w.room w.opened t w.same_length r first-here told u same_u switched
@@ -147,12 +148,12 @@ module _ (light : Bool) (p e f b : ℕ) (s₀ : List ℕ) where
     other-here : WalkedBy light stmt mate r (e + 1) f (b + 2 * region_words) w.u v
     other-here = walked_from s₀ w.u w.table light r (e + 1) f (b + 2 * region_words) v w.walked
 
-    pub other-branch-refused : (k : ℕ) → r ≡ Refused k → Branches light (Refused k) p e f b s₀ v
+    pub other-branch-refused : (k : Refusal) → r ≡ Err k → Branches light (Err k) p e f b s₀ v
     other-branch-refused =
         other-refused light stmt mate p e f b s₀ z.s z.room z.opened w.t z.same_length w.first-answer
         (first-here w.first-answer w.t z) w.told w.u w.same_u w.switched v w.same_length r other-here
 
-    module _ (told : r ≡ Done) where
+    module _ (told : r ≡ Ok tt) where
       pub both-tidy : (y n : Code) → Lies s₀ y p e → Lies s₀ n (e + 1) f → Tidy (set_of s₀ b) → Tidy (set_of v (b + region_words)) × Tidy (set_of v (b + 2 * region_words))
       both-tidy =
           branches_tidy light stmt mate p e f b s₀ z.s z.room z.opened w.t z.same_length w.first-answer

@@ -17,9 +17,10 @@ use Rattle.model.proofs.Conjuncts.Canonical.{union_every}
 use Rattle.model.proofs.Conjuncts.Limits.{short-each, all_short}
 use Rattle.footprint.specs.Footprints.{CoversSet}
 use Rattle.footprint.specs.declared.Footprint.{Footprint}
-use Rattle.rules.specs.Answers.{answered, Below}
-use Rattle.rules.specs.declared.Answer.TheVariants.{Done, Refused}
-use Rattle.rules.specs.declared.Answer.{Answer}
+use Rattle.rules.specs.Answers.{Answer, answered, Below}
+use Rattle.refusals.specs.Answers.{number_of}
+use Rattle.refusals.specs.declared.Refusal.{Refusal}
+use Rattle.std.specs.Prelude.{Ok, Err}
 use Rattle.sets.proofs.Rows.{few-most, set_same, frame}
 use Rattle.sets.specs.Region.{region_words, set_of, Within}
 use Rattle.code_table.proofs.Packs.{table_kept}
@@ -62,17 +63,17 @@ union_over R S h k l = rw (union_short R S h k, lt-ltb most_conjuncts (length (u
 
 -- ---- answers
 
-pub answer-done : (r : Answer) (o : Out Conjuncts) (S : Conjuncts) → o ≡ answered r S → r ≡ Done → o ≡ ok S
+pub answer-done : (r : Answer) (o : Out Conjuncts) (S : Conjuncts) → o ≡ answered r S → r ≡ Ok tt → o ≡ ok S
 answer-done r o S h e = subst (λ x. o ≡ answered x S) e h
 
-pub answer-refused : (r : Answer) (o : Out Conjuncts) (S : Conjuncts) (n : ℕ) → o ≡ answered r S → r ≡ Refused n → o ≡ refused n
+pub answer-refused : (r : Answer) (o : Out Conjuncts) (S : Conjuncts) (n : Refusal) → o ≡ answered r S → r ≡ Err n → o ≡ refused (number_of n)
 answer-refused r o S n h e = subst (λ x. o ≡ answered x S) e h
 
 module _ (light : Bool) (stmt : ℕ → Stmt) (mate : ℕ → ℕ) (r : Answer) (p q b : ℕ) (s t : List ℕ) (w : WalkedBy light stmt mate r p q b s t) where
-  pub walked_done : r ≡ Done → (c : Code) → Laid stmt mate c p q → walk_by light c (set_of s b) ≡ ok (set_of t b)
+  pub walked_done : r ≡ Ok tt → (c : Code) → Laid stmt mate c p q → walk_by light c (set_of s b) ≡ ok (set_of t b)
   walked_done e c h = answer-done r (walk_by light c (set_of s b)) (set_of t b) (w.0 c h) e
 
-  pub walked_refused : (n : ℕ) → r ≡ Refused n → (c : Code) → Laid stmt mate c p q → walk_by light c (set_of s b) ≡ refused n
+  pub walked_refused : (n : Refusal) → r ≡ Err n → (c : Code) → Laid stmt mate c p q → walk_by light c (set_of s b) ≡ refused (number_of n)
   walked_refused n e c h = answer-refused r (walk_by light c (set_of s b)) (set_of t b) n (w.0 c h) e
 
 -- ---- the table

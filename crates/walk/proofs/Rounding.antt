@@ -12,14 +12,16 @@ use Rattle.model.specs.Sizes.{most_rounds}
 use Rattle.model.specs.TidySets.{Tidy}
 use Rattle.model.proofs.Basics.Results.{gives_ok}
 use Rattle.code_table.specs.Table.{table_words, table_of, stmts, mates}
-use Rattle.rules.specs.Answers.{answered, Below}
-use Rattle.rules.specs.declared.Answer.TheVariants.{Done, Refused}
-use Rattle.rules.specs.declared.Answer.{Answer}
+use Rattle.rules.specs.Answers.{Answer, answered, Below}
+use Rattle.refusals.specs.Answers.{number_of}
+use Rattle.refusals.specs.declared.Refusal.{Refusal}
+use Rattle.refusals.specs.declared.Refusal.TheVariants.{NeverSettles}
+use Rattle.std.specs.Prelude.{Result, Ok, Err}
 use Rattle.sets.specs.Region.{region_words, set_of}
 use Rattle.walk.specs.Light.{Next, again, next_of, onward, rounds_by_lem, walk_by, loop_by}
 use Rattle.walk.specs.Piece.{Lies, WalkedBy}
 use Rattle.walk.specs.Turn.{Rounded, RoundsOpened, Closing, closed_as, Closed}
-use Rattle.walk.specs.declared.Round.TheVariants.{Settled, Again, Refused as Never}
+use Rattle.walk.specs.declared.Round.TheVariants.{Settled, Again}
 use Rattle.walk.specs.declared.Round.{Round}
 use Rattle.walk.proofs.Regions.{below_self, below_trans, below_less, below_set, below-table, walked_done, walked_refused, lies_on, walked_from}
 use Rattle.walk.proofs.Kept.{KeptNext, next-tidy, by_tidy}
@@ -49,7 +51,6 @@ module _ (light : Bool) (body : Conjuncts → Out Conjuncts) (D : Conjuncts) (k 
 module _ (light : Bool) (p q b : ℕ) (s₀ : List ℕ) where
   -- s is at the start of the round k
   pub record InRounds (k : ℕ) (s : List ℕ) : Type 0 where
-    pub few : k ≤ most_rounds
     pub same_length : length s ≡ length s₀
     pub table : table_of 0 s ≡ table_of 0 s₀
     pub kept : set_of s b ≡ set_of s₀ b
@@ -83,7 +84,6 @@ module _ (light : Bool) (p q b : ℕ) (e s₀ : List ℕ) (f : RoundsFrom b e s�
       let first = f.opened.first ∙ sym f.opened.same in
       let second = f.opened.second ∙ sym f.opened.same in
       record {
-        few = omega arith;
         same_length = refl;
         table = refl;
         kept = refl;
@@ -94,9 +94,9 @@ module _ (light : Bool) (p q b : ℕ) (e s₀ : List ℕ) (f : RoundsFrom b e s�
       }
 
   module _ (k : ℕ) (s : List ℕ) (g : InRounds light p q b s₀ k s) where
-    pub never_settled : most_rounds ≤ k → Rounded light (Refused 11) p q b e s
+    pub never_settled : most_rounds ≤ k → Rounded light (Err NeverSettles) p q b e s
     never_settled h =
-        from-entry (Refused 11) s
+        from-entry (Err NeverSettles) s
         (λ c z. g.same-rounds c z ∙ rounds-over light (walk_by light c) (set_of s₀ b) k h (set_of s (b + region_words)) (set_of s (b + 2 * region_words)))
         g.kept g.below
 
@@ -115,15 +115,15 @@ module _ (light : Bool) (p q b : ℕ) (e s₀ : List ℕ) (f : RoundsFrom b e s�
       round_t : set_of t (b + region_words) ≡ set_of s (b + region_words)
       round_t = below_set s t (b + region_words) (b + 2 * region_words) same-t (omega arith) (omega (arith, f.room, g.same_length)) walked.1
 
-      pub body_refused : (n : ℕ) → r ≡ Refused n → Rounded light (Refused n) p q b e t
+      pub body_refused : (n : Refusal) → r ≡ Err n → Rounded light (Err n) p q b e t
       body_refused n a =
-          from-entry (Refused n) t (λ c z.
+          from-entry (Err n) t (λ c z.
           g.same-rounds c z
-          ∙ round-refused light (walk_by light c) (set_of s₀ b) k more (set_of s (b + region_words)) (set_of s (b + 2 * region_words)) n
+          ∙ round-refused light (walk_by light c) (set_of s₀ b) k more (set_of s (b + region_words)) (set_of s (b + 2 * region_words)) (number_of n)
           (walked_refused light (stmts s₀) (mates s₀) r p q (b + 2 * region_words) s t here n a c z))
           start_t to_t
 
-      module _ (told : r ≡ Done) where
+      module _ (told : r ≡ Ok tt) where
         gave : (c : Code) → Lies s₀ c p q → walk_by light c (set_of s (b + 2 * region_words)) ≡ ok (set_of t (b + 2 * region_words))
         gave = walked_done light (stmts s₀) (mates s₀) r p q (b + 2 * region_words) s t here told
 
@@ -137,20 +137,20 @@ module _ (light : Bool) (p q b : ℕ) (e s₀ : List ℕ) (f : RoundsFrom b e s�
         }
 
         -- the round was closed from t to u
-        module _ (u : List ℕ) (same_u : length u ≡ length t) (x : Round) (closed : Closed light x b t u) where
+        module _ (u : List ℕ) (same_u : length u ≡ length t) (x : Result Round Refusal) (closed : Closed light x b t u) where
           to_u : Below b s₀ u
           to_u = below_trans b s₀ t u to_t closed.below
 
           start_u : set_of u b ≡ set_of s₀ b
           start_u = closed.same ∙ start_t
 
-          next_as : (y : Round) → x ≡ y → next_of light (set_of s₀ b) (set_of s (b + region_words)) (set_of t (b + 2 * region_words))
+          next_as : (y : Result Round Refusal) → x ≡ y → next_of light (set_of s₀ b) (set_of s (b + region_words)) (set_of t (b + 2 * region_words))
               ≡ closed_as y (set_of u (b + region_words)) (set_of u (b + 2 * region_words))
           next_as y a =
               ap₂ (λ D S. next_of light D S (set_of t (b + 2 * region_words))) (sym start_t) (sym round_t) ∙ closed.next
               ∙ ap (λ z. closed_as z (set_of u (b + region_words)) (set_of u (b + 2 * region_words))) a
 
-          ended : (y : Round) → x ≡ y → (c : Code) → Lies s₀ c p q → loop_by light c (set_of s₀ b)
+          ended : (y : Result Round Refusal) → x ≡ y → (c : Code) → Lies s₀ c p q → loop_by light c (set_of s₀ b)
               ≡ (closed_as y (set_of u (b + region_words)) (set_of u (b + 2 * region_words))
               >>= onward (rounds_by_lem light (most_rounds - (k + 1)) (walk_by light c) (set_of s₀ b)))
           ended y a c z =
@@ -158,28 +158,27 @@ module _ (light : Bool) (p q b : ℕ) (e s₀ : List ℕ) (f : RoundsFrom b e s�
               ∙ round-closed light (walk_by light c) (set_of s₀ b) k more (set_of s (b + region_words)) (set_of s (b + 2 * region_words)) (set_of t (b + 2 * region_words)) (gave c z)
               (closed_as y (set_of u (b + region_words)) (set_of u (b + 2 * region_words))) (next_as y a)
 
-          pub closing-refused : (n : ℕ) → x ≡ Never n → Rounded light (Refused n) p q b e u
-          closing-refused n a = from-entry (Refused n) u (ended (Never n) a) start_u to_u
+          pub closing-refused : (n : Refusal) → x ≡ Err n → Rounded light (Err n) p q b e u
+          closing-refused n a = from-entry (Err n) u (ended (Err n) a) start_u to_u
 
-          pub rounds-settled : x ≡ Settled → Rounded light Done p q b e u
-          rounds-settled a = from-entry Done u (ended Settled a) start_u to_u
+          pub rounds-settled : x ≡ Ok Settled → Rounded light (Ok tt) p q b e u
+          rounds-settled a = from-entry (Ok tt) u (ended (Ok Settled) a) start_u to_u
 
-          pub next-round : x ≡ Again → (c : Code) → Lies e c p q → InRounds light p q b s₀ (k + 1) u
+          pub next-round : x ≡ Ok Again → (c : Code) → Lies e c p q → InRounds light p q b s₀ (k + 1) u
           next-round a c z =
               let ready = closing c z in
               let tidy =
               gives_ok (KeptNext Tidy) (next_of light (set_of s₀ b) (set_of s (b + region_words)) (set_of t (b + 2 * region_words)))
-              (again (set_of u (b + region_words)) (set_of u (b + 2 * region_words))) (next_as Again a)
+              (again (set_of u (b + region_words)) (set_of u (b + 2 * region_words))) (next_as (Ok Again) a)
               (next-tidy light (set_of s₀ b) (set_of s (b + region_words)) (set_of t (b + 2 * region_words)) (subst Tidy (sym f.opened.same) f.tidy)
               g.round-tidy ready.given) in
               let same_length : length u ≡ length s₀ = same_u ∙ same-t ∙ g.same_length in
               record {
-                few = omega arith;
                 same_length = same_length;
                 table = below-table b s₀ u f.behind (omega (arith, f.room)) same_length to_u;
                 kept = start_u;
                 below = to_u;
                 round-tidy = tidy.0;
                 walk-tidy = tidy.1;
-                same-rounds = ended Again a;
+                same-rounds = ended (Ok Again) a;
               }

@@ -2,7 +2,7 @@
 use mathlib.Core.Bool.{Bool, true, false}
 use mathlib.Core.List.{List}
 use mathlib.Core.Logic.{inr}
-use mathlib.Core.Path.{◌≡◌, sym, ap, subst, ◌∙◌}
+use mathlib.Core.Path.{◌≡◌, refl, sym, ap, subst, ◌∙◌}
 use Prim.Native.Nat.{ℕ, ◌+◌, ◌*◌, ◌≤◌}
 use native.Mathlib.Omega.{arith}
 use lib.ListN.{length}
@@ -12,16 +12,21 @@ use Rattle.model.specs.Sizes.{most_inside}
 use Rattle.model.specs.TidySets.{Tidy}
 use Rattle.model.specs.Walk.{walk}
 use Rattle.code_table.specs.Table.{table_words, table_of, stmts, mates}
-use Rattle.rules.specs.Answers.{Below}
-use Rattle.rules.specs.declared.Answer.TheVariants.{Done}
-use Rattle.rules.specs.declared.Answer.{Answer}
+use Rattle.rules.specs.Answers.{Answer, Below}
+use Rattle.std.specs.Prelude.{Ok, Err}
+use Rattle.std.specs.Result.{is_ok}
 use Rattle.sets.specs.Region.{region_words, set_of, Within}
 use Rattle.sets.proofs.Rows.{frame}
 use Rattle.walk.specs.Light.{loop_by}
 use Rattle.walk.specs.Piece.{Lies, Ready, WalkedBy}
-use Rattle.walk.specs.Turn.{Rounded, Loops, TakenOver}
+use Rattle.walk.specs.Turn.{Rounded}
 use Rattle.walk.proofs.Quick.{light_tidy, light_confirmed}
 use Rattle.walk.proofs.Regions.{answer-done, below_trans, below_less, below_set, below-table, within-below, knows_on, lies_on, walked_done, walked_from}
+
+-- a rule or a walk that is not refused is done
+pub done_if : (r : Answer) → is_ok r ≡ true → r ≡ Ok tt
+done_if (Ok u) h = refl
+done_if (Err e) h = cc
 
 module _ (p q b : ℕ) (e : List ℕ) where
   -- the while may be begun again: its set is as it was, and all before it
@@ -60,7 +65,7 @@ module _ (p q b : ℕ) (e : List ℕ) where
     }
 
     -- they gave a set, which was copied from s to t
-    module _ (told : a ≡ Done) (t : List ℕ) (same-t : length t ≡ length s) (copied : set_of t (b + 2 * region_words) ≡ set_of s (b + region_words))
+    module _ (told : a ≡ Ok tt) (t : List ℕ) (same-t : length t ≡ length s) (copied : set_of t (b + 2 * region_words) ≡ set_of s (b + region_words))
         (w : Within (b + 2 * region_words) s t) where
       came : (c : Code) → Lies e c p q → loop_by true c (set_of e b) ≡ ok (set_of s (b + region_words))
       came c z = answer-done a (loop_by true c (set_of e b)) (set_of s (b + region_words)) (rounded.given c z) told
@@ -97,7 +102,7 @@ module _ (p q b : ℕ) (e : List ℕ) where
           below = to_u;
         }
 
-        pub confirmed : r ≡ Done → Rounded false Done p q b e u
+        pub confirmed : r ≡ Ok tt → Rounded false (Ok tt) p q b e u
         confirmed done = record {
           given = λ c z.
               light_confirmed c (set_of e b) (set_of s (b + region_words)) tidy (came c z) (set_of u (b + 2 * region_words))
@@ -107,7 +112,3 @@ module _ (p q b : ℕ) (e : List ℕ) where
           same = start_u;
           below = to_u;
         }
-
--- a while, from its rounds
-pub taken-over : (light : Bool) (p q b : ℕ) (e s t : List ℕ) (a r : Answer) → Rounded light a p q b e s → TakenOver a r b s t → Loops light r p q b e t
-taken-over light p q b e s t a r h k = (λ c z. k.taken (loop_by light c (set_of e b)) (h.given c z), below_trans b e s t h.below k.below)

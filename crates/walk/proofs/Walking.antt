@@ -13,9 +13,10 @@ use Rattle.model.proofs.Basics.Results.{gives_ok}
 use Rattle.footprint.specs.Footprints.{CoversSet, FlagsAll, Follows, SparedAll, BackTo}
 use Rattle.footprint.specs.declared.Footprint.{Footprint}
 use Rattle.footprint.proofs.Flags.{speaks_more}
-use Rattle.rules.specs.Answers.{Below}
-use Rattle.rules.specs.declared.Answer.{Answer}
-use Rattle.rules.specs.declared.Answer.TheVariants.{Done, Refused}
+use Rattle.rules.specs.Answers.{Answer, Below}
+use Rattle.refusals.specs.Answers.{number_of}
+use Rattle.refusals.specs.declared.Refusal.{Refusal}
+use Rattle.std.specs.Prelude.{Ok, Err}
 use Rattle.sets.specs.Region.{set_of}
 use Rattle.walk.specs.Light.{walk_by}
 use Rattle.walk.specs.Piece.{Piece, Flagged, WalkedBy}
@@ -65,7 +66,7 @@ module _ (light : Bool) (s₀ : List ℕ) (depth b p q : ℕ) where
     }
 
     -- nothing is left
-    pub finished : r ≤ p → WalkedBy light (stmts s₀) (mates s₀) Done p q b s₀ s
+    pub finished : r ≤ p → WalkedBy light (stmts s₀) (mates s₀) (Ok tt) p q b s₀ s
     finished h = (stands-done light (stmts s₀) (mates s₀) depth p q r (set_of s₀ b) (set_of s b) w.stands h, w.below)
 
     -- the last statement or block, from the label l on, is due
@@ -102,14 +103,14 @@ module _ (light : Bool) (s₀ : List ℕ) (depth b p q : ℕ) where
         to_t : Below b s₀ t
         to_t = below_trans b s₀ s t w.below turned.1
 
-        pub turn-refused : (n : ℕ) → a ≡ Refused n → WalkedBy light (stmts s₀) (mates s₀) (Refused n) p q b s₀ t
+        pub turn-refused : (n : Refusal) → a ≡ Err n → WalkedBy light (stmts s₀) (mates s₀) (Err n) p q b s₀ t
         turn-refused n e = (
-          stands-refused light (stmts s₀) (mates s₀) depth p q l r (set_of s₀ b) (set_of s b) w.stands more first-here n
+          stands-refused light (stmts s₀) (mates s₀) depth p q l r (set_of s₀ b) (set_of s b) w.stands more first-here (number_of n)
               (walked_refused light (stmts s₀) (mates s₀) a l r b s t here n e),
           to_t,
         )
 
-        pub turn-done : a ≡ Done → table_words ≤ b → b ≤ length s₀ → length t ≡ length s → (m' : Footprint) → Follows m m' (stmts t) l r (set_of t b) → Walking t m' l
+        pub turn-done : a ≡ Ok tt → table_words ≤ b → b ≤ length s₀ → length t ≡ length s → (m' : Footprint) → Follows m m' (stmts t) l r (set_of t b) → Walking t m' l
         turn-done e h k same-t m' f =
             let table = below-table b s₀ t h k (same-t ∙ w.same_length) to_t in
             let given = walked_done light (stmts s₀) (mates s₀) a l r b s t here e in

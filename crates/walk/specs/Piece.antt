@@ -9,8 +9,7 @@ use Rattle.code_table.specs.Table.{table_words, stmts, mates, Knows}
 use Rattle.sets.specs.Region.{region_words, set_of}
 use Rattle.footprint.specs.Footprints.{CoversSet}
 use Rattle.footprint.specs.declared.Footprint.{Footprint}
-use Rattle.rules.specs.Answers.{answered, Below}
-use Rattle.rules.specs.declared.Answer.{Answer}
+use Rattle.rules.specs.Answers.{Answer, answered, Below}
 use Rattle.walk.specs.Light.{walk_by}
 
 -- the piece c lies on the labels from p up to q

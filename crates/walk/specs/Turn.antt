@@ -1,18 +1,19 @@
 -- One statement or block of a piece of program, and what the working functions of a walk leave in the regions: the set D of the
 -- region at b, and two regions after it.
-use Rattle.std.specs.Prelude.{◌≡◌, Bool, List, ℕ, ◌+◌, ◌*◌, ◌≤◌, length}
+use Rattle.std.specs.Prelude.{◌≡◌, Bool, List, ℕ, ◌+◌, ◌*◌, ◌≤◌, length, Result}
 use Rattle.model.specs.Code.{Code, done, step, branch, loop, Stmt, plain, if, else, end, while}
 use Rattle.model.specs.Conjunct.{Conjuncts}
-use Rattle.model.specs.Refusals.{Out, ok, refused}
+use Rattle.model.specs.Refusals.{Out}
 use Rattle.model.specs.Nesting.{Nested}
 use Rattle.model.specs.TidySets.{Tidy}
 use Rattle.model.specs.Walk.{joined}
 use Rattle.sets.specs.Region.{region_words, set_of, TwoRegions}
-use Rattle.rules.specs.Answers.{answered, Below}
-use Rattle.rules.specs.declared.Answer.{Answer}
+use Rattle.refusals.specs.Answers.{out_of}
+use Rattle.refusals.specs.declared.Refusal.{Refusal}
+use Rattle.rules.specs.Answers.{Answer, answered, Below}
 use Rattle.walk.specs.Light.{Next, settled, again, next_of, walk_by, loop_by}
 use Rattle.walk.specs.Piece.{Lies, Piece}
-use Rattle.walk.specs.declared.Round.TheVariants.{Settled, Again, Refused}
+use Rattle.walk.specs.declared.Round.TheVariants.{Settled, Again}
 use Rattle.walk.specs.declared.Round.{Round}
 
 -- where the statement or the block begins that ends at the label i
@@ -99,20 +100,18 @@ pub record Closing (b : ℕ) (s : List ℕ) : Type 0 where
   pub round : Tidy (set_of s (b + region_words))
   pub given : Tidy (set_of s (b + 2 * region_words))
 
--- what the end of a round says of the sets in the two regions after that at b
-abbrev pub closed_as : Round → (S X : Conjuncts) → Out Next
-closed_as Settled S X = ok (settled S)
-closed_as Again S X = ok (again S X)
-closed_as (Refused n) S X = refused n
+-- what comes after a round, by the sets in the two regions after that at b
+abbrev pub next_by : (S X : Conjuncts) → Round → Next
+next_by S X Settled = settled S
+next_by S X Again = again S X
+
+-- what the end of a round says of these sets
+abbrev pub closed_as : Result Round Refusal → (S X : Conjuncts) → Out Next
+closed_as r S X = out_of (next_by S X) r
 
 -- the end of a round, light or not
-pub record Closed (light : Bool) (r : Round) (b : ℕ) (s t : List ℕ) : Type 0 where
+pub record Closed (light : Bool) (r : Result Round Refusal) (b : ℕ) (s t : List ℕ) : Type 0 where
   pub next : next_of light (set_of s b) (set_of s (b + region_words)) (set_of s (b + 2 * region_words))
       ≡ closed_as r (set_of t (b + region_words)) (set_of t (b + 2 * region_words))
   pub same : set_of t b ≡ set_of s b
-  pub below : Below b s t
-
--- after the rounds: what they gave in the region after that at b is in that at b
-pub record TakenOver (given r : Answer) (b : ℕ) (s t : List ℕ) : Type 0 where
-  pub taken : (o : Out Conjuncts) → o ≡ answered given (set_of s (b + region_words)) → o ≡ answered r (set_of t b)
   pub below : Below b s t

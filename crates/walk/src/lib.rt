@@ -13,33 +13,32 @@ ghost use Rattle.code_table.specs.Table.{table_words, stmts, mates};
 ghost use Rattle.sets.specs.Region.{set_of, Within, region_words};
 ghost use Rattle.rules.specs.Answers.{answered, Below};
 ghost use Rattle.walk.specs.Piece.{Piece, Ready, Flagged, Walked, WalkedBy};
-ghost use Rattle.walk.specs.Turn.{first_of, Single, TwoPieces, Branches, Rounded, Loops, Uniting, TwoTidy, BranchOpened, BranchSwitched, RoundsOpened, Closing, Closed, TakenOver};
+ghost use Rattle.walk.specs.Turn.{first_of, Single, TwoPieces, Branches, Rounded, Loops, Uniting, TwoTidy, BranchOpened, BranchSwitched, RoundsOpened, Closing, Closed};
 
 use footprint::Footprint;
-use rules::Answer;
+use refusals::Refusal;
 
 // The rounds of a while in which its set has to settle.
 const MOST_ROUNDS: usize = 16;
 
-// How a round of a while ends: the set is settled, or another round is due, or a refusal.
-#[derive(Clone, Copy)]
+// How a round of a while ends: the set is settled, or another round is due.
+#[derive(Clone, Copy, Debug, PartialEq, Eq)]
 enum Round {
     Settled,
     Again,
-    Refused(u8),
 }
 
 // ---- the sets of the regions
 
 // The union with the set of another region, within the limits.
-fn unite(s: &mut [u64], to: usize, from: usize) -> Answer
+fn unite(s: &mut [u64], to: usize, from: usize) -> Result<(), Refusal>
     requires { Uniting s.old to from }
     ensures { (limits (union_of (set_of s.old from) (set_of s.old to)) ≡ answered result (set_of s.new to)) × Within to s.old s.new }
 {
     if sets::union(s, to, from) {
-        return Answer::Done;
+        return Ok(());
     }
-    Answer::Refused(10)
+    Err(Refusal::TooManyConjuncts)
 }
 
 // Before the first branch of an if: its set in the second region after that at b.
@@ -62,21 +61,16 @@ fn switch_branch(s: &mut [u64], b: usize)
 }
 
 // After the branches of an if: the union of what they gave, in the region at b.
-fn close_branch(s: &mut [u64], b: usize) -> Answer
+fn close_branch(s: &mut [u64], b: usize) -> Result<(), Refusal>
     requires { TwoTidy 3 s.old b (b + region_words) (b + 2 * region_words) }
     ensures { (limits (union_of (set_of s.old (b + region_words)) (set_of s.old (b + 2 * region_words))) ≡ answered result (set_of s.new b))
         × Below b s.old s.new }
 {
     let first = b + sets::REGION;
     let other = b + 2 * sets::REGION;
-    let united = unite(s, other, first);
-    match united {
-        Answer::Refused(n) => Answer::Refused(n),
-        Answer::Done => {
-            sets::copy(s, b, other);
-            Answer::Done
-        }
-    }
+    unite(s, other, first)?;
+    sets::copy(s, b, other);
+    Ok(())
 }
 
 // Before the rounds of a while: its set in both regions after that at b.
@@ -90,29 +84,24 @@ fn open_rounds(s: &mut [u64], b: usize)
 
 // At the end of a round from the set of the first region after that at b, where the second has what
 // the body gave: the set that it is joined with is that of the region at b.
-fn join_start(s: &mut [u64], b: usize) -> Round
+fn join_start(s: &mut [u64], b: usize) -> Result<Round, Refusal>
     requires { TwoTidy 3 s.old b b (b + 2 * region_words) }
     ensures { Closed false result b s.old s.new }
 {
     let last = b + sets::REGION;
     let next = b + 2 * sets::REGION;
-    let united = unite(s, next, b);
-    match united {
-        Answer::Refused(n) => Round::Refused(n),
-        Answer::Done => {
-            let settled = sets::equal(s, last, next);
-            sets::copy(s, last, next);
-            if settled {
-                return Round::Settled;
-            }
-            Round::Again
-        }
+    unite(s, next, b)?;
+    let settled = sets::equal(s, last, next);
+    sets::copy(s, last, next);
+    if settled {
+        return Ok(Round::Settled);
     }
+    Ok(Round::Again)
 }
 
 // At the end of a light round, where the second region after that at b has what the body gave: what of
 // it the first has not is new there, and is walked next. The third is room to work in.
-fn join_new(s: &mut [u64], b: usize) -> Round
+fn join_new(s: &mut [u64], b: usize) -> Result<Round, Refusal>
     requires { TwoTidy 4 s.old b (b + region_words) (b + 2 * region_words) }
     ensures { Closed true result b s.old s.new }
 {
@@ -121,20 +110,15 @@ fn join_new(s: &mut [u64], b: usize) -> Round
     let new = b + 3 * sets::REGION;
     sets::subtract(s, new, given, all);
     if sets::size(s, new) == 0 {
-        return Round::Settled;
+        return Ok(Round::Settled);
     }
-    let united = unite(s, all, new);
-    match united {
-        Answer::Refused(n) => Round::Refused(n),
-        Answer::Done => {
-            sets::copy(s, given, new);
-            Round::Again
-        }
-    }
+    unite(s, all, new)?;
+    sets::copy(s, given, new);
+    Ok(Round::Again)
 }
 
-// At the end of a round, light or not.
-fn close_round(s: &mut [u64], light: bool, b: usize) -> Round
+// At the end of a round, light or not. A flag and no closure: the walk of an inner while goes on with it.
+fn close_round(s: &mut [u64], light: bool, b: usize) -> Result<Round, Refusal>
     requires { Closing b s.old }
     ensures { Closed light result b s.old s.new }
 {
@@ -142,20 +126,6 @@ fn close_round(s: &mut [u64], light: bool, b: usize) -> Round
         return join_new(s, b);
     }
     join_start(s, b)
-}
-
-// After the rounds of a while: what they came to, from the region after that at b.
-fn take_settled(s: &mut [u64], b: usize, given: Answer) -> Answer
-    requires { b + 2 * region_words ≤ length s.old }
-    ensures { TakenOver given result b s.old s.new }
-{
-    match given {
-        Answer::Refused(n) => Answer::Refused(n),
-        Answer::Done => {
-            sets::copy(s, b, b + sets::REGION);
-            Answer::Done
-        }
-    }
 }
 
 // ---- the labels
@@ -184,89 +154,80 @@ fn branch(
     e: usize,
     f: usize,
     m: Footprint,
-) -> Answer
+) -> Result<(), Refusal>
     requires { Flagged m most_inside 4 s.old depth b f × TwoPieces s.old depth p e f }
     ensures { Branches light result p e f b s.old s.new }
 {
     open_branch(s, b);
     let inner = b + 2 * sets::REGION;
-    match walk_with(s, depth, light, inner, p, e, m) {
-        Answer::Refused(n) => Answer::Refused(n),
-        Answer::Done => {
-            switch_branch(s, b);
-            match walk_with(s, depth, light, inner, e + 1, f, m) {
-                Answer::Refused(n) => Answer::Refused(n),
-                Answer::Done => close_branch(s, b),
-            }
-        }
-    }
+    walk_with(s, depth, light, inner, p, e, m)?;
+    switch_branch(s, b);
+    walk_with(s, depth, light, inner, e + 1, f, m)?;
+    close_branch(s, b)
 }
 
 // The rounds of a while whose body lies on the labels from p up to q, all light or none. The set that
 // they come to is in the region after that at b, whose own stays.
 #[cycle(branch_repeat_rounds_settle_turn_walk_in_walk_with)]
-fn rounds(s: &mut [u64], depth: usize, light: bool, b: usize, p: usize, q: usize) -> Answer
+fn rounds(
+    s: &mut [u64],
+    depth: usize,
+    light: bool,
+    b: usize,
+    p: usize,
+    q: usize,
+) -> Result<(), Refusal>
     requires { Ready most_inside 4 s.old depth b q × Piece s.old depth p q }
     ensures { Rounded light result p q b s.old s.new }
 {
     open_rounds(s, b);
     let inner = b + 2 * sets::REGION;
-    let mut k: usize = 0;
-    loop {
-        if MOST_ROUNDS <= k {
-            break Answer::Refused(11);
-        }
-        match walk_in(s, depth, light, inner, p, q) {
-            Answer::Refused(n) => {
-                break Answer::Refused(n);
-            }
-            Answer::Done => match close_round(s, light, b) {
-                Round::Settled => {
-                    break Answer::Done;
-                }
-                Round::Refused(n) => {
-                    break Answer::Refused(n);
-                }
-                Round::Again => {
-                    k += 1;
-                }
-            },
+    for _k in 0..MOST_ROUNDS {
+        walk_in(s, depth, light, inner, p, q)?;
+        if let Round::Settled = close_round(s, light, b)? {
+            return Ok(());
         }
     }
+    Err(Refusal::NeverSettles)
 }
 
 // The rounds as the definition has them: light ones first, and one round on all that they come to. Where
 // either refuses, the definition's own rounds decide.
 #[cycle(branch_repeat_rounds_settle_turn_walk_in_walk_with)]
-fn settle(s: &mut [u64], depth: usize, b: usize, p: usize, q: usize) -> Answer
+fn settle(s: &mut [u64], depth: usize, b: usize, p: usize, q: usize) -> Result<(), Refusal>
     requires { Ready most_inside 4 s.old depth b q × Piece s.old depth p q }
     ensures { Rounded false result p q b s.old s.new }
 {
-    match rounds(s, depth, true, b, p, q) {
-        Answer::Refused(n) => rounds(s, depth, false, b, p, q),
-        Answer::Done => {
-            let inner = b + 2 * sets::REGION;
-            sets::copy(s, inner, b + sets::REGION);
-            match walk_in(s, depth, false, inner, p, q) {
-                Answer::Refused(n) => rounds(s, depth, false, b, p, q),
-                Answer::Done => Answer::Done,
-            }
+    if rounds(s, depth, true, b, p, q).is_ok() {
+        let inner = b + 2 * sets::REGION;
+        sets::copy(s, inner, b + sets::REGION);
+        if walk_in(s, depth, false, inner, p, q).is_ok() {
+            return Ok(());
         }
     }
+    rounds(s, depth, false, b, p, q)
 }
 
 // A while whose body lies on the labels from p up to q.
 #[cycle(branch_repeat_rounds_settle_turn_walk_in_walk_with)]
-fn repeat(s: &mut [u64], depth: usize, light: bool, b: usize, p: usize, q: usize) -> Answer
+fn repeat(
+    s: &mut [u64],
+    depth: usize,
+    light: bool,
+    b: usize,
+    p: usize,
+    q: usize,
+) -> Result<(), Refusal>
     requires { Ready most_inside 4 s.old depth b q × Piece s.old depth p q }
     ensures { Loops light result p q b s.old s.new }
 {
     if light {
-        let given = rounds(s, depth, true, b, p, q);
-        return take_settled(s, b, given);
+        rounds(s, depth, true, b, p, q)?;
+    } else {
+        settle(s, depth, b, p, q)?;
     }
-    let given = settle(s, depth, b, p, q);
-    take_settled(s, b, given)
+    sets::copy(s, b, b + sets::REGION);
+    Ok(())
 }
 
 // One statement or block, on the labels from p up to q.
@@ -279,7 +240,7 @@ fn turn(
     p: usize,
     q: usize,
     m: Footprint,
-) -> Answer
+) -> Result<(), Refusal>
     requires { Flagged m most_nested 2 s.old depth b q × Single s.old depth p q }
     ensures { WalkedBy light (stmts s.old) (mates s.old) result p q b s.old s.new }
 {
@@ -307,35 +268,35 @@ fn walk_with(
     p: usize,
     q: usize,
     flags: Footprint,
-) -> Answer
+) -> Result<(), Refusal>
     requires { Flagged flags most_nested 2 s.old depth b q × Piece s.old depth p q }
     ensures { WalkedBy light (stmts s.old) (mates s.old) result p q b s.old s.new }
 {
     let mut m = flags;
     let mut r = footprint::spared_plain(s, m, p, q);
+    // A while: the label goes back by a statement or a block.
     while p < r {
         let l = beginning(s, r - 1);
         m = footprint::renewed(s, m, b, l, r);
-        if footprint::spares_all(s, m, l, r) {
-            r = footprint::spared_plain(s, m, p, l);
-        } else {
-            match turn(s, depth, light, b, l, r, m) {
-                Answer::Refused(n) => {
-                    return Answer::Refused(n);
-                }
-                Answer::Done => {
-                    m = footprint::flags_after(s, m, b, l, r);
-                    r = footprint::spared_plain(s, m, p, l);
-                }
-            }
+        if !footprint::spares_all(s, m, l, r) {
+            turn(s, depth, light, b, l, r, m)?;
+            m = footprint::flags_after(s, m, b, l, r);
         }
+        r = footprint::spared_plain(s, m, p, l);
     }
-    Answer::Done
+    Ok(())
 }
 
 // The same, with the flags of the set.
 #[cycle(branch_repeat_rounds_settle_turn_walk_in_walk_with)]
-fn walk_in(s: &mut [u64], depth: usize, light: bool, b: usize, p: usize, q: usize) -> Answer
+fn walk_in(
+    s: &mut [u64],
+    depth: usize,
+    light: bool,
+    b: usize,
+    p: usize,
+    q: usize,
+) -> Result<(), Refusal>
     requires { Ready most_nested 2 s.old depth b q × Piece s.old depth p q }
     ensures { WalkedBy light (stmts s.old) (mates s.old) result p q b s.old s.new }
 {
@@ -345,7 +306,7 @@ fn walk_in(s: &mut [u64], depth: usize, light: bool, b: usize, p: usize, q: usiz
 
 // The walk of the piece on the labels from p up to q on the set of the region at b. From that region
 // on, 2 * depth + 2 regions are its own.
-pub fn walk(s: &mut [u64], depth: usize, b: usize, p: usize, q: usize) -> Answer
+pub fn walk(s: &mut [u64], depth: usize, b: usize, p: usize, q: usize) -> Result<(), Refusal>
     requires { Ready most_nested 2 s.old depth b q × Piece s.old depth p q }
     ensures { Walked (stmts s.old) (mates s.old) result p q b s.old s.new }
 {

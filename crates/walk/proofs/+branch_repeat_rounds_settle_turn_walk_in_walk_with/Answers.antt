@@ -9,11 +9,9 @@ use Rattle.model.proofs.Walks.Laid.{laid_le}
 use Rattle.code_table.specs.Table.{table_of, stmts, mates, table_words}
 use Rattle.walk.proofs.Joining.{First, Other, first-branch-refused, other-branch-start, switched_table, other-branch-refused, both-tidy, both-joined}
 use Rattle.walk.proofs.Regions.{below-table, piece_on, inner_flagged, inner-ready, block-ready}
-use mathlib.Core.Bool.{false, true}
-use Rattle.walk.proofs.Rounding.{RoundsFrom, rounds-begin, never_settled, body_refused, closing, closing-refused, rounds-settled, next-round}
-use mathlib.Core.Logic.{inr}
-use Rattle.walk.proofs.Settling.{Afresh, afresh_ready, afresh_rounded, light_afresh, copied_tidy, copied_table, walked_afresh, confirmed, taken-over}
-use Rattle.walk.specs.Turn.{Loops}
+use mathlib.Core.Bool.{false}
+use Rattle.walk.proofs.Rounding.{RoundsFrom, never_settled, body_refused, closing, closing-refused, rounds-settled, next-round}
+use Rattle.walk.proofs.Settling.{Afresh, afresh_ready, afresh_rounded, light_afresh, copied_tidy, copied_table, walked_afresh, confirmed, done_if}
 use Rattle.code_table.specs.Statements.{stmt_from, instr_of, Known}
 use Rattle.code_table.proofs.Meanings.{plain-stmt, if-stmt, while-stmt}
 use Rattle.sets.specs.Region.{set_of}
@@ -22,12 +20,12 @@ use Rattle.walk.proofs.Entered.{Branching, Looping, begins, single-some, single_
 use Rattle.walk.proofs.ByKind.{plain-kind}
 use mathlib.Core.List.{List}
 use Rattle.model.specs.Sizes.{most_rows}
-use Rattle.footprint.specs.Footprints.{Labels, Follows}
-use Rattle.footprint.specs.declared.Footprint.{Footprint}
-use Rattle.rules.specs.declared.Answer.TheVariants.{Done}
+use Rattle.footprint.specs.Footprints.{Labels}
+use Rattle.std.specs.Prelude.{Ok}
+use Rattle.std.proofs.lemmas.Result.{err_from_is_err_and}
 use Rattle.walk.proofs.Walking.{Walking, walking_first, knows_here, renews, passes_over, finished, bounds, due, passes-block, turn-refused, turn-done}
 use Rattle.walk.proofs.+branch_repeat_rounds_settle_turn_walk_in_walk_with.Goals as goal
-use Rattle.walk.proofs.+branch_repeat_rounds_settle_turn_walk_in_walk_with.Goals.{branch-After-switch_branch, branch-After-walk_with, branch-Start, branch-After-walk_with-in-Done, rounds-After-open_rounds, settle-After-walk_in, settle-After-rounds, turn-In-11, turn-In-14, turn-In_default, turn-Start, walk_with-After-renewed-m, walk_with-At-loop-r, walk_with-After-turn, walk_with-After-beginning-l}
+use Rattle.walk.proofs.+branch_repeat_rounds_settle_turn_walk_in_walk_with.Goals.{branch-After-switch_branch, branch-After-walk_with, branch-Start, branch-After-walk_with-2, rounds-After-open_rounds, settle-After-rounds, settle-Then-is_ok, settle-Joined-is_ok, settle-then-is_ok+else-is_ok-2, settle-else-is_ok, turn-In-11, turn-In-14, turn-In_default, turn-Start, walk_with-After-renewed-m, walk_with-At-loop-r, walk_with-Joined-not-spares_all, walk_with-then-not-spares_all+in_ok-turn, walk_with-else-not-spares_all, walk_with-After-beginning-l}
 
 -- ---- `branch`
 
@@ -49,23 +47,23 @@ branch-first t c =
 branch-table : (t : ℕ) (c : branch-After-switch_branch t) → table_of 0 c.switch_branch.new.s ≡ table_of 0 c.args.s.now
 branch-table t c =
     switched_table c.args.light c.args.p c.args.e c.args.f c.args.b c.args.s.now c.walk_with.result c.walk_with.new.s (branch-first t (goal.at.branch-After-switch_branch t c).After-walk_with)
-    c.in-Done.is c.switch_branch.new.s c.switch_branch.auto.s c.switch_branch.ensures c.requires.0.ready.behind
+    c.in_ok-walk_with.was c.switch_branch.new.s c.switch_branch.auto.s c.switch_branch.ensures c.requires.0.ready.behind
 
 -- the other branch was walked
-branch-other : (t : ℕ) (c : branch-After-walk_with-in-Done t) → let g = c.args in
-    Other g.light g.p g.e g.f g.b g.s.now c.walk_with-in-Done.result c.walk_with-in-Done.new.s
+branch-other : (t : ℕ) (c : branch-After-walk_with-2 t) → let g = c.args in
+    Other g.light g.p g.e g.f g.b g.s.now c.walk_with-2.result c.walk_with-2.new.s
 branch-other t c =
     record {
       first-answer = c.walk_with.result;
       t = c.walk_with.new.s;
       u = c.switch_branch.new.s;
-      first = branch-first t (goal.at.branch-After-walk_with-in-Done t c).After-walk_with;
-      told = c.in-Done.is;
+      first = branch-first t (goal.at.branch-After-walk_with-2 t c).After-walk_with;
+      told = c.in_ok-walk_with.was;
       same_u = c.switch_branch.auto.s;
-      table = branch-table t (goal.at.branch-After-walk_with-in-Done t c).After-switch_branch;
+      table = branch-table t (goal.at.branch-After-walk_with-2 t c).After-switch_branch;
       switched = c.switch_branch.ensures;
-      same_length = c.walk_with-in-Done.auto.s;
-      walked = c.walk_with-in-Done.ensures;
+      same_length = c.walk_with-2.auto.s;
+      walked = c.walk_with-2.ensures;
     }
 
 -- the label of the else is a label before the end of the block
@@ -89,54 +87,54 @@ branch-walk_with-requires t c =
       ),
     )
 
-pub branch-switch_branch-requires : goal.branch-switch_branch-requires
-branch-switch_branch-requires t c =
-    omega (arith, c.open_branch.auto.s, c.walk_with.auto.s, c.requires.0.ready.room)
-
 pub branch-overflow_add-e : goal.branch-overflow_add-e
 branch-overflow_add-e t c =
     omega (arith, branch-else t (goal.at.branch-overflow_add-e t c).Start, c.requires.0.ready.knows.few)
 
-pub branch-walk_with-requires-in-Done : goal.branch-walk_with-requires-in-Done
-branch-walk_with-requires-in-Done t c =
+pub branch-walk_with-requires-2 : goal.branch-walk_with-requires-2
+branch-walk_with-requires-2 t c =
     let ready = c.requires.0.ready in
     let s = c.switch_branch.new.s in
     let kept : length s ≡ length c.args.s.now = c.switch_branch.auto.s ∙ c.walk_with.auto.s ∙ c.open_branch.auto.s in
     let same =
-    other-branch-start c.args.light c.args.p c.args.e c.args.f c.args.b c.args.s.now c.walk_with.result c.walk_with.new.s (branch-first t (goal.at.branch-walk_with-requires-in-Done t c).After-walk_with)
-    c.in-Done.is s c.switch_branch.auto.s c.switch_branch.ensures in (
+    other-branch-start c.args.light c.args.p c.args.e c.args.f c.args.b c.args.s.now c.walk_with.result c.walk_with.new.s (branch-first t (goal.at.branch-walk_with-requires-2 t c).After-walk_with)
+    c.in_ok-walk_with.was s c.switch_branch.auto.s c.switch_branch.ensures in (
       omega arith,
       (
-        inner_flagged c.args.m c.args.s.now s c.args.depth c.args.b c.args.f c.args.f c.requires.0 (branch-table t (goal.at.branch-walk_with-requires-in-Done t c).After-switch_branch) kept (omega arith) same,
-        piece_on c.args.s.now s (branch-table t (goal.at.branch-walk_with-requires-in-Done t c).After-switch_branch) c.args.depth (c.args.e + 1) c.args.f c.requires.1.other,
+        inner_flagged c.args.m c.args.s.now s c.args.depth c.args.b c.args.f c.args.f c.requires.0 (branch-table t (goal.at.branch-walk_with-requires-2 t c).After-switch_branch) kept (omega arith) same,
+        piece_on c.args.s.now s (branch-table t (goal.at.branch-walk_with-requires-2 t c).After-switch_branch) c.args.depth (c.args.e + 1) c.args.f c.requires.1.other,
       ),
     )
 
 pub branch-close_branch-requires : goal.branch-close_branch-requires
 branch-close_branch-requires t c =
     let tidy =
-    both-tidy c.args.light c.args.p c.args.e c.args.f c.args.b c.args.s.now c.walk_with-in-Done.result c.walk_with-in-Done.new.s (branch-other t (goal.at.branch-close_branch-requires t c).After-walk_with-in-Done)
-    c.in-Done-walk_with.is c.requires.1.first.code c.requires.1.other.code c.requires.1.first.lies c.requires.1.other.lies c.requires.0.ready.tidy in
+    both-tidy c.args.light c.args.p c.args.e c.args.f c.args.b c.args.s.now c.walk_with-2.result c.walk_with-2.new.s (branch-other t (goal.at.branch-close_branch-requires t c).After-walk_with-2)
+    c.in_ok-walk_with-2.was c.requires.1.first.code c.requires.1.other.code c.requires.1.first.lies c.requires.1.other.lies c.requires.0.ready.tidy in
     record {
-      room = omega (arith, c.open_branch.auto.s, c.walk_with.auto.s, c.switch_branch.auto.s, c.walk_with-in-Done.auto.s, c.requires.0.ready.room);
+      room = omega (arith, c.open_branch.auto.s, c.walk_with.auto.s, c.switch_branch.auto.s, c.walk_with-2.auto.s, c.requires.0.ready.room);
       tidy_one = tidy.0;
       tidy-other = tidy.1;
     }
 
-pub branch-returns-in-Refused : goal.branch-returns-in-Refused
-branch-returns-in-Refused t c =
+pub branch-returns-in_err-walk_with : goal.branch-returns-in_err-walk_with
+branch-returns-in_err-walk_with t c =
     let g = c.args in
-    first-branch-refused g.light g.p g.e g.f g.b g.s.now c.walk_with.result c.walk_with.new.s (branch-first t (goal.at.branch-returns-in-Refused t c).After-walk_with) _ c.in-Refused.is
+    let gone = err_from_is_err_and c.from_residual.result c.from_residual.ensures.1 in
+    rw (gone.1, gone.2)
+    (first-branch-refused g.light g.p g.e g.f g.b g.s.now c.walk_with.result c.walk_with.new.s (branch-first t (goal.at.branch-returns-in_err-walk_with t c).After-walk_with) _ c.in_err-walk_with.was)
 
-pub branch-returns-in-Refused-walk_with : goal.branch-returns-in-Refused-walk_with
-branch-returns-in-Refused-walk_with t c =
+pub branch-returns-in_err-walk_with-2 : goal.branch-returns-in_err-walk_with-2
+branch-returns-in_err-walk_with-2 t c =
     let g = c.args in
-    other-branch-refused g.light g.p g.e g.f g.b g.s.now c.walk_with-in-Done.result c.walk_with-in-Done.new.s (branch-other t (goal.at.branch-returns-in-Refused-walk_with t c).After-walk_with-in-Done) _ c.in-Refused-walk_with.is
+    let gone = err_from_is_err_and c.from_residual-in_err-walk_with-2.result c.from_residual-in_err-walk_with-2.ensures.1 in
+    rw (gone.1, gone.2)
+    (other-branch-refused g.light g.p g.e g.f g.b g.s.now c.walk_with-2.result c.walk_with-2.new.s (branch-other t (goal.at.branch-returns-in_err-walk_with-2 t c).After-walk_with-2) _ c.in_err-walk_with-2.was)
 
-pub branch-returns-in-Done-walk_with : goal.branch-returns-in-Done-walk_with
-branch-returns-in-Done-walk_with t c =
+pub branch-returns : goal.branch-returns
+branch-returns t c =
     let g = c.args in
-    both-joined g.light g.p g.e g.f g.b g.s.now c.walk_with-in-Done.result c.walk_with-in-Done.new.s (branch-other t (goal.at.branch-returns-in-Done-walk_with t c).After-walk_with-in-Done) c.in-Done-walk_with.is
+    both-joined g.light g.p g.e g.f g.b g.s.now c.walk_with-2.result c.walk_with-2.new.s (branch-other t (goal.at.branch-returns t c).After-walk_with-2) c.in_ok-walk_with-2.was
     c.close_branch.new.s c.close_branch.result c.close_branch.ensures
 
 -- ---- `rounds`
@@ -154,10 +152,6 @@ rounds-from t c =
       table = below-table c.args.b c.args.s.now c.open_rounds.new.s ready.behind (omega (arith, ready.room)) c.open_rounds.auto.s c.open_rounds.ensures.below;
     }
 
-pub rounds-loop-k-init : goal.rounds-loop-k-init
-rounds-loop-k-init t c =
-    rounds-begin c.args.light c.args.p c.args.q c.args.b c.args.s.now c.open_rounds.new.s (rounds-from t (goal.at.rounds-loop-k-init t c).After-open_rounds)
-
 pub rounds-walk_in-requires : goal.rounds-walk_in-requires
 rounds-walk_in-requires t c =
     let from = rounds-from t (goal.at.rounds-walk_in-requires t c).After-open_rounds in
@@ -174,38 +168,42 @@ rounds-walk_in-requires t c =
 
 pub rounds-close_round-requires : goal.rounds-close_round-requires
 rounds-close_round-requires t c =
-    closing c.args.light c.args.p c.args.q c.args.b c.args.s.now c.open_rounds.new.s (rounds-from t (goal.at.rounds-close_round-requires t c).After-open_rounds) c.loop-k.k c.loop-k.s c.loop-k.invariant
-    c.if-k-ge-MOST_ROUNDS.false c.walk_in.result c.walk_in.new.s c.walk_in.auto.s c.walk_in.ensures
-    c.in-Done.is c.requires.1.code c.requires.1.lies
+    closing c.args.light c.args.p c.args.q c.args.b c.args.s.now c.open_rounds.new.s (rounds-from t (goal.at.rounds-close_round-requires t c).After-open_rounds) c.loop-k._k c.loop-k.s c.loop-k.invariant
+    (omega arith) c.walk_in.result c.walk_in.new.s c.walk_in.auto.s c.walk_in.ensures
+    c.in_ok-walk_in.was c.requires.1.code c.requires.1.lies
 
-pub rounds-loop-k-preserved : goal.rounds-loop-k-preserved
-rounds-loop-k-preserved t c =
-    next-round c.args.light c.args.p c.args.q c.args.b c.args.s.now c.open_rounds.new.s (rounds-from t (goal.at.rounds-loop-k-preserved t c).After-open_rounds) c.loop-k.k c.loop-k.s c.loop-k.invariant
-    c.if-k-ge-MOST_ROUNDS.false c.walk_in.result c.walk_in.new.s c.walk_in.auto.s c.walk_in.ensures
-    c.in-Done.is c.close_round.new.s c.close_round.auto.s c.close_round.result c.close_round.ensures
-    c.in-Again.is c.requires.1.code c.requires.1.lies
+pub rounds-returns-in_err-walk_in : goal.rounds-returns-in_err-walk_in
+rounds-returns-in_err-walk_in t c =
+    let gone = err_from_is_err_and c.from_residual.result c.from_residual.ensures.1 in
+    rw (gone.1, gone.2)
+    (body_refused c.args.light c.args.p c.args.q c.args.b c.args.s.now c.open_rounds.new.s (rounds-from t (goal.at.rounds-returns-in_err-walk_in t c).After-open_rounds) c.loop-k._k c.loop-k.s c.loop-k.invariant
+    (omega arith) c.walk_in.result c.walk_in.new.s c.walk_in.auto.s c.walk_in.ensures _ c.in_err-walk_in.was)
 
-pub rounds-returns-then-k-ge-MOST_ROUNDS : goal.rounds-returns-then-k-ge-MOST_ROUNDS
-rounds-returns-then-k-ge-MOST_ROUNDS t c =
-    never_settled c.args.light c.args.p c.args.q c.args.b c.args.s.now c.open_rounds.new.s (rounds-from t (goal.at.rounds-returns-then-k-ge-MOST_ROUNDS t c).After-open_rounds) c.loop-k.k c.loop-k.s c.loop-k.invariant c.if-k-ge-MOST_ROUNDS.true
-
-pub rounds-returns-in-Refused : goal.rounds-returns-in-Refused
-rounds-returns-in-Refused t c =
-    body_refused c.args.light c.args.p c.args.q c.args.b c.args.s.now c.open_rounds.new.s (rounds-from t (goal.at.rounds-returns-in-Refused t c).After-open_rounds) c.loop-k.k c.loop-k.s c.loop-k.invariant
-    c.if-k-ge-MOST_ROUNDS.false c.walk_in.result c.walk_in.new.s c.walk_in.auto.s c.walk_in.ensures _ c.in-Refused.is
+pub rounds-returns-in_err-close_round : goal.rounds-returns-in_err-close_round
+rounds-returns-in_err-close_round t c =
+    let gone = err_from_is_err_and c.from_residual-in_err-close_round.result c.from_residual-in_err-close_round.ensures.1 in
+    rw (gone.1, gone.2)
+    (closing-refused c.args.light c.args.p c.args.q c.args.b c.args.s.now c.open_rounds.new.s (rounds-from t (goal.at.rounds-returns-in_err-close_round t c).After-open_rounds) c.loop-k._k c.loop-k.s c.loop-k.invariant
+    (omega arith) c.walk_in.result c.walk_in.new.s c.walk_in.auto.s c.walk_in.ensures
+    c.in_ok-walk_in.was c.close_round.new.s c.close_round.auto.s c.close_round.result c.close_round.ensures _ c.in_err-close_round.was)
 
 pub rounds-returns-in-Settled : goal.rounds-returns-in-Settled
 rounds-returns-in-Settled t c =
-    rounds-settled c.args.light c.args.p c.args.q c.args.b c.args.s.now c.open_rounds.new.s (rounds-from t (goal.at.rounds-returns-in-Settled t c).After-open_rounds) c.loop-k.k c.loop-k.s c.loop-k.invariant
-    c.if-k-ge-MOST_ROUNDS.false c.walk_in.result c.walk_in.new.s c.walk_in.auto.s c.walk_in.ensures
-    c.in-Done.is c.close_round.new.s c.close_round.auto.s c.close_round.result c.close_round.ensures
-    c.in-Settled.is
+    rounds-settled c.args.light c.args.p c.args.q c.args.b c.args.s.now c.open_rounds.new.s (rounds-from t (goal.at.rounds-returns-in-Settled t c).After-open_rounds) c.loop-k._k c.loop-k.s c.loop-k.invariant
+    (omega arith) c.walk_in.result c.walk_in.new.s c.walk_in.auto.s c.walk_in.ensures
+    c.in_ok-walk_in.was c.close_round.new.s c.close_round.auto.s c.close_round.result c.close_round.ensures
+    (c.in_ok-close_round.was ∙ ap Ok c.in-Settled.is)
 
-pub rounds-returns-in-Refused-close_round : goal.rounds-returns-in-Refused-close_round
-rounds-returns-in-Refused-close_round t c =
-    closing-refused c.args.light c.args.p c.args.q c.args.b c.args.s.now c.open_rounds.new.s (rounds-from t (goal.at.rounds-returns-in-Refused-close_round t c).After-open_rounds) c.loop-k.k c.loop-k.s c.loop-k.invariant
-    c.if-k-ge-MOST_ROUNDS.false c.walk_in.result c.walk_in.new.s c.walk_in.auto.s c.walk_in.ensures
-    c.in-Done.is c.close_round.new.s c.close_round.auto.s c.close_round.result c.close_round.ensures _ c.in-Refused-close_round.is
+pub rounds-loop-k-preserved : goal.rounds-loop-k-preserved
+rounds-loop-k-preserved t c =
+    next-round c.args.light c.args.p c.args.q c.args.b c.args.s.now c.open_rounds.new.s (rounds-from t (goal.at.rounds-loop-k-preserved t c).After-open_rounds) c.loop-k._k c.loop-k.s c.loop-k.invariant
+    (omega arith) c.walk_in.result c.walk_in.new.s c.walk_in.auto.s c.walk_in.ensures
+    c.in_ok-walk_in.was c.close_round.new.s c.close_round.auto.s c.close_round.result c.close_round.ensures
+    (c.in_ok-close_round.was ∙ ap Ok c.in_default.is) c.requires.1.code c.requires.1.lies
+
+pub rounds-returns : goal.rounds-returns
+rounds-returns t c =
+    never_settled c.args.light c.args.p c.args.q c.args.b c.args.s.now c.open_rounds.new.s (rounds-from t (goal.at.rounds-returns t c).After-open_rounds) c.loop-k._k c.loop-k.s c.loop-k.invariant (omega arith)
 
 -- ---- `settle`
 
@@ -216,50 +214,21 @@ settle_afresh t c =
     light_afresh c.args.p c.args.q c.args.b c.args.s.now ready.behind (omega (arith, ready.room)) ready.tidy c.rounds.new.s c.rounds.auto.s
     c.rounds.result c.rounds.ensures
 
--- and behind the round
-settle_round : (t : ℕ) (c : settle-After-walk_in t) → let g = c.args in
-    Afresh g.p g.q g.b g.s.now c.walk_in.new.s
-settle_round t c =
-    let ready = c.requires.0 in
-    walked_afresh c.args.p c.args.q c.args.b c.args.s.now ready.behind (omega (arith, ready.room)) ready.tidy c.rounds.new.s c.rounds.auto.s
-    c.rounds.result c.rounds.ensures c.in-Done.is c.copy.new.s c.copy.auto.s c.copy.ensures.0 c.copy.ensures.1
-    c.walk_in.new.s c.walk_in.auto.s c.walk_in.result c.walk_in.ensures
-
-pub settle-rounds-requires : goal.settle-rounds-requires
-settle-rounds-requires t c = (omega arith, c.requires)
-
-pub settle-rounds-requires-in-Refused : goal.settle-rounds-requires-in-Refused
-settle-rounds-requires-in-Refused t c =
-    let afresh = settle_afresh t (goal.at.settle-rounds-requires-in-Refused t c).After-rounds in (
-      omega arith,
-      (
-        afresh_ready c.args.p c.args.q c.args.b c.args.s.now c.rounds.new.s c.args.depth afresh c.requires.0,
-        piece_on c.args.s.now c.rounds.new.s afresh.table c.args.depth c.args.p c.args.q c.requires.1,
-      ),
-    )
-
-pub settle-overflow_add-inner : goal.settle-overflow_add-inner
-settle-overflow_add-inner t c =
-    omega (arith, c.requires.0.room, c.rounds.auto.s)
-
-pub settle-overflow_add-b : goal.settle-overflow_add-b
-settle-overflow_add-b t c =
-    omega (arith, c.requires.0.room, c.rounds.auto.s)
-
-pub settle-copy-requires : goal.settle-copy-requires
-settle-copy-requires t c =
-    record { first = omega (arith, c.requires.0.room, c.rounds.auto.s); second = omega (arith, c.requires.0.room, c.rounds.auto.s); apart = inr (omega arith) }
+-- they gave a set
+settle_told : (t : ℕ) (c : settle-Then-is_ok t) → c.rounds.result ≡ Ok tt
+settle_told t c = done_if c.rounds.result (sym c.is_ok.ensures.value ∙ c.if-is_ok.true)
 
 pub settle-walk_in-requires : goal.settle-walk_in-requires
 settle-walk_in-requires t c =
     let ready = c.requires.0 in
     let piece = c.requires.1 in
+    let told = settle_told t (goal.at.settle-walk_in-requires t c).Then-is_ok in
     let table =
     copied_table c.args.p c.args.q c.args.b c.args.s.now ready.behind (omega (arith, ready.room)) ready.tidy c.rounds.new.s c.rounds.auto.s
-    c.rounds.result c.rounds.ensures c.in-Done.is c.copy.new.s c.copy.auto.s c.copy.ensures.0 c.copy.ensures.1 in
+    c.rounds.result c.rounds.ensures told c.copy.new.s c.copy.auto.s c.copy.ensures.0 c.copy.ensures.1 in
     let tidy =
     copied_tidy c.args.p c.args.q c.args.b c.args.s.now ready.behind (omega (arith, ready.room)) ready.tidy c.rounds.new.s c.rounds.auto.s
-    c.rounds.result c.rounds.ensures c.in-Done.is c.copy.new.s c.copy.auto.s c.copy.ensures.0 c.copy.ensures.1 piece.code piece.lies in (
+    c.rounds.result c.rounds.ensures told c.copy.new.s c.copy.auto.s c.copy.ensures.0 c.copy.ensures.1 piece.code piece.lies in (
       omega arith,
       (
         inner-ready c.args.s.now c.copy.new.s c.args.depth c.args.b c.args.q c.args.q ready table (c.copy.auto.s ∙ c.rounds.auto.s) (omega arith) tidy,
@@ -267,60 +236,37 @@ settle-walk_in-requires t c =
       ),
     )
 
-pub settle-rounds-requires-in-Refused-walk_in : goal.settle-rounds-requires-in-Refused-walk_in
-settle-rounds-requires-in-Refused-walk_in t c =
-    let afresh = settle_round t (goal.at.settle-rounds-requires-in-Refused-walk_in t c).After-walk_in in (
-      omega arith,
-      (
-        afresh_ready c.args.p c.args.q c.args.b c.args.s.now c.walk_in.new.s c.args.depth afresh c.requires.0,
-        piece_on c.args.s.now c.walk_in.new.s afresh.table c.args.depth c.args.p c.args.q c.requires.1,
-      ),
-    )
-
-pub settle-returns-in-Refused : goal.settle-returns-in-Refused
-settle-returns-in-Refused t c =
-    let g = c.args in
-    afresh_rounded g.p g.q g.b g.s.now c.rounds.new.s c.rounds-in-Refused.new.s false c.rounds-in-Refused.result (settle_afresh t (goal.at.settle-returns-in-Refused t c).After-rounds) c.rounds-in-Refused.ensures
-
-pub settle-returns-in-Refused-walk_in : goal.settle-returns-in-Refused-walk_in
-settle-returns-in-Refused-walk_in t c =
-    let g = c.args in
-    afresh_rounded g.p g.q g.b g.s.now c.walk_in.new.s c.rounds-in-Refused-walk_in.new.s false c.rounds-in-Refused-walk_in.result (settle_round t (goal.at.settle-returns-in-Refused-walk_in t c).After-walk_in) c.rounds-in-Refused-walk_in.ensures
-
-pub settle-returns-in-Done-walk_in : goal.settle-returns-in-Done-walk_in
-settle-returns-in-Done-walk_in t c =
+pub settle-returns-then-is_ok-2 : goal.settle-returns-then-is_ok-2
+settle-returns-then-is_ok-2 t c =
     let ready = c.requires.0 in
     confirmed c.args.p c.args.q c.args.b c.args.s.now ready.behind (omega (arith, ready.room)) ready.tidy c.rounds.new.s c.rounds.auto.s
-    c.rounds.result c.rounds.ensures c.in-Done.is c.copy.new.s c.copy.auto.s c.copy.ensures.0 c.copy.ensures.1
-    c.walk_in.new.s c.walk_in.auto.s c.walk_in.result c.walk_in.ensures c.in-Done-walk_in.is
+    c.rounds.result c.rounds.ensures (settle_told t (goal.at.settle-returns-then-is_ok-2 t c).Then-is_ok) c.copy.new.s c.copy.auto.s c.copy.ensures.0 c.copy.ensures.1
+    c.walk_in.new.s c.walk_in.auto.s c.walk_in.result c.walk_in.ensures (done_if c.walk_in.result (sym c.is_ok-then-is_ok.ensures.value ∙ c.if-is_ok-2.true))
 
--- ---- `repeat`
-
-pub repeat-rounds-given-requires : goal.repeat-rounds-given-requires
-repeat-rounds-given-requires t c = (omega arith, c.requires)
-
-pub repeat-take_settled-requires : goal.repeat-take_settled-requires
-repeat-take_settled-requires t c =
-    omega (arith, c.requires.0.room, c.rounds-given.auto.s)
-
-pub repeat-returns-then-light : goal.repeat-returns-then-light
-repeat-returns-then-light t c =
+-- the while may be begun again where either was refused
+settle_before : (t : ℕ) (c : settle-Joined-is_ok t) → let g = c.args in Afresh g.p g.q g.b g.s.now c.if-is_ok.s
+settle_before t c =
     let g = c.args in
-    subst (λ z. Loops z c.take_settled.result g.p g.q g.b g.s.now c.take_settled.new.s) (sym c.if-light.true)
-    (taken-over true g.p g.q g.b g.s.now c.rounds-given.new.s c.take_settled.new.s c.rounds-given.result c.take_settled.result c.rounds-given.ensures c.take_settled.ensures)
+    let ready = c.requires.0 in
+    elim c.if-is_ok.branch [
+      | settle-then-is_ok+else-is_ok-2 w ↦
+          rw w.s-is
+          (walked_afresh g.p g.q g.b g.s.now ready.behind (omega (arith, ready.room)) ready.tidy c.rounds.new.s c.rounds.auto.s
+          c.rounds.result c.rounds.ensures (done_if c.rounds.result (sym c.is_ok.ensures.value ∙ w.if-is_ok.true)) w.copy.new.s w.copy.auto.s w.copy.ensures.0 w.copy.ensures.1
+          w.walk_in.new.s w.walk_in.auto.s w.walk_in.result w.walk_in.ensures)
+      | settle-else-is_ok w ↦ rw w.s-is (settle_afresh t (goal.at.settle-Joined-is_ok t c).After-rounds)
+    ]
 
-pub repeat-settle-given-requires : goal.repeat-settle-given-requires
-repeat-settle-given-requires t c = (omega arith, c.requires)
-
-pub repeat-take_settled-requires-2 : goal.repeat-take_settled-requires-2
-repeat-take_settled-requires-2 t c =
-    omega (arith, c.requires.0.room, c.settle-given.auto.s)
-
-pub repeat-returns : goal.repeat-returns
-repeat-returns t c =
+pub settle-rounds-requires-2 : goal.settle-rounds-requires-2
+settle-rounds-requires-2 t c =
     let g = c.args in
-    subst (λ z. Loops z c.take_settled-2.result g.p g.q g.b g.s.now c.take_settled-2.new.s) (sym c.if-light.false)
-    (taken-over false g.p g.q g.b g.s.now c.settle-given.new.s c.take_settled-2.new.s c.settle-given.result c.take_settled-2.result c.settle-given.ensures c.take_settled-2.ensures)
+    let afresh = settle_before t (goal.at.settle-rounds-requires-2 t c).Joined-is_ok in
+    (omega arith, (afresh_ready g.p g.q g.b g.s.now c.if-is_ok.s g.depth afresh c.requires.0, piece_on g.s.now c.if-is_ok.s afresh.table g.depth g.p g.q c.requires.1))
+
+pub settle-returns : goal.settle-returns
+settle-returns t c =
+    let g = c.args in
+    afresh_rounded g.p g.q g.b g.s.now c.if-is_ok.s c.rounds-2.new.s false c.rounds-2.result (settle_before t (goal.at.settle-returns t c).Joined-is_ok) c.rounds-2.ensures
 
 -- ---- `turn`
 
@@ -356,17 +302,11 @@ pub turn-fetch-d-requires : goal.turn-fetch-d-requires
 turn-fetch-d-requires t c =
     (omega (arith, c.requires.0.ready.behind, c.requires.0.ready.room), omega (arith, turn-some t (goal.at.turn-fetch-d-requires t c).Start, c.requires.0.ready.knows.few))
 
-pub turn-mate-other-requires : goal.turn-mate-other-requires
-turn-mate-other-requires t c = omega (arith, c.requires.0.ready.behind, c.requires.0.ready.room)
-
 pub turn-overflow_sub-depth : goal.turn-overflow_sub-depth
 turn-overflow_sub-depth t c = (turn_branches t (goal.at.turn-overflow_sub-depth t c).In-11).deep
 
 pub turn-overflow_add-p : goal.turn-overflow_add-p
 turn-overflow_add-p t c = omega (arith, turn-some t (goal.at.turn-overflow_add-p t c).Start, c.requires.0.ready.knows.few)
-
-pub turn-overflow_sub-q : goal.turn-overflow_sub-q
-turn-overflow_sub-q t c = omega (arith, turn-some t (goal.at.turn-overflow_sub-q t c).Start)
 
 pub turn-branch-s-requires : goal.turn-branch-s-requires
 turn-branch-s-requires t c =
@@ -398,9 +338,6 @@ turn-overflow_sub-depth-in-14 t c = (turn_body t (goal.at.turn-overflow_sub-dept
 
 pub turn-overflow_add-p-in-14 : goal.turn-overflow_add-p-in-14
 turn-overflow_add-p-in-14 t c = omega (arith, turn-some t (goal.at.turn-overflow_add-p-in-14 t c).Start, c.requires.0.ready.knows.few)
-
-pub turn-overflow_sub-q-in-14 : goal.turn-overflow_sub-q-in-14
-turn-overflow_sub-q-in-14 t c = omega (arith, turn-some t (goal.at.turn-overflow_sub-q-in-14 t c).Start)
 
 pub turn-repeat-requires : goal.turn-repeat-requires
 turn-repeat-requires t c =
@@ -452,16 +389,6 @@ turn-returns-in_default t c =
 
 -- ---- `walk_in`
 
-pub walk_in-of_set-m-requires : goal.walk_in-of_set-m-requires
-walk_in-of_set-m-requires t c = omega (arith, c.requires.0.room)
-
-pub walk_in-walk_with-requires : goal.walk_in-walk_with-requires
-walk_in-walk_with-requires t c =
-    (omega arith, (record { ready = c.requires.0; covers = c.of_set-m.ensures }, c.requires.1))
-
-pub walk_in-returns : goal.walk_in-returns
-walk_in-returns t c = c.walk_with.ensures
-
 -- ---- `walk_with`
 
 -- where the last statement or block lies
@@ -496,14 +423,23 @@ walk_with_renewed t c =
     renews c.args.light c.args.s.now c.args.depth c.args.b c.args.p c.args.q c.loop-r.s c.loop-r.m c.loop-r.r c.loop-r.invariant c.renewed-m.result c.renewed-m.ensures
 
 -- the walk behind its last statement or block
-walk_with_turned : (t : ℕ) (c : walk_with-After-turn t) → c.turn.result ≡ Done → (m : Footprint)
-    → Follows c.renewed-m.result m (stmts c.turn.new.s) c.beginning-l.result c.loop-r.r (set_of c.turn.new.s c.args.b)
-    → Walking c.args.light c.args.s.now c.args.depth c.args.b c.args.p c.args.q c.turn.new.s m c.beginning-l.result
-walk_with_turned t c e m flags =
+walk_with_turned : (t : ℕ) (c : walk_with-Joined-not-spares_all t)
+    → Walking c.args.light c.args.s.now c.args.depth c.args.b c.args.p c.args.q c.if-not-spares_all.s c.if-not-spares_all.m c.beginning-l.result
+walk_with_turned t c =
+    let g = c.args in
     let ready = c.requires.0.ready in
-    turn-done c.args.light c.args.s.now c.args.depth c.args.b c.args.p c.args.q c.loop-r.s c.renewed-m.result c.loop-r.r (walk_with_renewed t (goal.at.walk_with-After-turn t c).After-renewed-m) c.beginning-l.result
-    c.loop-r-test.true c.beginning-l.ensures c.turn.new.s c.turn.result c.turn.ensures e ready.behind
-    (omega (arith, ready.room)) c.turn.auto.s m flags
+    let renewed = walk_with_renewed t (goal.at.walk_with-Joined-not-spares_all t c).After-renewed-m in
+    elim c.if-not-spares_all.branch [
+      | walk_with-then-not-spares_all+in_ok-turn w ↦
+          rw (w.s-is, w.m-is)
+          (turn-done g.light g.s.now g.depth g.b g.p g.q c.loop-r.s c.renewed-m.result c.loop-r.r renewed c.beginning-l.result
+          c.loop-r-test.true c.beginning-l.ensures w.turn.new.s w.turn.result w.turn.ensures w.in_ok-turn.was ready.behind
+          (omega (arith, ready.room)) w.turn.auto.s w.flags_after-m.result w.flags_after-m.ensures)
+      | walk_with-else-not-spares_all w ↦
+          rw (w.s-is, w.m-is)
+          (passes-block g.light g.s.now g.depth g.b g.p g.q c.loop-r.s c.renewed-m.result c.loop-r.r renewed c.beginning-l.result
+          c.loop-r-test.true c.beginning-l.ensures (c.spares_all.ensures w.if-not-spares_all.false))
+    ]
 
 pub walk_with-spared_plain-r-requires : goal.walk_with-spared_plain-r-requires
 walk_with-spared_plain-r-requires t c =
@@ -521,31 +457,12 @@ walk_with-loop-r-init t c =
     let first = walking_first c.args.light c.args.s.now c.args.depth c.args.b c.args.p c.args.q m c.requires.0 c.requires.1 in
     passes_over c.args.light c.args.s.now c.args.depth c.args.b c.args.p c.args.q c.args.s.now m c.args.q first c.spared_plain-r.result c.spared_plain-r.ensures
 
-pub walk_with-beginning-l-requires : goal.walk_with-beginning-l-requires
-walk_with-beginning-l-requires t c =
-    let room = walk_with_room t (goal.at.walk_with-beginning-l-requires t c).At-loop-r in
-    (room.0, omega (arith, room.1, c.loop-r-test.true))
-
 pub walk_with-renewed-m-requires : goal.walk_with-renewed-m-requires
 walk_with-renewed-m-requires t c =
     (walk_with_labels t c c.loop-r.s refl, record { there = omega (arith, c.requires.0.ready.room, c.loop-r.invariant.same_length); covers = c.loop-r.invariant.covers })
 
 pub walk_with-spares_all-requires : goal.walk_with-spares_all-requires
 walk_with-spares_all-requires t c = walk_with_labels t (goal.at.walk_with-spares_all-requires t c).After-beginning-l c.loop-r.s refl
-
-pub walk_with-spared_plain-r-requires-then-spares_all : goal.walk_with-spared_plain-r-requires-then-spares_all
-walk_with-spared_plain-r-requires-then-spares_all t c = walk_with_before t (goal.at.walk_with-spared_plain-r-requires-then-spares_all t c).After-beginning-l c.loop-r.s refl
-
-pub walk_with-loop-r-smaller-then-spares_all : goal.walk_with-loop-r-smaller-then-spares_all
-walk_with-loop-r-smaller-then-spares_all t c = omega (arith, (walk_with_bounds t (goal.at.walk_with-loop-r-smaller-then-spares_all t c).After-beginning-l).1, c.spared_plain-r-then-spares_all.ensures.most)
-
-pub walk_with-loop-r-preserved-then-spares_all : goal.walk_with-loop-r-preserved-then-spares_all
-walk_with-loop-r-preserved-then-spares_all t c =
-    let passed =
-    passes-block c.args.light c.args.s.now c.args.depth c.args.b c.args.p c.args.q c.loop-r.s c.renewed-m.result c.loop-r.r (walk_with_renewed t (goal.at.walk_with-loop-r-preserved-then-spares_all t c).After-renewed-m) c.beginning-l.result
-    c.loop-r-test.true c.beginning-l.ensures (c.spares_all.ensures c.if-spares_all.true) in
-    passes_over c.args.light c.args.s.now c.args.depth c.args.b c.args.p c.args.q c.loop-r.s c.renewed-m.result c.beginning-l.result passed
-    c.spared_plain-r-then-spares_all.result c.spared_plain-r-then-spares_all.ensures
 
 pub walk_with-turn-requires : goal.walk_with-turn-requires
 walk_with-turn-requires t c =
@@ -567,27 +484,29 @@ walk_with-turn-requires t c =
       ),
     )
 
-pub walk_with-returns-in-Refused : goal.walk_with-returns-in-Refused
-walk_with-returns-in-Refused t c =
-    turn-refused c.args.light c.args.s.now c.args.depth c.args.b c.args.p c.args.q c.loop-r.s c.loop-r.m c.loop-r.r c.loop-r.invariant c.beginning-l.result
-    c.loop-r-test.true c.beginning-l.ensures c.turn.new.s c.turn.result c.turn.ensures _ c.in-Refused.is
+pub walk_with-returns-in_err-turn : goal.walk_with-returns-in_err-turn
+walk_with-returns-in_err-turn t c =
+    let gone = err_from_is_err_and c.from_residual.result c.from_residual.ensures.1 in
+    rw (gone.1, gone.2)
+    (turn-refused c.args.light c.args.s.now c.args.depth c.args.b c.args.p c.args.q c.loop-r.s c.loop-r.m c.loop-r.r c.loop-r.invariant c.beginning-l.result
+    c.loop-r-test.true c.beginning-l.ensures c.turn.new.s c.turn.result c.turn.ensures _ c.in_err-turn.was)
 
 pub walk_with-flags_after-m-requires : goal.walk_with-flags_after-m-requires
 walk_with-flags_after-m-requires t c =
     (walk_with_labels t (goal.at.walk_with-flags_after-m-requires t c).After-beginning-l c.turn.new.s c.turn.auto.s, omega (arith, c.requires.0.ready.room, c.loop-r.invariant.same_length, c.turn.auto.s))
 
-pub walk_with-spared_plain-r-requires-in-Done : goal.walk_with-spared_plain-r-requires-in-Done
-walk_with-spared_plain-r-requires-in-Done t c =
-    walk_with_before t (goal.at.walk_with-spared_plain-r-requires-in-Done t c).After-beginning-l c.turn.new.s c.turn.auto.s
+pub walk_with-spared_plain-r-requires-in-loop-r : goal.walk_with-spared_plain-r-requires-in-loop-r
+walk_with-spared_plain-r-requires-in-loop-r t c =
+    walk_with_before t (goal.at.walk_with-spared_plain-r-requires-in-loop-r t c).After-beginning-l c.if-not-spares_all.s c.if-not-spares_all.auto.s
 
 pub walk_with-loop-r-smaller : goal.walk_with-loop-r-smaller
 walk_with-loop-r-smaller t c =
-    omega (arith, (walk_with_bounds t (goal.at.walk_with-loop-r-smaller t c).After-beginning-l).1, c.spared_plain-r-in-Done.ensures.most)
+    omega (arith, (walk_with_bounds t (goal.at.walk_with-loop-r-smaller t c).After-beginning-l).1, c.spared_plain-r-in-loop-r.ensures.most)
 
 pub walk_with-loop-r-preserved : goal.walk_with-loop-r-preserved
 walk_with-loop-r-preserved t c =
-    passes_over c.args.light c.args.s.now c.args.depth c.args.b c.args.p c.args.q c.turn.new.s c.flags_after-m.result c.beginning-l.result
-    (walk_with_turned t (goal.at.walk_with-loop-r-preserved t c).After-turn c.in-Done.is c.flags_after-m.result c.flags_after-m.ensures) c.spared_plain-r-in-Done.result c.spared_plain-r-in-Done.ensures
+    passes_over c.args.light c.args.s.now c.args.depth c.args.b c.args.p c.args.q c.if-not-spares_all.s c.if-not-spares_all.m c.beginning-l.result
+    (walk_with_turned t (goal.at.walk_with-loop-r-preserved t c).Joined-not-spares_all) c.spared_plain-r-in-loop-r.result c.spared_plain-r-in-loop-r.ensures
 
 pub walk_with-returns : goal.walk_with-returns
 walk_with-returns t c =

@@ -6,7 +6,7 @@ use lib.ListN.{length}
 use borrow.Author.Rules.{rules}
 use Rattle.sets.specs.Region.{region_words, set_of}
 use Rattle.walk.proofs.Closings.{nothing-new, new-tidy, all-tidy, new-refused, new-again}
-use Rattle.walk.proofs.Regions.{answer-done, answer-refused}
+use Rattle.std.proofs.lemmas.Result.{err_from_is_err_and}
 use Rattle.walk.proofs.join_new.Goals as goal
 use Rattle.walk.proofs.join_new.Goals.{Else-size-eq0}
 
@@ -27,8 +27,8 @@ returns-then-size-eq0 c =
     nothing-new c.args.s.now c.subtract.new.s c.args.b c.requires.room c.subtract.auto.s c.subtract.ensures.0 c.subtract.ensures.1
     (omega (arith, c.size.ensures.0, c.if-size-eq0.true))
 
-pub unite-united-requires : goal.unite-united-requires
-unite-united-requires c =
+pub unite-requires : goal.unite-requires
+unite-requires c =
     let new = new-tidy c.args.s.now c.subtract.new.s c.args.b c.requires.room c.subtract.auto.s c.subtract.ensures.0 c.subtract.ensures.1 c.requires.tidy-other in
     let all = all-tidy c.args.s.now c.subtract.new.s c.args.b c.requires.room c.subtract.auto.s c.subtract.ensures.0 c.subtract.ensures.1 c.requires.tidy_one in
     record { apart = record { first = search rules; second = search rules; apart = inl (omega arith) }; added = new; own = all }
@@ -36,14 +36,15 @@ unite-united-requires c =
 pub copy-requires : goal.copy-requires
 copy-requires c = record { first = search rules; second = search rules; apart = inl (omega arith) }
 
-pub returns-in-Refused : goal.returns-in-Refused
-returns-in-Refused c =
-    new-refused c.args.s.now c.subtract.new.s c.args.b c.requires.room c.subtract.auto.s c.subtract.ensures.0 c.subtract.ensures.1
-    (some (goal.at.returns-in-Refused c).Else-size-eq0) c.unite-united.new.s c.unite-united.auto.s c.unite-united.ensures.1 _
-    (answer-refused c.unite-united.result _ _ _ c.unite-united.ensures.0 c.in-Refused.is)
+pub returns-in_err-unite : goal.returns-in_err-unite
+returns-in_err-unite c =
+    let gone = err_from_is_err_and c.from_residual.result c.from_residual.ensures.1 in
+    rw (gone.1, gone.2)
+    (new-refused c.args.s.now c.subtract.new.s c.args.b c.requires.room c.subtract.auto.s c.subtract.ensures.0 c.subtract.ensures.1
+    (some (goal.at.returns-in_err-unite c).Else-size-eq0) c.unite.new.s c.unite.auto.s c.unite.ensures.1 c.in_err-unite.field-0.0 c.in_err-unite.ensures.0)
 
-pub returns-in-Done : goal.returns-in-Done
-returns-in-Done c =
+pub returns : goal.returns
+returns c =
     new-again c.args.s.now c.subtract.new.s c.args.b c.requires.room c.subtract.auto.s c.subtract.ensures.0 c.subtract.ensures.1
-    (some (goal.at.returns-in-Done c).Else-size-eq0) c.unite-united.new.s c.unite-united.auto.s c.unite-united.ensures.1
-    (answer-done c.unite-united.result _ _ c.unite-united.ensures.0 c.in-Done.is) c.copy.new.s c.copy.auto.s c.copy.ensures.0 c.copy.ensures.1
+    (some (goal.at.returns c).Else-size-eq0) c.unite.new.s c.unite.auto.s c.unite.ensures.1 c.in_ok-unite.ensures.0
+    c.copy.new.s c.copy.auto.s c.copy.ensures.0 c.copy.ensures.1
