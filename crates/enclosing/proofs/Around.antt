@@ -14,7 +14,7 @@ use Rattle.model.proofs.Walks.Laid.{laid_le}
 use Rattle.model.proofs.Basics.Results.{bind_assoc}
 use Rattle.conjunct.proofs.node.WordOrder.{Tri, less, equal, more, tri}
 use Rattle.enclosing.specs.Blocks.{block_end_lem, NoneFrom, Innermost}
-use Rattle.enclosing.specs.declared.Block.TheVariants.{At}
+use Rattle.std.specs.Prelude.{Some}
 
 -- by cases on the order of two numbers
 by_order : {P : Type 0} {m n : ℕ} → Tri m n → (m < n → P) → (m ≡ n → P) → (n < m → P) → P
@@ -67,7 +67,7 @@ module _ (stmt : ℕ → Stmt) (mate : ℕ → ℕ) where
       closed rest (suc f) q h.1.3 s i b))
 
   -- the innermost block begins at r, if that block is around i and none that begins between is
-  only : (i r f t : ℕ) → Innermost stmt mate i (At t) → r < i → ending r ≡ f → i < f → ((s : ℕ) → r < s → s < i → ending s ≤ i) → r ≡ t
+  only : (i r f t : ℕ) → Innermost stmt mate i (Some t) → r < i → ending r ≡ f → i < f → ((s : ℕ) → r < s → s < i → ending s ≤ i) → r ≡ t
   only i r f t h a e b k =
       by_order (tri r t) (λ j. absurd (omega (arith, k t j h.0, h.1))) (λ j. j) (λ j. absurd (omega (arith, h.2 r j a)))
 
@@ -102,7 +102,7 @@ module _ (stmt : ℕ → Stmt) (mate : ℕ → ℕ) where
       of_no : (v : ℕ) → stmt r ≡ if v → mate r < i → Back w r (suc (mate r)) → Around w r
       of_while : (v : ℕ) → stmt r ≡ while v → Round w r → Around w r
 
-    pub around : {i q : ℕ} (w : Enclosing stmt mate n i q) (t : ℕ) → i < q → Innermost stmt mate i (At t) → Around w t
+    pub around : {i q : ℕ} (w : Enclosing stmt mate n i q) (t : ℕ) → i < q → Innermost stmt mate i (Some t) → Around w t
     unfolding walk_out_lem walk
     around (top i d l k) t b h = absurd (omega (arith, h.1, closed d 0 i l t (omega arith) h.0))
     around (in_yes i r v e f q d at a c l k w) t b h =

@@ -15,11 +15,10 @@ use Rattle.model.specs.Walk.{walk}
 use Rattle.model.proofs.Walks.Rising.{enclosing_end}
 use Rattle.code_table.specs.Table.{row_in, stmt_in, mate_in}
 use Rattle.code_table.proofs.Meanings.{while-stmt}
-use Rattle.rules.specs.Answers.{answered}
-use Rattle.rules.specs.declared.Answer.{Answer}
+use Rattle.rules.specs.Answers.{Answer, answered}
 use Rattle.walk.proofs.Unique.{if-while}
 use Rattle.enclosing.specs.Blocks.{NoneFrom, Innermost}
-use Rattle.enclosing.specs.declared.Block.TheVariants.{At}
+use Rattle.std.specs.Prelude.{Some}
 use Rattle.enclosing.specs.Enclosing.{EnclosedIn, Enclosed, WalksOut, LeavesBlock, walk_both_lem}
 use Rattle.enclosing.proofs.Around.{Back, Round, Around, of_yes, of_no, of_while, around, at_top}
 use Rattle.enclosing.proofs.Ends.{no_while}
@@ -34,7 +33,7 @@ module _ (k : List ℕ) (n i : ℕ) where
   pub label-below : Enclosed k n i → (i < n) × (n ≤ most_rows)
   label-below h = let e = enclosing_end (stmt_in k) (mate_in k) n h.blocks in (omega (arith, h.inside), h.known.few)
 
-  module _ (r : ℕ) (h : Innermost (stmt_in k) (mate_in k) i (At r)) where
+  module _ (r : ℕ) (h : Innermost (stmt_in k) (mate_in k) i (Some r)) where
     round : (row_in k r).kind ≡ 14 → (q : ℕ) (w : EnclosedIn k n i q) → i < q → Round (stmt_in k) (mate_in k) n w r
     round kind q w b = go (around (stmt_in k) (mate_in k) n w r b h)
       where

@@ -9,9 +9,10 @@ use Rattle.model.specs.TidySets.{Tidy}
 use Rattle.code_table.specs.Table.{table_words, table_of}
 use Rattle.sets.specs.Region.{set_of}
 use Rattle.walk.proofs.Regions.{below_trans, below-table}
-use Rattle.rules.specs.Answers.{answered, Below}
-use Rattle.rules.specs.declared.Answer.{Answer}
-use Rattle.rules.specs.declared.Answer.TheVariants.{Done, Refused}
+use Rattle.rules.specs.Answers.{Answer, answered, Below}
+use Rattle.refusals.specs.Answers.{number_of}
+use Rattle.refusals.specs.declared.Refusal.{Refusal}
+use Rattle.std.specs.Prelude.{Ok, Err}
 use Rattle.enclosing.specs.Enclosing.{EnclosedIn, walked_out, Enclosed, WalksOut, GoesOnFrom, LeavesBlock}
 
 module _ (k : List ℕ) (n i : ℕ) (S₀ : Conjuncts) where
@@ -24,13 +25,13 @@ module _ (k : List ℕ) (n i : ℕ) (S₀ : Conjuncts) where
     reached_start a T f q w b = let o = h q w b in o.3 ∙ f o.0 o.1 o.2
 
     module _ (r : ℕ) (a : Answer) (T : Conjuncts) (l : LeavesBlock k n at r S a T) where
-      pub reached_refusal : (c : ℕ) → a ≡ Refused c → (q : ℕ) (w : EnclosedIn k n i q) → i < q → walked_out k n i q w S₀ ≡ refused c
+      pub reached_refusal : (c : Refusal) → a ≡ Err c → (q : ℕ) (w : EnclosedIn k n i q) → i < q → walked_out k n i q w S₀ ≡ refused (number_of c)
       reached_refusal c e q w b =
           let o = h q w b in
           let m = l o.0 o.1 o.2 in
           o.3 ∙ m.3 ∙ ap (λ x. answered x T >>= walked_out k n r m.0 m.1) e
 
-      pub reached_next : a ≡ Done → Reached r T
+      pub reached_next : a ≡ Ok tt → Reached r T
       reached_next e q w b =
           let o = h q w b in
           let m = l o.0 o.1 o.2 in
@@ -82,13 +83,13 @@ module _ (s₀ : List ℕ) (b i : ℕ) where
       leaves : (n : ℕ) → LeavesBlock (table_of 0 s₀) n at r (set_of s b) a (set_of t b)
       leaves n = subst (λ k. LeavesBlock k n at r (set_of s b) a (set_of t b)) w.table (l n)
 
-      pub outward_refused : (c : ℕ) → a ≡ Refused c → ((n : ℕ) → WalksOut (table_of 0 s₀) n i (set_of s₀ b) (Refused c) (set_of t b)) × Below b s₀ t
+      pub outward_refused : (c : Refusal) → a ≡ Err c → ((n : ℕ) → WalksOut (table_of 0 s₀) n i (set_of s₀ b) (Err c) (set_of t b)) × Below b s₀ t
       outward_refused c e = (
         λ n. reached_refusal (table_of 0 s₀) n i (set_of s₀ b) at (set_of s b) (w.reached n) r a (set_of t b) (leaves n) c e,
         below_trans b s₀ s t w.below h,
       )
 
-      pub outward_next : a ≡ Done → table_words ≤ b → b ≤ length s₀ → length t ≡ length s → Tidy (set_of t b) → Outward t r
+      pub outward_next : a ≡ Ok tt → table_words ≤ b → b ≤ length s₀ → length t ≡ length s → Tidy (set_of t b) → Outward t r
       outward_next e behind room same-t tidy =
           let to_t = below_trans b s₀ s t w.below h in
           record {

@@ -1,5 +1,5 @@
 -- From a statement to the program's start, out of the blocks that enclose it, by a code table k.
-use Rattle.std.specs.Prelude.{List, ◌≡◌, ℕ, ◌+◌, ◌*◌, ◌≤◌, ◌<◌, length}
+use Rattle.std.specs.Prelude.{List, ◌≡◌, ℕ, ◌+◌, ◌*◌, ◌≤◌, ◌<◌, length, Ok, Some}
 use Rattle.model.specs.Code.{Code}
 use Rattle.model.specs.Conjunct.{Conjuncts}
 use Rattle.model.specs.Enclosing.{Enclosing, walk_out_lem}
@@ -9,11 +9,8 @@ use Rattle.model.specs.TidySets.{Tidy}
 use Rattle.model.specs.Walk.{walk}
 use Rattle.code_table.specs.Table.{table_words, table_of, stmt_in, mate_in, KnownBelow, stmts, mates, Knows}
 use Rattle.sets.specs.Region.{region_words, set_of}
-use Rattle.rules.specs.Answers.{answered, Below}
-use Rattle.rules.specs.declared.Answer.{Answer}
-use Rattle.rules.specs.declared.Answer.TheVariants.{Done}
+use Rattle.rules.specs.Answers.{Answer, answered, Below}
 use Rattle.walk.specs.Piece.{Piece}
-use Rattle.enclosing.specs.declared.Block.TheVariants.{At}
 use Rattle.enclosing.specs.Blocks.{Innermost}
 
 -- the blocks that enclose the label i, of n statements; the statements of the innermost end at q
@@ -68,10 +65,10 @@ pub record InBlock (s : List ℕ) (b i r : ℕ) : Type 0 where
   pub words : Workable s b
   pub statements : ℕ
   pub enclosed : Enclosed (table_of 0 s) statements i
-  pub innermost : Innermost (stmts s) (mates s) i (At r)
+  pub innermost : Innermost (stmts s) (mates s) i (Some r)
 
 -- the words s became t with the answer a: what is said of the sets is so, the set is tidy again, and nothing before the region differs
 pub record Moved (F : Type 0) (a : Answer) (b : ℕ) (s t : List ℕ) : Type 0 where
   pub does : F
-  pub tidy : a ≡ Done → Tidy (set_of t b)
+  pub tidy : a ≡ Ok tt → Tidy (set_of t b)
   pub below : Below b s t

@@ -12,14 +12,7 @@ ghost use Rattle.walk.specs.Piece.{Lies};
 ghost use Rattle.enclosing.specs.Blocks.{block_end_lem, Innermost};
 ghost use Rattle.enclosing.specs.Enclosing.{walk_both_lem, Enclosed, WalksOut, LeavesBlock, Workable, TwoPieces, InBlock, Moved};
 
-use rules::Answer;
-
-// Where the innermost block begins, at its if or while; or the statement stands in no block.
-#[derive(Clone, Copy)]
-enum Block {
-    At(usize),
-    Top,
-}
+use refusals::Refusal;
 
 // How deep blocks are nested at the most.
 const NESTED: usize = 4;
@@ -42,40 +35,35 @@ fn block_end(s: &[u64], at: usize) -> usize
     }
 }
 
-// The innermost block that holds the statement with a label: the last one that begins before it
-// and ends after it.
-fn innermost(s: &[u64], i: usize) -> Block
+// Where the innermost block begins that holds the statement with a label, at its if or while: the last one
+// that begins before it and ends after it. None: the statement stands in no block.
+fn innermost(s: &[u64], i: usize) -> Option<usize>
     requires { (table_words ≤ length s.now) × (i ≤ most_rows) }
     ensures { Innermost (stmts s.now) (mates s.now) i result }
 {
-    let mut at = i;
-    while 0 < at {
-        at -= 1;
+    for at in (0..i).rev() {
         if i < block_end(s, at) {
-            return Block::At(at);
+            return Some(at);
         }
     }
-    Block::Top
+    None
 }
 
 // ---- out of the blocks
 
 // The walks of two pieces, the one on the labels from p up to i and then the one from r up to q.
-fn walk_both(s: &mut [u64], b: usize, p: usize, i: usize, r: usize, q: usize) -> Answer
+fn walk_both(s: &mut [u64], b: usize, p: usize, i: usize, r: usize, q: usize) -> Result<(), Refusal>
     requires { TwoPieces s.old b p i r q }
     ensures { Moved ((c d : Code) → Lies s.old c p i → Lies s.old d r q → walk_both_lem c d (set_of s.old b) ≡ answered result (set_of s.new b))
         result b s.old s.new }
 {
-    let first = walk::walk(s, NESTED, b, p, i);
-    match first {
-        Answer::Refused(n) => Answer::Refused(n),
-        Answer::Done => walk::walk(s, NESTED, b, r, q),
-    }
+    walk::walk(s, NESTED, b, p, i)?;
+    walk::walk(s, NESTED, b, r, q)
 }
 
 // From the label i to the beginning r of the innermost block around it: the part of the block before
 // i, and then, out of the body of a while, the whole while.
-fn leave_block(s: &mut [u64], b: usize, i: usize, r: usize) -> Answer
+fn leave_block(s: &mut [u64], b: usize, i: usize, r: usize) -> Result<(), Refusal>
     requires { InBlock s.old b i r }
     ensures { Moved ((n : ℕ) → LeavesBlock (table_of 0 s.old) n i r (set_of s.old b) result (set_of s.new b))
         result b s.old s.new }
@@ -93,24 +81,15 @@ fn leave_block(s: &mut [u64], b: usize, i: usize, r: usize) -> Answer
 
 // From the set of the region at b, just before the statement with the label i, to the set at the
 // program's start. From that region on, ten regions are its own.
-pub fn walk_out(s: &mut [u64], b: usize, i: usize) -> Answer
+pub fn walk_out(s: &mut [u64], b: usize, i: usize) -> Result<(), Refusal>
     requires { Workable s.old b × ((n : ℕ) × Enclosed (table_of 0 s.old) n i) }
     ensures { ((n : ℕ) → WalksOut (table_of 0 s.old) n i (set_of s.old b) result (set_of s.new b))
         × Below b s.old s.new }
 {
     let mut at = i;
-    loop {
-        let block = innermost(s, at);
-        match block {
-            Block::Top => return walk::walk(s, NESTED, b, 0, at),
-            Block::At(r) => {
-                let a = leave_block(s, b, at, r);
-                match a {
-                    Answer::Refused(n) => return Answer::Refused(n),
-                    Answer::Done => {}
-                }
-                at = r;
-            }
-        }
+    while let Some(r) = innermost(s, at) {
+        leave_block(s, b, at, r)?;
+        at = r;
     }
+    walk::walk(s, NESTED, b, 0, at)
 }

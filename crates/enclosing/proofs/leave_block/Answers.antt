@@ -5,8 +5,7 @@ use Prim.Native.Nat.{ℕ, ◌+◌, ◌≤◌, ◌<◌}
 use native.Mathlib.Omega.{arith}
 use Rattle.model.specs.Code.{Code}
 use Rattle.model.specs.Walk.{walk}
-use Rattle.rules.specs.Answers.{answered}
-use Rattle.rules.specs.declared.Answer.{Answer}
+use Rattle.rules.specs.Answers.{Answer, answered}
 use Rattle.model.specs.Sizes.{most_nested, most_rows}
 use Rattle.code_table.specs.Table.{table_of, row_in, mates}
 use Rattle.sets.specs.Region.{set_of}

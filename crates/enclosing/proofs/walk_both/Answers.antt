@@ -7,65 +7,67 @@ use Rattle.rules.specs.Answers.{answered}
 use Rattle.walk.specs.Piece.{Lies}
 use Rattle.model.specs.TidySets.{Tidy}
 use Rattle.code_table.specs.Table.{table_of}
-use Rattle.rules.specs.declared.Answer.TheVariants.{Done}
+use Rattle.std.specs.Prelude.{Ok}
 use Rattle.sets.specs.Region.{set_of}
 use Rattle.walk.proofs.Regions.{below_trans, below-table, lies_on, piece_on, knows_on}
-use Rattle.enclosing.proofs.Walked.{refused-done, walked_tidy, both-refused, both_walked}
+use Rattle.enclosing.proofs.Walked.{walked_tidy, both-refused, both_walked}
+use Rattle.std.proofs.lemmas.Result.{err_from_is_err_and}
 use Rattle.enclosing.proofs.walk_both.Goals as goal
-use Rattle.enclosing.proofs.walk_both.Goals.{After-walk-first}
+use Rattle.enclosing.proofs.walk_both.Goals.{After-walk}
 
 -- the table is as it was behind the first walk
-first-table : (c : After-walk-first) → table_of 0 c.walk-first.new.s ≡ table_of 0 c.args.s.now
+first-table : (c : After-walk) → table_of 0 c.walk.new.s ≡ table_of 0 c.args.s.now
 first-table c =
-    below-table c.args.b c.args.s.now c.walk-first.new.s c.requires.words.behind (omega (arith, c.requires.words.room)) c.walk-first.auto.s c.walk-first.ensures.1
+    below-table c.args.b c.args.s.now c.walk.new.s c.requires.words.behind (omega (arith, c.requires.words.room)) c.walk.auto.s c.walk.ensures.1
 
 -- and the set is tidy
-first-tidy : (c : After-walk-first) → c.walk-first.result ≡ Done → Tidy (set_of c.walk-first.new.s c.args.b)
+first-tidy : (c : After-walk) → c.walk.result ≡ Ok tt → Tidy (set_of c.walk.new.s c.args.b)
 first-tidy c e =
     let piece = c.requires.first in
-    walked_tidy piece.code (set_of c.args.s.now c.args.b) (set_of c.walk-first.new.s c.args.b) c.walk-first.result
-    (c.walk-first.ensures.0 piece.code piece.lies) c.requires.words.tidy e
-
-pub walk-first-requires : goal.walk-first-requires
-walk-first-requires c =
-    let w = c.requires.words in
-    (record { knows = c.requires.first-known; shallow = omega arith; behind = w.behind; room = omega (arith, w.room); tidy = w.tidy }, c.requires.first)
+    walked_tidy piece.code (set_of c.args.s.now c.args.b) (set_of c.walk.new.s c.args.b) c.walk.result
+    (c.walk.ensures.0 piece.code piece.lies) c.requires.words.tidy e
 
 pub walk-requires : goal.walk-requires
 walk-requires c =
-    let t = first-table (goal.at.walk-requires c).After-walk-first in (
+    let w = c.requires.words in
+    (record { knows = c.requires.first-known; shallow = omega arith; behind = w.behind; room = omega (arith, w.room); tidy = w.tidy }, c.requires.first)
+
+pub walk-requires-2 : goal.walk-requires-2
+walk-requires-2 c =
+    let t = first-table (goal.at.walk-requires-2 c).After-walk in (
       record {
-        knows = knows_on c.args.s.now c.walk-first.new.s t c.args.q c.requires.second-known;
+        knows = knows_on c.args.s.now c.walk.new.s t c.args.q c.requires.second-known;
         shallow = omega arith;
         behind = c.requires.words.behind;
-        room = omega (arith, c.requires.words.room, c.walk-first.auto.s);
-        tidy = first-tidy (goal.at.walk-requires c).After-walk-first c.in-Done.is;
+        room = omega (arith, c.requires.words.room, c.walk.auto.s);
+        tidy = first-tidy (goal.at.walk-requires-2 c).After-walk c.in_ok-walk.was;
       },
-      piece_on c.args.s.now c.walk-first.new.s t 4 c.args.r c.args.q c.requires.second,
+      piece_on c.args.s.now c.walk.new.s t 4 c.args.r c.args.q c.requires.second,
     )
 
-pub returns-in-Refused : goal.returns-in-Refused
-returns-in-Refused c =
+pub returns-in_err-walk : goal.returns-in_err-walk
+returns-in_err-walk c =
     let S = set_of c.args.s.now c.args.b in
-    let T = set_of c.walk-first.new.s c.args.b in
-    record {
-      does = λ x y h k. both-refused x S T c.walk-first.result (c.walk-first.ensures.0 x h) y _ c.in-Refused.is;
-      tidy = λ e. absurd (refused-done _ e);
-      below = c.walk-first.ensures.1;
+    let T = set_of c.walk.new.s c.args.b in
+    let gone = err_from_is_err_and c.from_residual.result c.from_residual.ensures.1 in
+    rw (gone.1, gone.2) record {
+      does = λ x y h k. both-refused x S T c.walk.result (c.walk.ensures.0 x h) y _ c.in_err-walk.was;
+      tidy = λ e. cc;
+      below = c.walk.ensures.1;
     }
 
-pub returns-in-Done : goal.returns-in-Done
-returns-in-Done c =
-    let s₁ = c.walk-first.new.s in
-    let s₂ = c.walk.new.s in
+pub returns : goal.returns
+returns c =
+    let s₁ = c.walk.new.s in
+    let s₂ = c.walk-2.new.s in
     let S = set_of c.args.s.now c.args.b in
     let second : (y : Code) → Lies c.args.s.now y c.args.r c.args.q
-    → walk y (set_of s₁ c.args.b) ≡ answered c.walk.result (set_of s₂ c.args.b) =
-    λ y k. c.walk.ensures.0 y (lies_on c.args.s.now s₁ (first-table (goal.at.returns-in-Done c).After-walk-first) y c.args.r c.args.q k) in
+    → walk y (set_of s₁ c.args.b) ≡ answered c.walk-2.result (set_of s₂ c.args.b) =
+    λ y k. c.walk-2.ensures.0 y (lies_on c.args.s.now s₁ (first-table (goal.at.returns c).After-walk) y c.args.r c.args.q k) in
     record {
-      does = λ x y h k. both_walked x S (set_of s₁ c.args.b) c.walk-first.result (c.walk-first.ensures.0 x h) y (set_of s₂ c.args.b) c.walk.result c.in-Done.is (second y k);
+      does = λ x y h k. both_walked x S (set_of s₁ c.args.b) c.walk.result (c.walk.ensures.0 x h) y (set_of s₂ c.args.b) c.walk-2.result c.in_ok-walk.was (second y k);
       tidy =
-          walked_tidy c.requires.second.code (set_of s₁ c.args.b) (set_of s₂ c.args.b) c.walk.result (second c.requires.second.code c.requires.second.lies)
-          (first-tidy (goal.at.returns-in-Done c).After-walk-first c.in-Done.is);
-      below = below_trans c.args.b c.args.s.now s₁ s₂ c.walk-first.ensures.1 c.walk.ensures.1;
+          walked_tidy c.requires.second.code (set_of s₁ c.args.b) (set_of s₂ c.args.b) c.walk-2.result (second c.requires.second.code c.requires.second.lies)
+          (first-tidy (goal.at.returns c).After-walk c.in_ok-walk.was);
+      below = below_trans c.args.b c.args.s.now s₁ s₂ c.walk.ensures.1 c.walk-2.ensures.1;
     }

@@ -2,8 +2,8 @@
 use Rattle.enclosing.proofs.WalkingOut.{Outward}
 use Rattle.enclosing.proofs.walk_out.Given as goal
 
-abbrev pub invariant-loop-s : goal.invariant-loop-s
-invariant-loop-s l = Outward l.initial.s l.b l.i l.s l.at
+abbrev pub invariant-loop-r : goal.invariant-loop-r
+invariant-loop-r l = Outward l.initial.s l.b l.i l.s l.at
 
-abbrev pub decreases-loop-s : goal.decreases-loop-s
-decreases-loop-s l = l.at
+abbrev pub decreases-loop-r : goal.decreases-loop-r
+decreases-loop-r l = l.at
