@@ -4,7 +4,7 @@ use mathlib.Core.Path.{◌≡◌, refl, sym, ap, ◌∙◌}
 use Prim.Native.Nat.{ℕ, zero, suc, ◌+◌, ◌*◌, ◌<◌, ◌≤◌}
 use native.Mathlib.Numerals.{add-one}
 use native.Mathlib.Omega.{arith}
-use lib.ListN.{length, get_or, take, set, length-append, length-map, get_or-map}
+use lib.ListN.{length, get_or, take, length-append, length-map, get_or-map}
 use lib.Seq.{get_or-take, length-take-le}
 use Rattle.model.proofs.Files.FileBytes.{conjuncts-size, table-size, fields-size, length-encode}
 use Rattle.model.proofs.Basics.Lists.{all_imp, all_get_d}
@@ -24,20 +24,6 @@ use Rattle.program.specs.declared.Layout.{Layout}
 use Rattle.conjunct.specs.Word.{node_of, nodes_of_lem, file_bytes}
 
 -- ---- stores
-
-pub stored_eight : (l : List ℕ) (a p q r s t u v w : ℕ)
-    → set (set (set (set (set (set (set (set l a p) (a + 1) q) (a + 2) r) (a + 3) s) (a + 4) t) (a + 5) u) (a + 6) v) (a + 7) w
-    ≡ overlay l a (p ∷ q ∷ r ∷ s ∷ t ∷ u ∷ v ∷ w ∷ [])
-unfolding overlay
-stored_eight l a p q r s t u v w =
-    let e1 : a + 1 ≡ suc a = omega arith in
-    let e2 : a + 2 ≡ suc (suc a) = omega arith in
-    let e3 : a + 3 ≡ suc (suc (suc a)) = omega arith in
-    let e4 : a + 4 ≡ suc (suc (suc (suc a))) = omega arith in
-    let e5 : a + 5 ≡ suc (suc (suc (suc (suc a)))) = omega arith in
-    let e6 : a + 6 ≡ suc (suc (suc (suc (suc (suc a))))) = omega arith in
-    let e7 : a + 7 ≡ suc (suc (suc (suc (suc (suc (suc a)))))) = omega arith in
-    rw (e1, e2, e3, e4, e5, e6, e7)
 
 pub four_bytes : (v : ℕ) → length (bytes4 v) ≡ 4
 unfolding bytes4

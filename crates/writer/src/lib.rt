@@ -22,14 +22,7 @@ fn put_high_first(out: &mut [u8], a: usize, v: u64)
     requires { a + 8 ≤ length out.old }
     ensures { out.new ≡ overlay out.old a (file_bytes v) }
 {
-    out[a] = (v / 0x01_00_0000_0000_0000) as u8;
-    out[a + 1] = (v / 0x01_0000_0000_0000 % 256) as u8;
-    out[a + 2] = (v / 0x0100_0000_0000 % 256) as u8;
-    out[a + 3] = (v / 0x01_0000_0000 % 256) as u8;
-    out[a + 4] = (v / 0x0100_0000 % 256) as u8;
-    out[a + 5] = (v / 0x01_0000 % 256) as u8;
-    out[a + 6] = (v / 256 % 256) as u8;
-    out[a + 7] = (v % 256) as u8;
+    bytes_le::put_bytes(out, a, &v.to_be_bytes(), 8);
 }
 
 // the nodes of the conjunct of the first n words; where the next one begins
@@ -37,10 +30,8 @@ fn put_conjunct(out: &mut [u8], a: usize, w: &[u64], n: usize) -> usize
     requires { (a + conjunct_room ≤ length out.old) × ConjunctIn w.now n }
     ensures { ConjunctWritten (conj_of w.now n) a out.old out.new result }
 {
-    let mut i: usize = 0;
-    while i < n {
+    for i in 0..n {
         put_high_first(out, a + 8 * i, conjunct::node::filed(w[i]));
-        i += 1;
     }
     a + 8 * n
 }
@@ -61,12 +52,10 @@ fn put_pairs(out: &mut [u8], a: usize, s: &[u64], b: usize, begin: usize)
 {
     let count = sets::size(s, b);
     let mut place = begin;
-    let mut i: usize = 0;
-    while i < count {
+    for i in 0..count {
         let n = sets::node_count(s, b, i);
         put_pair(out, a + 8 * i, place, n);
         place += 8 * n;
-        i += 1;
     }
 }
 
@@ -77,11 +66,9 @@ fn put_conjuncts(out: &mut [u8], a: usize, s: &[u64], b: usize, words: &mut [u64
 {
     let count = sets::size(s, b);
     let mut place = a;
-    let mut i: usize = 0;
-    while i < count {
+    for i in 0..count {
         let n = sets::get(s, b, i, words);
         place = put_conjunct(out, place, words, n);
-        i += 1;
     }
     place
 }

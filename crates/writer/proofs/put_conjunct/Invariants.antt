@@ -1,8 +1,8 @@
 -- `writer::put_conjunct` meets its contract.
 use mathlib.Core.List.{List}
 use mathlib.Core.Path.{◌≡◌}
-use Prim.Native.Nat.{ℕ, ◌-◌, ◌≤◌}
-use lib.ListN.{length, take}
+use Prim.Native.Nat.{ℕ}
+use lib.ListN.{take}
 use Rattle.model.specs.Condition.{conjunct_bytes}
 use Rattle.model.specs.Lists.{All}
 use Rattle.model.specs.Formed.{FileNode}
@@ -12,8 +12,4 @@ use Rattle.writer.proofs.put_conjunct.Given as goal
 
 abbrev pub invariant-loop-i : goal.invariant-loop-i
 invariant-loop-i l =
-    (l.i ≤ l.n) × (length l.out ≡ length l.initial.out)
-    × ((types : List ℕ) → All (FileNode types) (conj_of l.w l.n) → l.out ≡ overlay l.initial.out l.a (conjunct_bytes (take l.i (conj_of l.w l.n))))
-
-abbrev pub decreases-loop-i : goal.decreases-loop-i
-decreases-loop-i l = l.n - l.i
+    (types : List ℕ) → All (FileNode types) (conj_of l.w l.n) → l.out ≡ overlay l.initial.out l.a (conjunct_bytes (take l.i (conj_of l.w l.n)))

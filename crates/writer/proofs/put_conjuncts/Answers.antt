@@ -22,12 +22,6 @@ loop-i-init c =
     let a = c.args in (
       search rules,
       search rules,
-      search rules,
-      search rules,
-      search rules,
-      search rules,
-      search rules,
-      search rules,
       λ types f. overlay-none a.out.now a.a,
     )
 
@@ -40,23 +34,11 @@ loop-i-preserved c =
     let nodes : length d ≡ length (get_or S c.loop-i.i []) = ap length c.get-n.ensures.1 in
     let more : size (take (c.loop-i.i + 1) S) ≡ size (take c.loop-i.i S) + length (get_or S c.loop-i.i []) = rw (add-one c.loop-i.i) (size_more S c.loop-i.i inside) in (
       omega arith,
-      c.loop-i.invariant.1,
-      c.loop-i.invariant.2,
-      c.put_conjunct-place.auto.out ∙ c.loop-i.invariant.3,
-      c.get-n.auto.out ∙ c.loop-i.invariant.4,
-      c.loop-i.invariant.5,
-      omega arith,
       omega arith,
       λ types f.
-          conjuncts_more types S f a.out.now c.loop-i.out c.put_conjunct-place.new.out a.a c.loop-i.i c.loop-i.place inside d c.get-n.ensures.1 c.loop-i.invariant.7
-          (c.loop-i.invariant.8 types f) (c.put_conjunct-place.ensures.bytes types),
+          conjuncts_more types S f a.out.now c.loop-i.out c.put_conjunct-place.new.out a.a c.loop-i.i c.loop-i.place inside d c.get-n.ensures.1 c.loop-i.invariant.1
+          (c.loop-i.invariant.2 types f) (c.put_conjunct-place.ensures.bytes types),
     )
-
-pub shape_of-out : goal.shape_of-out
-shape_of-out c = c.loop-i.invariant.3
-
-pub shape_of-words : goal.shape_of-words
-shape_of-words c = c.loop-i.invariant.4
 
 pub returns : goal.returns
 returns c =
@@ -64,7 +46,7 @@ returns c =
     let S = set_of a.s.now a.b in
     let all = take_all c.loop-i.i S (omega arith) in
     record {
-      end = c.loop-i.invariant.7 ∙ ap (λ R. a.a + 8 * size R) all;
+      end = c.loop-i.invariant.1 ∙ ap (λ R. a.a + 8 * size R) all;
       most = omega arith;
-      bytes = λ types f. c.loop-i.invariant.8 types f ∙ ap (λ R. overlay a.out.now a.a (flat_map conjunct_bytes R)) all;
+      bytes = λ types f. c.loop-i.invariant.2 types f ∙ ap (λ R. overlay a.out.now a.a (flat_map conjunct_bytes R)) all;
     }

@@ -20,12 +20,6 @@ loop-i-init c =
     let a = c.args in (
       search rules,
       search rules,
-      search rules,
-      search rules,
-      search rules,
-      search rules,
-      search rules,
-      search rules,
       overlay-none a.out.now a.a,
     )
 
@@ -36,21 +30,12 @@ loop-i-preserved c =
     let inside : c.loop-i.i < length S = omega arith in
     let more : size (take (c.loop-i.i + 1) S) ≡ size (take c.loop-i.i S) + c.node_count-n.result = rw (add-one c.loop-i.i, c.node_count-n.ensures.1) (size_more S c.loop-i.i inside) in (
       omega arith,
-      c.loop-i.invariant.1,
-      c.loop-i.invariant.2,
-      c.put_pair.auto.out ∙ c.loop-i.invariant.3,
-      c.loop-i.invariant.4,
-      c.loop-i.invariant.5,
       omega arith,
-      omega arith,
-      pairs_more S a.out.now c.loop-i.out c.put_pair.new.out a.a a.begin c.loop-i.i c.loop-i.place c.node_count-n.result inside c.loop-i.invariant.7 c.node_count-n.ensures.1
-          c.loop-i.invariant.8 c.put_pair.ensures,
+      pairs_more S a.out.now c.loop-i.out c.put_pair.new.out a.a a.begin c.loop-i.i c.loop-i.place c.node_count-n.result inside c.loop-i.invariant.1 c.node_count-n.ensures.1
+          c.loop-i.invariant.2 c.put_pair.ensures,
     )
-
-pub shape_of-out : goal.shape_of-out
-shape_of-out c = c.loop-i.invariant.3
 
 pub returns : goal.returns
 returns c =
     let a = c.args in
-    c.loop-i.invariant.8 ∙ ap (λ S. overlay a.out.now a.a (pair_bytes a.begin S)) (take_all c.loop-i.i (set_of a.s.now a.b) (omega arith))
+    c.loop-i.invariant.2 ∙ ap (λ S. overlay a.out.now a.a (pair_bytes a.begin S)) (take_all c.loop-i.i (set_of a.s.now a.b) (omega arith))
