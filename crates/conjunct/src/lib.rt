@@ -23,10 +23,7 @@ pub const MOST_NODES: usize = 120;
 pub fn capped(len: usize) -> usize
     ensures { (result ≤ most_nodes) × ((l : List ℕ) → length l ≡ most_nodes → take result l ≡ take len l) }
 {
-    if len < MOST_NODES {
-        return len;
-    }
-    MOST_NODES
+    len.min(MOST_NODES)
 }
 
 // n words from place a of s against m words from place b of t: the fewer first, then word by word

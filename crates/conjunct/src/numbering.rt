@@ -1,7 +1,7 @@
 // The numbering of a conjunct's atoms, the substitution for a variable, and the loads of an array.
-ghost use Rattle.std.specs.Prelude.{◌≡◌, true, cond, ℕ, ◌+◌, ◌<◌, ◌≤◌, eqb, length, take};
+ghost use Rattle.std.specs.Prelude.{◌≡◌, Bool, true, cond, ℕ, ◌+◌, ◌<◌, ◌≤◌, eqb, length, take};
 ghost use mathlib.Core.List.{map, flat_map, ◌++◌};
-ghost use Rattle.model.specs.Conjunct.{atom, renumber, atoms, same_source_lem};
+ghost use Rattle.model.specs.Conjunct.{Source, atom, renumber, atoms, same_source_lem, AtAtom};
 ghost use Rattle.model.specs.Walk.{replace, loads};
 ghost use Rattle.model.specs.Sizes.{most_nodes};
 ghost use Rattle.model.specs.Touch.{some};
@@ -25,12 +25,6 @@ pub struct Right {
     pub nodes: [u64; 3],
 }
 
-fn tick(k: u64, s: u64) -> u64
-    ensures { (result ≡ cond (eqb s (key_of k)) 1 0) × (result ≤ 1) }
-{
-    if s == node::source(k) { 1 } else { 0 }
-}
-
 // Ok where an atom is there, with how many of its source stand before it; else Err, with how many there are
 fn look_up(seen: &[u64], m: usize, w: u64) -> Result<u64, u64>
     requires { SeenAtoms seen.now m × (is_atom_lem w ≡ true) }
@@ -43,7 +37,7 @@ fn look_up(seen: &[u64], m: usize, w: u64) -> Result<u64, u64>
         if k == w {
             return Ok(n);
         }
-        n += tick(k, s);
+        n += (s == node::source(k)) as u64;
     }
     Err(n)
 }
@@ -70,31 +64,18 @@ fn note(seen: &mut [u64], m: usize, w: u64) -> Noted
     }
 }
 
-// the n of each source count from 1 by first appearance; `seen` is room to work in
-pub fn renumber(words: &mut [u64], n: usize, seen: &mut [u64])
-    requires { ConjunctIn words.old n × (most_nodes ≤ length seen.old) }
-    ensures { conj_of words.new n ≡ renumber (conj_of words.old n) }
+// of the atoms whose words pass, the n of each source count from 1 by first appearance, all other words stay;
+// `seen` is room to work in, and holds these atoms alone
+fn renumber_those<F: Fn(u64) -> bool>(words: &mut [u64], n: usize, seen: &mut [u64], passes: F)
+    requires room { ConjunctIn words.old n × (most_nodes ≤ length seen.old) }
+    requires callable { F.IsAlwaysCallable passes }
+    ensures { (P : Source → Bool) → ((w : ℕ) (b : Bool) → F.post passes w b → AtAtom (λ a. P a.src ≡ b) (node_of w))
+        → conj_of words.new n ≡ renumber_passing P (conj_of words.old n) }
 {
     let mut m: usize = 0;
     for i in 0..n {
         let w = words[i];
-        let p = note(seen, m, w);
-        words[i] = p.word;
-        m = p.count;
-    }
-}
-
-// the n of the atoms of u's source count from 1 by first appearance, all other words stay; `seen` is
-// room to work in, and holds the atoms of this source alone
-fn renumber_source(words: &mut [u64], n: usize, u: u64, seen: &mut [u64])
-    requires { SourceIn words.old n u seen.old }
-    ensures { conj_of words.new n ≡ renumber_passing (same_source_lem (source_of u)) (conj_of words.old n) }
-{
-    let key = node::source(u);
-    let mut m: usize = 0;
-    for i in 0..n {
-        let w = words[i];
-        if node::source(w) != key {
+        if !passes(w) {
             continue;
         }
         let p = note(seen, m, w);
@@ -103,6 +84,25 @@ fn renumber_source(words: &mut [u64], n: usize, u: u64, seen: &mut [u64])
     }
 }
 
+// the n of each source count from 1 by first appearance; `seen` is room to work in
+pub fn renumber(words: &mut [u64], n: usize, seen: &mut [u64])
+    requires { ConjunctIn words.old n × (most_nodes ≤ length seen.old) }
+    ensures { conj_of words.new n ≡ renumber (conj_of words.old n) }
+{
+    renumber_those(words, n, seen, |_| true);
+}
+
+// the n of the atoms of u's source count from 1 by first appearance, all other words stay; `seen` is
+// room to work in
+fn renumber_source(words: &mut [u64], n: usize, u: u64, seen: &mut [u64])
+    requires { SourceIn words.old n u seen.old }
+    ensures { conj_of words.new n ≡ renumber_passing (same_source_lem (source_of u)) (conj_of words.old n) }
+{
+    let key = node::source(u);
+    renumber_those(words, n, seen, |w| node::source(w) == key);
+}
+
+// At most three words, stored one by one: a call that copies them takes twice as long.
 fn put(out: &mut [u64], m: usize, p: Right)
     requires { (p.len ≤ 3) × (m + p.len ≤ length out.old) }
     ensures { take (m + p.len) out.new ≡ take m out.old ++ right_words p }

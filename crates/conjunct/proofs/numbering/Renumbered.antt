@@ -98,8 +98,8 @@ module _ (P : Source → Bool) where
 abbrev pub any_source : Source → Bool
 any_source s = true
 
-pub any_passes : (v : Node) → AtAtom (λ a. any_source a.src ≡ true) v
-any_passes v = at_imp (λ a. Unit {0}) (λ a. true ≡ true) (λ a u. refl) v (at_any v)
+pub any_passes : (b : Bool) → true ≡ b → (v : Node) → AtAtom (λ a. any_source a.src ≡ b) v
+any_passes b e v = at_imp (λ a. Unit {0}) (λ a. true ≡ b) (λ a u. e) v (at_any v)
 
 pub renumber_any : (e : Conj) → renumber_passing any_source e ≡ renumber e
 unfolding renumber renumber_passing
