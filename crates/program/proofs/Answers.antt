@@ -10,13 +10,11 @@ use Rattle.model.specs.Program.{sections_right, counts_right_lem, types_right_le
 use Rattle.model.specs.Refusals.{Out, ok, refused, ◌>>=◌, mapped, check}
 use Rattle.model.specs.Refusals.{wrong_sections, too_many_entries, wrong_types, wrong_statement, types_disagree, wrong_immediate, wrong_procedures}
 use Rattle.model.proofs.Basics.Results.{check-mapped, mapped-check, refused-ok}
-use Rattle.std.specs.Prelude.{Option, Some, None, Result, Ok, Err, is_ok}
+use Rattle.std.specs.Prelude.{Option, Some, None, Ok}
 use Rattle.std.specs.Option.{ok_or}
 use Rattle.std.proofs.Common.{true≢false}
-use Rattle.refusals.specs.Answers.{number_of}
 use Rattle.refusals.specs.declared.Refusal.{Refusal}
-use Rattle.program.specs.declared.Layout.{Layout}
-use Rattle.program.specs.Reading.{program_answer, layout_from, tables_of, procedure_checks, table_checks}
+use Rattle.program.specs.Reading.{tables_of, procedure_checks, table_checks}
 
 -- ---- a test, and the result that goes with it
 
@@ -33,19 +31,10 @@ pub check-number : {A : Type 0} (b : Bool) (n m : ℕ) (y : A) → refused m ≡
 check-number true n m y e = cc
 check-number false n m y e = cc
 
--- a layout was read exactly where the test passes
-pub is_ok-check : (b : Bool) (n : ℕ) (r : Result Layout Refusal) (y : Sections) → program_answer r ≡ check b n (ok y) → is_ok r ≡ b
-is_ok-check b n (Ok L) y h = sym (check-ok b n (layout_from L) y h).0
-is_ok-check b n (Err f) y h = sym (check-refused b n (number_of f) y h)
-
 -- what an option was, by the result that a refusal in place of None makes of it
 pub taken_of : {A : Type 0} (o : Option A) (f : Refusal) (a : A) → Ok a ≡ ok_or o f → o ≡ Some a
 taken_of None f a h = cc
 taken_of (Some b) f a h = cc
-
-pub refused_of : {A : Type 0} (o : Option A) (f g : Refusal) → Err g ≡ ok_or o f → (o ≡ None) × (g ≡ f)
-refused_of None f g h = (refl, cc)
-refused_of (Some b) f g h = (cc, cc)
 
 -- where a test has refused, it refuses whatever follows it
 pub handed_on : {A : Type 0} (b : Bool) (n m : ℕ) (y : A) (o : Out A) → refused m ≡ check b n (ok y) → refused m ≡ check b n o

@@ -1,3 +1,4 @@
+pub mod Listed
 pub mod Names
 pub mod Numbers
 pub mod OpenBlocks

@@ -138,29 +138,102 @@ fn procedure_right(program: &[u8], layout: Layout, begin: usize, end: usize, n: 
     0 < count && params <= count && body_right(program, layout, begin, end, n)
 }
 
-// ---- the tests of all procedures
+// ---- the tests of all procedures, and of the statements after them
 
-fn procedures_right(program: &[u8], layout: Layout, table: &[u64], main: Main) -> bool
-    requires { PartsListed program.now table.now layout main }
-    ensures { result ≡ procedures_right_lem 0 (procedures_in (tables_of program.now) table.now main.procedures) }
-{
-    for p in 0..main.procedures {
-        let begin = table[2 * p] as usize;
-        let end = table[2 * p + 1] as usize;
-        if !procedure_right(program, layout, begin, end, p) {
-            return false;
-        }
-    }
-    true
+// A program's parts: its procedures, by their labels in a table, and the statements after them.
+#[derive(Clone, Copy)]
+struct Parts<'a> {
+    program: &'a [u8],
+    layout: Layout,
+    table: &'a [u64],
+    main: Main,
+    ghost listed: { PartsListed program.now table.now layout main },
 }
 
-// The beginning of the procedure with a number.
-fn begun(program: &[u8], layout: Layout, table: &[u64], main: Main, p: usize) -> Entry
-    requires { PartsListed program.now table.now layout main × (p < main.procedures) }
-    ensures { entry_of result ≡ statement_of (tables_of program.now) (begin_in table.now p) }
-{
-    let begin = table[2 * p] as usize;
-    statement(program, layout, begin)
+impl Parts<'_> {
+    ghost use Rattle.program.specs.Listed.{parts_tables, parts_procedures};
+
+    fn procedures_right(&self) -> bool
+        ensures { result ≡ procedures_right_lem 0 (parts_procedures self.now) }
+    {
+        for p in 0..self.main.procedures {
+            let begin = self.table[2 * p] as usize;
+            let end = self.table[2 * p + 1] as usize;
+            if !procedure_right(self.program, self.layout, begin, end, p) {
+                return false;
+            }
+        }
+        true
+    }
+
+    // The beginning of the procedure with a number.
+    fn begun(&self, p: usize) -> Entry
+        requires { p < self.now.main.procedures }
+        ensures { entry_of result ≡ statement_of (parts_tables self.now) (begin_in self.now.table.now p) }
+    {
+        let begin = self.table[2 * p] as usize;
+        statement(self.program, self.layout, begin)
+    }
+
+    // Whether the procedure with a number shares no variable with a later one.
+    fn apart_from_later(&self, p: usize) -> bool
+        requires { p < self.now.main.procedures }
+        ensures { result ≡ every (apart (procedure_in_lem (parts_tables self.now) self.now.table.now p)) (drop (p + 1) (parts_procedures self.now)) }
+    {
+        let q = self.begun(p);
+        for i in p + 1..self.main.procedures {
+            if !are_apart(q, self.begun(i)) {
+                return false;
+            }
+        }
+        true
+    }
+
+    // Whether no two procedures share a variable.
+    fn all_apart(&self) -> bool
+        ensures { result ≡ all_apart_lem (parts_procedures self.now) }
+    {
+        for p in 0..self.main.procedures {
+            if !self.apart_from_later(p) {
+                return false;
+            }
+        }
+        true
+    }
+
+    // Whether no procedure owns a variable.
+    fn owned_by_none(&self, x: u64) -> bool
+        ensures { result ≡ every (λ q. not (owns q x)) (parts_procedures self.now) }
+    {
+        for p in 0..self.main.procedures {
+            let q = self.begun(p);
+            if is_within(x, q.b, q.c) {
+                return false;
+            }
+        }
+        true
+    }
+
+    // Whether no procedure owns a name.
+    fn names_spared(&self, names: &[u64]) -> bool
+        ensures { result ≡ list_all (λ x. every (λ q. not (owns q x)) (parts_procedures self.now)) names.now }
+    {
+        names.iter().all(|x| self.owned_by_none(*x))
+    }
+
+    // Whether no procedure owns a variable that a statement after the procedures names.
+    fn main_spared(&self) -> bool
+        ensures { result ≡ every (spares (parts_procedures self.now)) (drop self.now.main.label (items_of (parts_tables self.now))) }
+    {
+        for i in self.main.label..self.layout.statements {
+            let q = statement(self.program, self.layout, i);
+            let names = names_of(self.program, self.layout, q);
+            if !self.names_spared(names.listed()) {
+                return false;
+            }
+        }
+        true
+    }
 }
 
 // Whether two procedures share no variable.
@@ -172,77 +245,6 @@ fn are_apart(q: Entry, r: Entry) -> bool
     first + q.c as usize <= second || second + r.c as usize <= first
 }
 
-// Whether the procedure with a number shares no variable with a later one.
-fn apart_from_later(program: &[u8], layout: Layout, table: &[u64], main: Main, p: usize) -> bool
-    requires { PartsListed program.now table.now layout main × (p < main.procedures) }
-    ensures { result ≡ every (apart (procedure_in_lem (tables_of program.now) table.now p))
-        (drop (p + 1) (procedures_in (tables_of program.now) table.now main.procedures)) }
-{
-    let q = begun(program, layout, table, main, p);
-    for i in p + 1..main.procedures {
-        if !are_apart(q, begun(program, layout, table, main, i)) {
-            return false;
-        }
-    }
-    true
-}
-
-// Whether no two procedures share a variable.
-fn all_apart(program: &[u8], layout: Layout, table: &[u64], main: Main) -> bool
-    requires { PartsListed program.now table.now layout main }
-    ensures { result ≡ all_apart_lem (procedures_in (tables_of program.now) table.now main.procedures) }
-{
-    for p in 0..main.procedures {
-        if !apart_from_later(program, layout, table, main, p) {
-            return false;
-        }
-    }
-    true
-}
-
-// ---- the tests of the statements after the procedures
-
-// Whether no procedure owns a variable.
-fn owned_by_none(program: &[u8], layout: Layout, table: &[u64], main: Main, x: u64) -> bool
-    requires { PartsListed program.now table.now layout main }
-    ensures { result ≡ every (λ q. not (owns q x)) (procedures_in (tables_of program.now) table.now main.procedures) }
-{
-    for p in 0..main.procedures {
-        let q = begun(program, layout, table, main, p);
-        if is_within(x, q.b, q.c) {
-            return false;
-        }
-    }
-    true
-}
-
-// Whether no procedure owns a name.
-fn names_spared(program: &[u8], layout: Layout, table: &[u64], main: Main, names: &[u64]) -> bool
-    requires { PartsListed program.now table.now layout main }
-    ensures { result ≡ list_all (λ x. every (λ q. not (owns q x))
-        (procedures_in (tables_of program.now) table.now main.procedures)) names.now }
-{
-    names
-        .iter()
-        .all(|x| owned_by_none(program, layout, table, main, *x))
-}
-
-// Whether no procedure owns a variable that a statement after the procedures names.
-fn main_spared(program: &[u8], layout: Layout, table: &[u64], main: Main) -> bool
-    requires { PartsListed program.now table.now layout main }
-    ensures { result ≡ every (spares (procedures_in (tables_of program.now) table.now main.procedures))
-        (drop main.label (items_of (tables_of program.now))) }
-{
-    for i in main.label..layout.statements {
-        let q = statement(program, layout, i);
-        let names = names_of(program, layout, q);
-        if !names_spared(program, layout, table, main, names.listed()) {
-            return false;
-        }
-    }
-    true
-}
-
 // ---- check 16 of the procedures
 
 #[tactic(auto, unfolding(model::specs::Procedures::parts_right_lem))]
@@ -250,7 +252,11 @@ pub fn parts_right(program: &[u8], layout: Layout, table: &[u64], main: Main) ->
     requires { PartsListed program.now table.now layout main }
     ensures { result ≡ parts_right_lem (parts_in (tables_of program.now) table.now main.label main.procedures) }
 {
-    procedures_right(program, layout, table, main)
-        && all_apart(program, layout, table, main)
-        && main_spared(program, layout, table, main)
+    let parts = Parts {
+        program,
+        layout,
+        table,
+        main,
+    };
+    parts.procedures_right() && parts.all_apart() && parts.main_spared()
 }

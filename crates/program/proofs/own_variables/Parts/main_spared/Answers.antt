@@ -1,4 +1,4 @@
--- `program::own_variables::main_spared` meets its contract.
+-- `program::own_variables::Parts::main_spared` meets its contract.
 use mathlib.Core.Path.{◌≡◌, sym, ap, ◌∙◌}
 use mathlib.Core.Bool.{not}
 use mathlib.Core.List.{List}
@@ -15,18 +15,18 @@ use Rattle.program.proofs.Items.{item_at_lem, items_length}
 use Rattle.model.proofs.Basics.Passes.{rest-fails, rest_goes, rest-ends}
 use Rattle.program.proofs.Tables.{sized}
 use Rattle.program.proofs.Every.{every-is}
-use Rattle.program.proofs.own_variables.main_spared.Goals as goal
-use Rattle.program.proofs.own_variables.main_spared.Goals.{After-names_spared, At-loop-i, In-loop-i}
+use Rattle.program.proofs.own_variables.Parts.main_spared.Goals as goal
+use Rattle.program.proofs.own_variables.Parts.main_spared.Goals.{After-names_spared, At-loop-i, In-loop-i}
 
 abbrev tables : At-loop-i → Tables
-tables c = tables_of c.args.program.now
+tables c = tables_of c.args.self.now.program.now
 
 abbrev listed : At-loop-i → List Procedure
-listed c = procedures_in (tables c) c.args.table.now c.args.main.procedures
+listed c = procedures_in (tables c) c.args.self.now.table.now c.args.self.now.main.procedures
 
-all : (c : At-loop-i) → length (items_of (tables c)) ≡ c.args.layout.statements
+all : (c : At-loop-i) → length (items_of (tables c)) ≡ c.args.self.now.layout.statements
 all c =
-    items_length (tables c) c.args.layout (sized c.args.program.now c.args.layout c.requires.placed)
+    items_length (tables c) c.args.self.now.layout (sized c.args.self.now.program.now c.args.self.now.layout c.args.self.now.listed.placed)
 
 in_list : (c : In-loop-i) → c.loop-i.i < length (items_of (tables (goal.at.In-loop-i c).At-loop-i))
 in_list c = rw (all (goal.at.In-loop-i c).At-loop-i) (omega arith)
