@@ -3,10 +3,9 @@
 // standard error.
 #![tactic(auto)]
 
-use files::{FileAnswer, answers};
+use files::answers;
 use std::env::Env;
 use std::fs::Files;
-use widening::Converted;
 
 // The first n bytes to the file that the second argument names. They always stand in the output.
 fn put(rt: &(impl Env + Files + Eprint), recipe: &[u8], n: usize) {
@@ -17,22 +16,19 @@ fn put(rt: &(impl Env + Files + Eprint), recipe: &[u8], n: usize) {
 fn convert(rt: &(impl Env + Files + Print + Eprint), old: &[u8]) {
     let mut recipe = [0u8; widening::PROGRAM];
     let mut scratch = [0u64; widening::SCRATCH];
-    let converted = widening::convert(old, &mut recipe, &mut scratch);
-    match converted {
-        Converted::Refused(k) => answers::refused(rt, k),
-        Converted::Written(n) => put(rt, &recipe, n),
+    match widening::convert(old, &mut recipe, &mut scratch) {
+        Ok(n) => put(rt, &recipe, n),
+        Err(refusal) => answers::refused(rt, refusal),
     }
 }
 
 fn main(rt: HostRuntime) {
-    if !files::has_arguments(&rt, 3, b"usage: convert OLD NEW\n") {
+    if !files::has_arguments(&rt, 3, "usage: convert OLD NEW\n") {
         return;
     }
     let mut old = [0u8; files::RECIPE];
-    let read = files::read(&rt, 1, &mut old);
-    let FileAnswer::Bytes(n) = read else {
+    let Some(n) = files::read(&rt, 1, &mut old) else {
         return;
     };
-    let n = files::at_most(n, &old);
     convert(&rt, &old[..n]);
 }

@@ -1,4 +1,5 @@
 // The lines that the programs print. One that cannot be written is lost.
+use arith::Cause;
 use refusals::Refusal;
 use std::env::Env;
 use std::fs::Files;
@@ -11,6 +12,16 @@ pub fn say(rt: &impl Print, text: &[u8]) {
 pub fn refused(rt: &impl Print, refusal: Refusal) {
     let k = u8::from(refusal);
     let _ = println!(rt; "refused {k}");
+}
+
+// That a sheet is held, and the cause of its first failure.
+pub fn held(rt: &impl Print, cause: Cause) {
+    let why = match cause {
+        Cause::Above => "too big",
+        Cause::Below => "too small",
+        Cause::NoDivisor => "no divisor",
+    };
+    let _ = println!(rt; "held {why}");
 }
 
 // How a run ended.

@@ -4,8 +4,7 @@
 // limit's among them, are said there. The log has room for 43,690 records.
 #![tactic(auto)]
 
-use files::{RunFiles, answers, at_most, choice_file};
-use interpreter::Ran;
+use files::{answers, choice_file};
 use std::env::Env;
 use std::fs::Files;
 
@@ -15,35 +14,26 @@ fn run(rt: &(impl Env + Files + Print + Eprint), recipe: &[u8], sheet: &[u8], fi
     let mut scratch = [0u64; interpreter::SCRATCH];
     let limit = choice_file::limit(file);
     let choices = choice_file::choices(file);
-    let ran = interpreter::run(recipe, sheet, limit, choices, &mut log, &mut scratch);
-    match ran {
-        Ran::Refused(k) => answers::refused(rt, k),
-        Ran::Ended {
-            end,
-            steps,
-            records,
-        } => answers::save(rt, 4, &log, end, steps, records),
+    match interpreter::run(recipe, sheet, limit, choices, &mut log, &mut scratch) {
+        Ok(ran) => answers::save(rt, 4, &log, u8::from(ran.end), ran.steps, ran.records),
+        Err(refusal) => answers::refused(rt, refusal),
     }
 }
 
 fn main(rt: HostRuntime) {
-    if !files::has_arguments(&rt, 5, b"usage: run RECIPE SHEET CHOICES LOG\n") {
+    if !files::has_arguments(&rt, 5, "usage: run RECIPE SHEET CHOICES LOG\n") {
         return;
     }
     let mut recipe = [0u8; files::RECIPE];
     let mut sheet = [0u8; files::SHEET];
     let mut file: [u8; files::CHOICES] = files::zeros();
-    let read = files::read_run(&rt, &mut recipe, &mut sheet, &mut file);
-    let RunFiles::Read {
-        recipe: n,
-        sheet: k,
-        choices: c,
-    } = read
-    else {
+    let Some(n) = files::read_run(&rt, &mut recipe, &mut sheet, &mut file) else {
         return;
     };
-    let n = at_most(n, &recipe);
-    let k = at_most(k, &sheet);
-    let c = at_most(c, &file);
-    run(&rt, &recipe[..n], &sheet[..k], &file[..c]);
+    run(
+        &rt,
+        &recipe[..n.recipe],
+        &sheet[..n.sheet],
+        &file[..n.choices],
+    );
 }
