@@ -82,10 +82,7 @@ pub fn conversion(ty: u64) -> u64
 pub fn is_atom(w: u64) -> bool
     ensures { result ≡ is_atom_lem w }
 {
-    if w < SUM {
-        return w >= READING;
-    }
-    w >= LOAD
+    if w < SUM { READING <= w } else { LOAD <= w }
 }
 
 // the word of an atom without its n
@@ -104,10 +101,7 @@ pub fn is_variable(w: u64, x: u64) -> bool
     if w < VARIABLE {
         return false;
     }
-    if w >= LOAD {
-        return false;
-    }
-    turned(w) == x
+    w < LOAD && turned(w) == x
 }
 
 // a word without the three bytes below its kind, which a variable's type is
@@ -130,10 +124,7 @@ pub fn is_load(w: u64, array: u64, len: u64) -> bool
     if w < LOAD {
         return false;
     }
-    if w / 0x01_0000 % 256 == array {
-        return w % 0x01_0000 == len;
-    }
-    false
+    w / 0x01_0000 % 256 == array && w % 0x01_0000 == len
 }
 
 // ---- nodes changed

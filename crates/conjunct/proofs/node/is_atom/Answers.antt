@@ -7,6 +7,6 @@ pub returns-then-w-lt-SUM : goal.returns-then-w-lt-SUM
 unfolding is_atom_lem
 returns-then-w-lt-SUM c = rw (lt-ltb _ _ c.if-w-lt-SUM.true)
 
-pub returns : goal.returns
+pub returns-else-w-lt-SUM : goal.returns-else-w-lt-SUM
 unfolding is_atom_lem
-returns c = rw (le-ltb _ _ c.if-w-lt-SUM.false)
+returns-else-w-lt-SUM c = rw (le-ltb _ _ c.if-w-lt-SUM.false)

@@ -13,8 +13,8 @@ returns-then-w-array c =
       eq-eqb _ _ c.if-w-array.true,
     )
 
-pub returns : goal.returns
-returns c =
+pub returns-else-w-array : goal.returns-else-w-array
+returns-else-w-array c =
     rw (
       ← at_load c.args.w c.args.array c.args.len c.if-w-lt-LOAD.false,
       ne_eqb _ _ c.if-w-array.false,
