@@ -169,10 +169,7 @@ pub fn spared_plain(s: &[u64], m: Footprint, p: usize, r: usize) -> usize
 {
     for l in (p..r).rev() {
         let d = code_table::fetch(s, 0, l);
-        if 11 <= d.kind {
-            return l + 1;
-        }
-        if !m.spares(d) {
+        if 11 <= d.kind || !m.spares(d) {
             return l + 1;
         }
     }

@@ -22,9 +22,6 @@ stopped c =
 pub returns-then-d-ge11 : goal.returns-then-d-ge11
 returns-then-d-ge11 c = stopped (goal.at.returns-then-d-ge11 c).After-fetch-d
 
-pub returns-then-not-spares : goal.returns-then-not-spares
-returns-then-not-spares c = stopped (goal.at.returns-then-not-spares c).After-fetch-d
-
 pub loop-l-preserved : goal.loop-l-preserved
 loop-l-preserved c =
     let a = c.args in
