@@ -268,6 +268,7 @@ fn keep(s: &mut [u64], to: usize, known: usize, w: &[u64], m: usize)
 }
 
 // to the region at `to`, what that at `from` has and that at `known` has not. `words` is room to work in.
+// A loop beside that of join: what is called, with what, and where it ends all differ.
 fn sift(s: &mut [u64], to: usize, from: usize, known: usize, words: &mut [u64])
     requires { ThreeRegions s.old to from known × (most_nodes ≤ length words.old) }
     ensures { (set_of s.new to ≡ minus (set_of s.old from) (set_of s.old known)) × Within to s.old s.new }
