@@ -182,13 +182,21 @@ fn rounds(
 {
     open_rounds(s, b);
     let inner = b + 2 * sets::REGION;
-    for _k in 0..MOST_ROUNDS {
-        walk_in(s, depth, light, inner, p, q)?;
-        if let Round::Settled = close_round(s, light, b)? {
-            return Ok(());
+    let mut k: usize = 0;
+    // A loop, and no for: it yields that the set is settled, or the refusal, by break.
+    loop {
+        if MOST_ROUNDS <= k {
+            break Err(Refusal::NeverSettles);
+        }
+        match walk_in(s, depth, light, inner, p, q) {
+            Err(refusal) => break Err(refusal),
+            Ok(_) => match close_round(s, light, b) {
+                Err(refusal) => break Err(refusal),
+                Ok(Round::Settled) => break Ok(()),
+                Ok(Round::Again) => k += 1,
+            },
         }
     }
-    Err(Refusal::NeverSettles)
 }
 
 // The rounds as the definition has them: light ones first, and one round on all that they come to. Where

@@ -168,42 +168,34 @@ rounds-walk_in-requires t c =
 
 pub rounds-close_round-requires : goal.rounds-close_round-requires
 rounds-close_round-requires t c =
-    closing c.args.light c.args.p c.args.q c.args.b c.args.s.now c.open_rounds.new.s (rounds-from t (goal.at.rounds-close_round-requires t c).After-open_rounds) c.loop-k._k c.loop-k.s c.loop-k.invariant
-    (omega arith) c.walk_in.result c.walk_in.new.s c.walk_in.auto.s c.walk_in.ensures
-    c.in_ok-walk_in.was c.requires.1.code c.requires.1.lies
-
-pub rounds-returns-in_err-walk_in : goal.rounds-returns-in_err-walk_in
-rounds-returns-in_err-walk_in t c =
-    let gone = err_from_is_err_and c.from_residual.result c.from_residual.ensures.1 in
-    rw (gone.1, gone.2)
-    (body_refused c.args.light c.args.p c.args.q c.args.b c.args.s.now c.open_rounds.new.s (rounds-from t (goal.at.rounds-returns-in_err-walk_in t c).After-open_rounds) c.loop-k._k c.loop-k.s c.loop-k.invariant
-    (omega arith) c.walk_in.result c.walk_in.new.s c.walk_in.auto.s c.walk_in.ensures _ c.in_err-walk_in.was)
-
-pub rounds-returns-in_err-close_round : goal.rounds-returns-in_err-close_round
-rounds-returns-in_err-close_round t c =
-    let gone = err_from_is_err_and c.from_residual-in_err-close_round.result c.from_residual-in_err-close_round.ensures.1 in
-    rw (gone.1, gone.2)
-    (closing-refused c.args.light c.args.p c.args.q c.args.b c.args.s.now c.open_rounds.new.s (rounds-from t (goal.at.rounds-returns-in_err-close_round t c).After-open_rounds) c.loop-k._k c.loop-k.s c.loop-k.invariant
-    (omega arith) c.walk_in.result c.walk_in.new.s c.walk_in.auto.s c.walk_in.ensures
-    c.in_ok-walk_in.was c.close_round.new.s c.close_round.auto.s c.close_round.result c.close_round.ensures _ c.in_err-close_round.was)
-
-pub rounds-returns-in-Settled : goal.rounds-returns-in-Settled
-rounds-returns-in-Settled t c =
-    rounds-settled c.args.light c.args.p c.args.q c.args.b c.args.s.now c.open_rounds.new.s (rounds-from t (goal.at.rounds-returns-in-Settled t c).After-open_rounds) c.loop-k._k c.loop-k.s c.loop-k.invariant
-    (omega arith) c.walk_in.result c.walk_in.new.s c.walk_in.auto.s c.walk_in.ensures
-    c.in_ok-walk_in.was c.close_round.new.s c.close_round.auto.s c.close_round.result c.close_round.ensures
-    (c.in_ok-close_round.was ∙ ap Ok c.in-Settled.is)
+    closing c.args.light c.args.p c.args.q c.args.b c.args.s.now c.open_rounds.new.s (rounds-from t (goal.at.rounds-close_round-requires t c).After-open_rounds) c.loop-k.k c.loop-k.s c.loop-k.invariant
+    (omega arith) c.walk_in.result c.walk_in.new.s c.walk_in.auto.s c.walk_in.ensures c.in-Ok.is c.requires.1.code c.requires.1.lies
 
 pub rounds-loop-k-preserved : goal.rounds-loop-k-preserved
 rounds-loop-k-preserved t c =
-    next-round c.args.light c.args.p c.args.q c.args.b c.args.s.now c.open_rounds.new.s (rounds-from t (goal.at.rounds-loop-k-preserved t c).After-open_rounds) c.loop-k._k c.loop-k.s c.loop-k.invariant
-    (omega arith) c.walk_in.result c.walk_in.new.s c.walk_in.auto.s c.walk_in.ensures
-    c.in_ok-walk_in.was c.close_round.new.s c.close_round.auto.s c.close_round.result c.close_round.ensures
-    (c.in_ok-close_round.was ∙ ap Ok c.in_default.is) c.requires.1.code c.requires.1.lies
+    next-round c.args.light c.args.p c.args.q c.args.b c.args.s.now c.open_rounds.new.s (rounds-from t (goal.at.rounds-loop-k-preserved t c).After-open_rounds) c.loop-k.k c.loop-k.s c.loop-k.invariant
+    (omega arith) c.walk_in.result c.walk_in.new.s c.walk_in.auto.s c.walk_in.ensures c.in-Ok.is c.close_round.new.s c.close_round.auto.s c.close_round.result c.close_round.ensures
+    (c.in-Ok-Again.is ∙ ap Ok c.in-Ok-Again.field-0-is) c.requires.1.code c.requires.1.lies
 
-pub rounds-returns : goal.rounds-returns
-rounds-returns t c =
-    never_settled c.args.light c.args.p c.args.q c.args.b c.args.s.now c.open_rounds.new.s (rounds-from t (goal.at.rounds-returns t c).After-open_rounds) c.loop-k._k c.loop-k.s c.loop-k.invariant (omega arith)
+pub rounds-returns-in-Err : goal.rounds-returns-in-Err
+rounds-returns-in-Err t c =
+    body_refused c.args.light c.args.p c.args.q c.args.b c.args.s.now c.open_rounds.new.s (rounds-from t (goal.at.rounds-returns-in-Err t c).After-open_rounds) c.loop-k.k c.loop-k.s c.loop-k.invariant
+    (omega arith) c.walk_in.result c.walk_in.new.s c.walk_in.auto.s c.walk_in.ensures _ c.in-Err.is
+
+pub rounds-returns-in-Err-close_round : goal.rounds-returns-in-Err-close_round
+rounds-returns-in-Err-close_round t c =
+    closing-refused c.args.light c.args.p c.args.q c.args.b c.args.s.now c.open_rounds.new.s (rounds-from t (goal.at.rounds-returns-in-Err-close_round t c).After-open_rounds) c.loop-k.k c.loop-k.s c.loop-k.invariant
+    (omega arith) c.walk_in.result c.walk_in.new.s c.walk_in.auto.s c.walk_in.ensures c.in-Ok.is c.close_round.new.s c.close_round.auto.s c.close_round.result c.close_round.ensures _ c.in-Err-close_round.is
+
+pub rounds-returns-in-Ok-Settled : goal.rounds-returns-in-Ok-Settled
+rounds-returns-in-Ok-Settled t c =
+    rounds-settled c.args.light c.args.p c.args.q c.args.b c.args.s.now c.open_rounds.new.s (rounds-from t (goal.at.rounds-returns-in-Ok-Settled t c).After-open_rounds) c.loop-k.k c.loop-k.s c.loop-k.invariant
+    (omega arith) c.walk_in.result c.walk_in.new.s c.walk_in.auto.s c.walk_in.ensures c.in-Ok.is c.close_round.new.s c.close_round.auto.s c.close_round.result c.close_round.ensures
+    (c.in-Ok-Settled.is ∙ ap Ok c.in-Ok-Settled.field-0-is)
+
+pub rounds-returns-then-k-ge-MOST_ROUNDS : goal.rounds-returns-then-k-ge-MOST_ROUNDS
+rounds-returns-then-k-ge-MOST_ROUNDS t c =
+    never_settled c.args.light c.args.p c.args.q c.args.b c.args.s.now c.open_rounds.new.s (rounds-from t (goal.at.rounds-returns-then-k-ge-MOST_ROUNDS t c).After-open_rounds) c.loop-k.k c.loop-k.s c.loop-k.invariant c.if-k-ge-MOST_ROUNDS.true
 
 -- ---- `settle`
 

@@ -1,6 +1,7 @@
 -- The cycle of `walk::walk_in`, `walk_with`, `turn`, `branch`, `repeat`, `settle` and `rounds`: its measure is made of the
 -- remaining depth, which falls with every way into a block.
-use Prim.Native.Nat.{◌+◌, ◌*◌}
+use Prim.Native.Nat.{◌+◌, ◌-◌, ◌*◌}
+use Rattle.model.specs.Sizes.{most_rounds}
 use Rattle.walk.proofs.Rounding.{InRounds}
 use Rattle.walk.proofs.Walking.{Walking}
 use Rattle.walk.proofs.+branch_repeat_rounds_settle_turn_walk_in_walk_with.Given as goal
@@ -27,7 +28,10 @@ abbrev pub decreases-walk_with : goal.decreases-walk_with
 decreases-walk_with l = 6 * l.depth + 1
 
 abbrev pub invariant-rounds-loop-k : goal.invariant-rounds-loop-k
-invariant-rounds-loop-k l = InRounds l.light l.p l.q l.b l.initial.s l._k l.s
+invariant-rounds-loop-k l = InRounds l.light l.p l.q l.b l.initial.s l.k l.s
+
+abbrev pub decreases-rounds-loop-k : goal.decreases-rounds-loop-k
+decreases-rounds-loop-k l = most_rounds - l.k
 
 abbrev pub invariant-walk_with-loop-r : goal.invariant-walk_with-loop-r
 invariant-walk_with-loop-r l = Walking l.light l.initial.s l.depth l.b l.p l.q l.s l.m l.r
