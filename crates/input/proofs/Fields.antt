@@ -2,12 +2,12 @@
 use mathlib.Core.Path.{◌≡◌, refl, sym, ◌∙◌, ap, subst}
 use mathlib.Core.Bool.{◌&&◌, cond}
 use mathlib.Core.List.{List, [], ◌∷◌}
-use Prim.Native.Nat.{ℕ, zero, suc, ◌+◌, ◌*◌, ◌/◌, ◌%◌, ◌^◌, ◌-◌, ◌≤◌, ◌<◌}
+use Prim.Native.Nat.{ℕ, zero, suc, ◌+◌, ◌*◌, ◌/◌, ◌%◌, ◌^◌, ◌≤◌, ◌<◌}
 use native.Mathlib.Nat.{mul_comm, mul-le-mul_right, div-mul-le_self, add-zero, div-le_of_le-mul}
 use native.Mathlib.Omega.{arith}
 use lib.Dec.{ltb}
 use lib.IntN.{pos}
-use lib.ListN.{length, get_or, take, drop}
+use lib.ListN.{length, get_or}
 use borrow.Author.Tests.{lt-ltb}
 use Rattle.arith.specs.declared.Range.{Range}
 use Rattle.arith.specs.Types.{bits, Row}
@@ -176,9 +176,6 @@ pub input-part : (table s : List ℕ) (I : Input) (f : ℕ) → read_input (fiel
 input-part table s I f e h = field-readings table s I f e h ∙ part-readings table s f (ap (mapped (λ (J : Input). tt {0})) e) h
 
 -- ---- by what was read of a field's pair
-
-pub taken : (s : List ℕ) (f a l : ℕ) → a ≡ (pair_at s (8 * f)).offset → l ≡ (pair_at s (8 * f)).len → take (a + l - a) (drop a s) ≡ field_part s f
-taken s f a l ea el = let e : a + l - a ≡ l = omega arith in rw (e, ea, el)
 
 module _ (table s : List ℕ) (f : ℕ) where
   pub counted : (l w : ℕ) → InputIsRead table s → f < length table / 2 → l ≡ (pair_at s (8 * f)).len → w ≡ width (get_or table (2 * f) 0)

@@ -4,7 +4,7 @@ use mathlib.Core.Path.{◌≡◌, refl, ◌∙◌, ap}
 use mathlib.Core.Bool.{Bool, true, false, ◌&&◌, cond}
 use mathlib.Core.List.{List}
 use Prim.Native.Nat.{ℕ, zero, suc, ◌+◌, ◌-◌, ◌*◌, ◌/◌, ◌%◌, ◌^◌, ◌≤◌, ◌<◌}
-use native.Mathlib.Nat.{mod-eq_of_lt, zero-mul, mul_comm, mul-add, mul-one, le_trans}
+use native.Mathlib.Nat.{zero-mul, mul_comm, mul-add, mul-one, le_trans}
 use native.Mathlib.Omega.{arith}
 use lib.Dec.{leb}
 use lib.IntN.{ℤ, pos, negsuc, neg_ℤ}
@@ -93,13 +93,6 @@ unfolding every entries reading_at_lem
 full-width F h s zero a = refl
 full-width F h s (suc n) a =
     rw (fits_bits F h (wrap F.ty (pos (bits_at F.ty s a))) (wrap-fits F.ty (pos (bits_at F.ty s a))), full-width F h s n (a + width F.ty))
-
--- ---- a power of two as a shifted one
-
-pub shifted : (b : ℕ) → b < 64 → 1 * 2 ^ b % 2 ^ 64 ≡ 2 ^ b
-shifted b h =
-    let one : 1 * 2 ^ b ≡ 2 ^ b = omega arith in
-    rw one (mod-eq_of_lt {n = 2 ^ b} {m = 2 ^ 64} (omega (arith, pow_mono {i = b} {j = 63} (omega arith))))
 
 -- ---- one field, reading by reading
 

@@ -25,6 +25,9 @@ const FIELD_SIZE: usize = fields::SIZE;
 
 const OVER_BITS: u8 = fields::OVER_BITS;
 
+// the most readings of a field
+const MOST_READINGS: usize = 128;
+
 // the first code of a signed type, and how many widths types have
 const SIGNED: u8 = 4;
 
@@ -69,7 +72,7 @@ fn part_end(ty: u8, input: &[u8], at: usize, next: usize) -> Option<usize>
     if len % w != 0 {
         return None;
     }
-    if 128 * w < len {
+    if MOST_READINGS * w < len {
         return None;
     }
     if input.len() < offset + len {

@@ -4,14 +4,10 @@ use native.Mathlib.Omega.{arith}
 use Rattle.input.proofs.Fields.{row-width, width_by, bits_by, bits_8, bits_16, bits_32, bits_64}
 use Rattle.input.proofs.bits_at.Goals as goal
 
-pub overflow_cast-result : goal.overflow_cast-result
-overflow_cast-result c = omega (arith, c.type_inv.part c.args.at)
-
 pub u64_at-requires : goal.u64_at-requires
 u64_at-requires c =
-    let r = c.in_default.in_default-own.rest in
     let p = c.requires.0 in
-    omega (arith, row-width p.0 _ p.1, width_by p.0 3 (bits_64 p.0 _ p.1 r.0.0.1 r.0.1 r.1))
+    omega (arith, row-width p.0 _ p.1, width_by p.0 3 (bits_64 p.0 _ p.1 (λ e. absurd (omega arith)) (λ e. absurd (omega arith)) (λ e. absurd (omega arith))))
 
 pub returns-in-8 : goal.returns-in-8
 returns-in-8 c = λ ty row. sym (bits_by ty 0 _ _ (bits_8 ty _ row c.in-8.is))
@@ -24,5 +20,4 @@ returns-in-32 c = λ ty row. c.u32_at.ensures.0 ∙ sym (bits_by ty 2 _ _ (bits_
 
 pub returns-in_default : goal.returns-in_default
 returns-in_default c = λ ty row.
-    let r = c.in_default.in_default-own.rest in
-    c.u64_at.ensures ∙ sym (bits_by ty 3 _ _ (bits_64 ty _ row r.0.0.1 r.0.1 r.1))
+    c.u64_at.ensures ∙ sym (bits_by ty 3 _ _ (bits_64 ty _ row (λ e. absurd (omega arith)) (λ e. absurd (omega arith)) (λ e. absurd (omega arith))))

@@ -1,7 +1,6 @@
 -- `input::part_in_bits` meets its contract: from turn to turn goes that the readings still to come decide.
 use mathlib.Core.Path.{◌≡◌, sym, ◌∙◌, ap, subst}
 use Prim.Native.Nat.{ℕ, ◌*◌, ◌/◌}
-use native.Mathlib.Nat.{div-mul-le_self}
 use native.Mathlib.Omega.{arith}
 use lib.ListN.{length}
 use Rattle.arith.proofs.Spans.{bits_le}
@@ -10,7 +9,7 @@ use Rattle.model.specs.Bytes.{entries}
 use Rattle.model.specs.Fields.{entry_of}
 use Rattle.model.specs.Input.{width, reading_at_lem, in_bits_lem}
 use Rattle.input.specs.Bits.{LimitsAre}
-use Rattle.input.proofs.Fields.{row-width, some-width, next-inside}
+use Rattle.input.proofs.Fields.{row-width, some-width}
 use Rattle.input.proofs.Narrow.{full-width, held_all, held_on, held_off, held-end}
 use Rattle.input.proofs.part_in_bits.Goals as goal
 use Rattle.input.proofs.part_in_bits.Goals.{After-is_between}
@@ -41,11 +40,6 @@ loop-k-init c =
     let s = c.args.part.now in
     let t = c.args.ty in
     (ap (λ (w : ℕ). every (in_bits_lem (entry_of c.args.ty c.args.size)) (entries (reading_at_lem t) (width t) s 0 (length s / w))) (sym (row-width c.args.ty _ c.row_of-range.ensures)) ∙ sym (held_all (entry_of c.args.ty c.args.size) s _))
-
-pub reading_by_row-n-requires : goal.reading_by_row-n-requires
-reading_by_row-n-requires c =
-    let s = c.args.part.now in
-    ((_, c.row_of-range.ensures), next-inside c.loop-k.k _ _ _ c.loop-k-test.true (div-mul-le_self (length s) _))
 
 pub returns-then-not-is_between : goal.returns-then-not-is_between
 returns-then-not-is_between c =

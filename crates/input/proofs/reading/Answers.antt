@@ -4,6 +4,3 @@ use Rattle.input.proofs.reading.Goals as goal
 
 pub reading_by_row-requires : goal.reading_by_row-requires
 reading_by_row-requires c = ((_, c.step_range.ensures), rw (row-width _ _ c.step_range.ensures) c.requires.1)
-
-pub returns : goal.returns
-returns c = c.reading_by_row.ensures _ c.step_range.ensures
