@@ -48,14 +48,6 @@ module _ (s : List ℕ) (p : Pair) (inside : p.offset + p.len ≤ length s) wher
       (ap (every (λ b. b)) (entries-part (node_right_lem types) node_size (right-narrow types) s p.offset p.len (p.len / node_size) 0 (omega arith)
       ∙ ap (λ (a : ℕ). entries (node_right_lem types) node_size s a (p.len / node_size)) (add-zero p.offset)))
 
--- by what was read of the pair at a place
-module _ (s : List ℕ) (at a l : ℕ) (ea : a ≡ (pair_at s at).offset) (el : l ≡ (pair_at s at).len) where
-  pub part-taken : take (a + l - a) (drop a s) ≡ pair_part s at
-  part-taken = let e : a + l - a ≡ l = omega arith in rw (e, ea, el)
-
-  pub part-ends : (pair_at s at).offset + (pair_at s at).len ≤ length s → a + l ≤ length s
-  part-ends h = rw (ea, el) h
-
 -- the tests of one pair, by its part t
 module _ (types s : List ℕ) (p : Pair) (inside : p.offset + p.len ≤ length s) (t : List ℕ) (is : t ≡ part s p.offset p.len) where
   size : length t ≡ p.len

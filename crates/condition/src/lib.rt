@@ -91,53 +91,34 @@ pub fn node_at(part: &[u8], k: usize) -> Node
 fn constant_right(ty: u8, field: usize, imm: u64) -> bool
     ensures { result ≡ constant_right_lem ty field imm }
 {
-    if TYPE_CODES <= ty {
-        return false;
-    }
-    if field != 0 {
-        return false;
-    }
-    arith::is_of_type(arith::range_of(ty), arith::immediate(ty, imm))
+    ty < TYPE_CODES
+        && field == 0
+        && arith::is_of_type(arith::range_of(ty), arith::immediate(ty, imm))
 }
 
 // A reading of a listed field in its type.
 fn reading_right(fields: &[u8], ty: u8, field: usize) -> bool
     ensures { result ≡ reading_right_lem (types_in (fields_in fields.now)) ty field }
 {
-    if fields.len() / FIELD_SIZE <= field {
-        return false;
-    }
-    ty == fields[FIELD_SIZE * field]
+    field < fields.len() / FIELD_SIZE && ty == fields[FIELD_SIZE * field]
 }
 
 // An operation or a conversion: only the type is used.
 fn operation_right(ty: u8, field: usize, imm: u64) -> bool
     ensures { result ≡ operation_right_lem ty field imm }
 {
-    if TYPE_CODES <= ty {
-        return false;
-    }
-    if field != 0 {
-        return false;
-    }
-    imm == 0
+    ty < TYPE_CODES && field == 0 && imm == 0
 }
 
 // A node's form, by its kind.
 fn node_right(fields: &[u8], v: Node) -> bool
     ensures { result ≡ right_by_lem (types_in (fields_in fields.now)) v.kind v.ty v.field v.imm }
 {
-    let kind = v.kind;
-    if kind == CONSTANT {
-        return constant_right(v.ty, v.field, v.imm);
+    match v.kind {
+        CONSTANT => constant_right(v.ty, v.field, v.imm),
+        READING => reading_right(fields, v.ty, v.field),
+        kind => kind < FILE_KINDS && operation_right(v.ty, v.field, v.imm),
     }
-    if kind == READING {
-        return reading_right(fields, v.ty, v.field);
-    }
-    if kind < FILE_KINDS {
-        return operation_right(v.ty, v.field, v.imm);
-    }
-    false
 }
 
 // The node with a number in a part, if it has its form.

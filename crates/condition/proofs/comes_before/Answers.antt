@@ -1,11 +1,8 @@
 -- `condition::comes_before` meets its contract.
 use lib.ListN.{length}
 use Rattle.model.proofs.Conjuncts.Order.{compare_same}
-use Rattle.condition.proofs.Orders.{other-length, same_before}
+use Rattle.condition.proofs.Orders.{same_before}
 use Rattle.condition.proofs.comes_before.Goals as goal
-
-pub returns-then-a-b : goal.returns-then-a-b
-returns-then-a-b c = other-length _ _ _ c.if-a-b.true
 
 pub returns : goal.returns
 returns c =

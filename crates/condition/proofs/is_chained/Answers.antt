@@ -1,13 +1,8 @@
 -- `condition::is_chained` meets its contract.
 use mathlib.Core.Path.{sym, ◌∙◌}
 use native.Mathlib.Omega.{arith}
-use Rattle.condition.proofs.Passes.{pairs_all, chained_off, chained_on, chained-end}
+use Rattle.condition.proofs.Passes.{chained_off, chained_on, chained-end}
 use Rattle.condition.proofs.is_chained.Goals as goal
-
-pub loop-i-init : goal.loop-i-init
-loop-i-init c =
-    let g = c.args in
-    rw (pairs_all g.condition.now g.at g.count)
 
 pub returns-then-offset-next : goal.returns-then-offset-next
 returns-then-offset-next c =

@@ -35,9 +35,6 @@ loop-k-preserved-then-kind-ne-READING c =
           (seen_of (types_in (fields_in c.args.fields.now)) c.loop-k.seen) c.if-kind-ne-READING.true,
     )
 
-pub offset_bounds-seen-f : goal.offset_bounds-seen-f
-offset_bounds-seen-f c = omega (arith, few c.args.fields.now c.args.part.now c.loop-k.k c.node_at-v.result c.loop-k.seen c.node_at-v.ensures c.loop-k-test.true c.requires.1 c.requires.0 c.if-kind-ne-READING.false)
-
 pub bounds-seen-f : goal.bounds-seen-f
 bounds-seen-f c = omega (arith, few c.args.fields.now c.args.part.now c.loop-k.k c.node_at-v.result c.loop-k.seen c.node_at-v.ensures c.loop-k-test.true c.requires.1 c.requires.0 c.if-kind-ne-READING.false)
 
@@ -61,9 +58,6 @@ returns-then-i-last-2 c =
     sym (c.loop-k.invariant.2
     ∙ counted_jump c.args.part.now (length c.args.part.now / node_size) c.loop-k.k c.node_at-v.result c.node_at-v.ensures c.loop-k-test.true (types_in (fields_in c.args.fields.now)) c.loop-k.seen c.requires.1
     c.if-kind-ne-READING.false c.if-i-last.false c.if-i-last-2.true)
-
-pub offset_bounds-seen-f-in-loop-k : goal.offset_bounds-seen-f-in-loop-k
-offset_bounds-seen-f-in-loop-k c = omega (arith, few c.args.fields.now c.args.part.now c.loop-k.k c.node_at-v.result c.loop-k.seen c.node_at-v.ensures c.loop-k-test.true c.requires.1 c.requires.0 c.if-kind-ne-READING.false)
 
 pub bounds-seen-f-in-loop-k : goal.bounds-seen-f-in-loop-k
 bounds-seen-f-in-loop-k c = omega (arith, few c.args.fields.now c.args.part.now c.loop-k.k c.node_at-v.result c.loop-k.seen c.node_at-v.ensures c.loop-k-test.true c.requires.1 c.requires.0 c.if-kind-ne-READING.false)

@@ -80,9 +80,6 @@ returns-then-not-all_right c =
     not-read (goal.at.returns-then-not-all_right c).After-u32_at-fields (form_unlisted c.args.condition.now c.u32_at-conjuncts.result c.u32_at-fields.result c.if-condition-lt-COUNTS_SIZE.false c.if-conjuncts-gt-MOST_CONJUNCTS.false c.if-fields-gt-MOST_FIELDS.false
     (chain (goal.at.returns-then-not-all_right c).Else-not-is_chained) wrong)
 
-pub read_conjuncts-requires : goal.read_conjuncts-requires
-read_conjuncts-requires c = (c.if-fields-gt-MOST_FIELDS.false, chain (goal.at.read_conjuncts-requires c).Else-not-is_chained)
-
 pub returns-in_err-read_conjuncts : goal.returns-in_err-read_conjuncts
 returns-in_err-read_conjuncts c =
     let off = formed-false _ (number_of c.in_err-read_conjuncts.field-0.0) c.in_err-read_conjuncts.ensures in
@@ -90,9 +87,6 @@ returns-in_err-read_conjuncts c =
     rw (p.1, p.2, off.1)
     (not-read (goal.at.returns-in_err-read_conjuncts c).After-u32_at-fields (form_wrong c.args.condition.now c.u32_at-conjuncts.result c.u32_at-fields.result c.if-condition-lt-COUNTS_SIZE.false c.if-conjuncts-gt-MOST_CONJUNCTS.false c.if-fields-gt-MOST_FIELDS.false
     (chain (goal.at.returns-in_err-read_conjuncts c).Else-not-is_chained) (listed (goal.at.returns-in_err-read_conjuncts c).Else-not-all_right) off.0))
-
-pub is_rising-requires : goal.is_rising-requires
-is_rising-requires c = (c.if-fields-gt-MOST_FIELDS.false, chain (goal.at.is_rising-requires c).Else-not-is_chained, pairs c)
 
 pub returns-then-not-is_rising : goal.returns-then-not-is_rising
 returns-then-not-is_rising c =
