@@ -83,7 +83,8 @@ fn put_field(fields: &[u8], input: &[u8], f: usize, mags: &mut [u64], negs: &mut
     n
 }
 
-// The readings of all fields, where there is room for those that are listed.
+// The readings of all fields, where there is room for those that are listed. Counts, magnitudes and signs are
+// three slices, as the evaluator takes them.
 fn decode(fields: &[u8], input: &[u8], counts: &mut [usize], mags: &mut [u64], negs: &mut [bool])
     requires { Decodable fields.now input.now mags.old negs.old × (length counts.old ≡ most_fields) }
     ensures { Lent counts.new mags.new negs.new

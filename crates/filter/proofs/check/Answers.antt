@@ -21,9 +21,6 @@ returns-in_err-sizes c =
     let p = err_from_is_err_and c.from_residual.result c.from_residual.ensures.1 in
     rw (p.1, p.2) (condition-refused c.args.condition.now c.args.input.now (number_of c.in_err-sizes.field-0.0) c.in_err-sizes.ensures)
 
-pub fields-requires : goal.fields-requires
-fields-requires c = condition-read c
-
 pub returns-in_err-read : goal.returns-in_err-read
 returns-in_err-read c =
     let n = number_of c.in_err-read.field-0.0 in
@@ -31,9 +28,6 @@ returns-in_err-read c =
     rw (p.1, p.2)
     (input-refused c.args.condition.now c.args.input.now c.in_ok-sizes.sizes (condition-read (goal.at.returns-in_err-read c).In_ok-sizes) n
     (subst (λ fs. refused n ≡ mapped (λ I. tt {0}) (read_input fs c.args.input.now)) c.fields.ensures.0 c.in_err-read.ensures))
-
-pub judge_input-requires : goal.judge_input-requires
-judge_input-requires c = record { of_condition = condition-read (goal.at.judge_input-requires c).In_ok-sizes; of_input = input-read c }
 
 pub returns : goal.returns
 returns c =

@@ -7,9 +7,6 @@ use Rattle.model.specs.Refusals.{ok, mapped}
 use Rattle.model.specs.Program.{type_right}
 use Rattle.model.specs.Fields.{types_in}
 use Rattle.model.specs.Input.{read_input}
-use Rattle.condition.specs.Answers.{fields_of}
-use Rattle.plan.specs.Readings.{Decoded}
-use Rattle.filter.specs.Decoding.{input_in}
 use Rattle.filter.proofs.Conjuncts.{types-right}
 use Rattle.filter.proofs.judge_in.Goals as goal
 
@@ -25,14 +22,3 @@ decode-requires c =
       },
       c.requires.counts-long,
     )
-
-pub judge-requires : goal.judge-requires
-judge-requires c = (c.requires.read.of_condition, c.decode.ensures.0)
-
-pub returns : goal.returns
-returns c =
-    let a = c.args in
-    let l = c.decode.new in
-    c.judge.ensures (input_in (fields_of a.condition.now) a.input.now)
-    (subst (λ fs. Decoded (input_in fs a.input.now) l.counts l.mags l.negs) c.fields-fields.ensures.0
-    c.decode.ensures.1)

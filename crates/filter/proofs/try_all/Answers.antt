@@ -24,10 +24,6 @@ module _ (c : After-conjunct-part) where
       next-conjunct c.args.condition.now c.args.sizes c.requires.read c.loop-place.place c.loop-place-test.true
       c.conjunct-part.result.now c.conjunct-part.ensures.nodes
 
--- ---- answers
-pub loop-place-init : goal.loop-place-init
-loop-place-init c = (refl, λ I d. refl)
-
 pub first_failure-requires : goal.first_failure-requires
 first_failure-requires c =
     let i = c.loop-place.place in
