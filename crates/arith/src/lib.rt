@@ -58,7 +58,8 @@ impl From<Cause> for u64 {
     }
 }
 
-// The word of a step's result wrapped to the type, and whether the step overflowed.
+// The word of a step's result wrapped to the type, and whether the step overflowed. No Option: the word holds
+// either way.
 #[derive(Clone, Copy)]
 pub struct WrappedWord {
     pub word: u64,

@@ -7,7 +7,7 @@ ghost use Rattle.arith.specs.Step.{exact_of_lem, lacks_divisor};
 use super::{Num, Op};
 
 // A whole number whose magnitude may pass 64 bits: its sign, whether the magnitude is 2^64 or
-// more, and the magnitude modulo 2^64.
+// more, and the magnitude modulo 2^64. No Option: the lowest bits hold either way.
 #[derive(Clone, Copy)]
 pub struct Whole {
     pub neg: bool,
