@@ -117,7 +117,10 @@ fn read_table(program: &[u8], most: usize, entry: usize) -> Result<Layout, Refus
     }
     let mut end = SECTION_TABLE;
     for i in 0..SECTIONS {
-        let pair = section_at(program, PAIR_SIZE * i, end)?;
+        // let .. else, and no ?: a reader's entry is taken so, and its one refusal passed on.
+        let Ok(pair) = section_at(program, PAIR_SIZE * i, end) else {
+            return Err(Refusal::WrongSections);
+        };
         end = pair.at + pair.len;
     }
     if end != program.len() {

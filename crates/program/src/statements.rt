@@ -164,7 +164,10 @@ pub fn statements_right(program: &[u8], layout: Layout) -> Result<(), Refusal>
     let mut agree = true;
     let mut inside = true;
     for i in 0..layout.statements {
-        let q = read_statement(program, layout, i)?;
+        // let .. else, and no ?: a reader's entry is taken so, and its one refusal passed on.
+        let Ok(q) = read_statement(program, layout, i) else {
+            return Err(Refusal::WrongStatement);
+        };
         agree &= types_agree(program, layout, q);
         inside &= immediate_right(program, layout, q);
     }

@@ -13,11 +13,10 @@ use Rattle.program.specs.Numbers.{sections}
 use Rattle.program.specs.declared.sections.Pair.{Pair}
 use Rattle.program.proofs.sections.Chain.{section_taken, section_refused}
 use Rattle.program.proofs.sections.Chain.{chain_goes, chain_breaks, chain_ends, table-short, table-long, table_broken, table-linked}
-use Rattle.std.proofs.lemmas.Result.{err_from_is_err_and}
 use Rattle.refusals.specs.Answers.{number_of}
 use Rattle.program.proofs.sections.read_table.Goals as goal
 use Rattle.program.proofs.sections.read_table.Goals.{then-program-lt-SECTION_TABLE-via-then-program-lt-SECTION_TABLE, then-program-lt-SECTION_TABLE-via-else-program-lt-SECTION_TABLE+then-most-program}
-use Rattle.program.proofs.sections.read_table.Goals.{After-loop-i, At-loop-i, In_ok-pair}
+use Rattle.program.proofs.sections.read_table.Goals.{After-loop-i, At-loop-i, In-Ok}
 
 abbrev bytes : At-loop-i → List ℕ
 bytes c = c.args.program.now
@@ -30,8 +29,8 @@ abbrev entry : At-loop-i → ℕ
 entry c = c.args.entry
 
 -- the pair of the section that was taken
-abbrev pair : In_ok-pair → Pair
-pair c = c.in_ok-pair.pair
+abbrev pair : In-Ok → Pair
+pair c = c.in-Ok.pair
 
 -- the file is as long as it may be
 long : (c : At-loop-i) → section_table ≤ length (bytes c)
@@ -54,22 +53,17 @@ returns-then-program-lt-SECTION_TABLE c =
           rw (table-long a.program.now a.most a.entry w.if-program-lt-SECTION_TABLE.false w.if-most-program.true)
     ]
 
-pub returns-in_err-pair : goal.returns-in_err-pair
-returns-in_err-pair c =
-    let w = section_refused (bytes (goal.at.returns-in_err-pair c).At-loop-i) (pair_size_lem * c.loop-i.i) c.loop-i.end (number_of c.in_err-pair.field-0.0) c.in_err-pair.ensures.0 in
-    let p = err_from_is_err_and c.from_residual.result c.from_residual.ensures.1 in
-    let breaks = chain_breaks (bytes (goal.at.returns-in_err-pair c).At-loop-i) c.loop-i.i c.loop-i.end (omega arith) w.0 in
-    rw (
-      p.1,
-      p.2,
-      table_broken (bytes (goal.at.returns-in_err-pair c).At-loop-i) (most (goal.at.returns-in_err-pair c).At-loop-i) (entry (goal.at.returns-in_err-pair c).At-loop-i) (long (goal.at.returns-in_err-pair c).At-loop-i) (short (goal.at.returns-in_err-pair c).At-loop-i) (c.loop-i.invariant ∙ breaks),
-      w.1,
-    )
+pub returns-in_default : goal.returns-in_default
+returns-in_default c =
+    let here = (goal.at.returns-in_default c).At-loop-i in
+    let wrong = section_refused (bytes here) (pair_size_lem * c.loop-i.i) c.loop-i.end (number_of c.in_default.field-0) c.in_default.ensures.0 in
+    let breaks = chain_breaks (bytes here) c.loop-i.i c.loop-i.end (omega arith) wrong.0 in
+    rw (table_broken (bytes here) (most here) (entry here) (long here) (short here) (c.loop-i.invariant ∙ breaks))
 
 pub loop-i-preserved : goal.loop-i-preserved
 loop-i-preserved c =
-    let taken = section_taken (bytes (goal.at.loop-i-preserved c).At-loop-i) (pair_size_lem * c.loop-i.i) c.loop-i.end (pair (goal.at.loop-i-preserved c).In_ok-pair) c.in_ok-pair.ensures.0 in
-    c.loop-i.invariant ∙ chain_goes (bytes (goal.at.loop-i-preserved c).At-loop-i) c.loop-i.i c.loop-i.end (omega arith) (pair (goal.at.loop-i-preserved c).In_ok-pair) taken
+    let taken = section_taken (bytes (goal.at.loop-i-preserved c).At-loop-i) (pair_size_lem * c.loop-i.i) c.loop-i.end (pair (goal.at.loop-i-preserved c).In-Ok) c.in-Ok.ensures.0 in
+    c.loop-i.invariant ∙ chain_goes (bytes (goal.at.loop-i-preserved c).At-loop-i) c.loop-i.i c.loop-i.end (omega arith) (pair (goal.at.loop-i-preserved c).In-Ok) taken
 
 pub returns-then-end-program : goal.returns-then-end-program
 returns-then-end-program c =

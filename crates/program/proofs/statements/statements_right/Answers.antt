@@ -9,13 +9,12 @@ use Rattle.model.specs.Lists.{every}
 use Rattle.model.specs.Program.{Tables, Statement, form_right_lem, types_agree_lem, immediate_right_lem}
 use Rattle.model.specs.Refusals.{wrong_statement}
 use Rattle.program.specs.Reading.{entry_of, statement_of, no_statement, tables_of}
-use Rattle.program.proofs.Answers.{check-ok, check-refused, check-number}
+use Rattle.program.proofs.Answers.{check-ok, check-refused}
 use Rattle.model.proofs.Basics.Passes.{pass_fails, pass_goes, pass_ends, pass_gathers, pass_gathered}
 use Rattle.program.proofs.Tables.{sized}
-use Rattle.std.proofs.lemmas.Result.{err_from_is_err_and}
 use Rattle.refusals.specs.Answers.{number_of}
 use Rattle.program.proofs.statements.statements_right.Goals as goal
-use Rattle.program.proofs.statements.statements_right.Goals.{After-loop-i, In-loop-i, In_ok-q}
+use Rattle.program.proofs.statements.statements_right.Goals.{After-loop-i, In-loop-i, In-Ok}
 
 abbrev tables : In-loop-i → Tables
 tables c = tables_of c.args.program.now
@@ -35,10 +34,10 @@ inside_list : (c : In-loop-i) → number c < length (tables c).statements
 inside_list c = rw (sized c.args.program.now c.args.layout c.requires.0).statements (omega arith)
 
 -- the entry that was taken is the statement's, and its form is right
-taken : (c : In_ok-q) → (form_right_lem (tables (goal.at.In_ok-q c).In-loop-i) (entry (goal.at.In_ok-q c).In-loop-i) ≡ true) × (entry_of c.in_ok-q.q ≡ entry (goal.at.In_ok-q c).In-loop-i)
+taken : (c : In-Ok) → (form_right_lem (tables (goal.at.In-Ok c).In-loop-i) (entry (goal.at.In-Ok c).In-loop-i) ≡ true) × (entry_of c.in-Ok.q ≡ entry (goal.at.In-Ok c).In-loop-i)
 taken c =
-    let q = entry (goal.at.In_ok-q c).In-loop-i in
-    check-ok (form_right_lem (tables (goal.at.In_ok-q c).In-loop-i) q) wrong_statement _ q c.in_ok-q.ensures
+    let q = entry (goal.at.In-Ok c).In-loop-i in
+    check-ok (form_right_lem (tables (goal.at.In-Ok c).In-loop-i) q) wrong_statement _ q c.in-Ok.ensures
 
 -- ---- after the loop
 past_list : (c : After-loop-i) → length (ended c).statements ≤ c.loop-i.i
@@ -61,16 +60,13 @@ fitted c =
     pass_gathered (immediate_right_lem (ended c)) no_statement (ended c).statements lp.i lp.inside (past_list c) lp.invariant.2
 
 -- ---- the answers
-pub returns-in_err-q : goal.returns-in_err-q
-returns-in_err-q c =
-    let here = goal.at.returns-in_err-q c in
+pub returns-in_default : goal.returns-in_default
+returns-in_default c =
+    let here = goal.at.returns-in_default c in
     let T = tables here.In-loop-i in
     let right = form_right_lem T (entry here.In-loop-i) in
-    let n = number_of c.in_err-q.field-0.0 in
-    let p = err_from_is_err_and c.from_residual.result c.from_residual.ensures.1 in
-    let wrong = check-refused right wrong_statement n (entry here.In-loop-i) c.in_err-q.ensures in
-    let same = check-number right wrong_statement n (entry here.In-loop-i) c.in_err-q.ensures in
-    λ o. rw (p.1, p.2, pass_fails (form_right_lem T) no_statement T.statements (number here.In-loop-i) (inside_list here.In-loop-i) c.loop-i.invariant.0 wrong, same)
+    let wrong = check-refused right wrong_statement (number_of c.in_default.field-0) (entry here.In-loop-i) c.in_default.ensures in
+    λ o. rw (pass_fails (form_right_lem T) no_statement T.statements (number here.In-loop-i) (inside_list here.In-loop-i) c.loop-i.invariant.0 wrong)
 
 pub loop-i-preserved : goal.loop-i-preserved
 loop-i-preserved c =
@@ -78,7 +74,7 @@ loop-i-preserved c =
     let T = tables here.In-loop-i in
     let ss = T.statements in
     let lp = c.loop-i in
-    let q = taken here.In_ok-q in
+    let q = taken here.In-Ok in
     let agree = c.types_agree-agree.ensures ∙ ap (types_agree_lem T) q.1 in
     let fits = c.immediate_right-inside.ensures ∙ ap (immediate_right_lem T) q.1 in (
       pass_goes (form_right_lem T) no_statement ss lp.i (inside_list here.In-loop-i) lp.invariant.0 q.0,
