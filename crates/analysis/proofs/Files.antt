@@ -26,11 +26,12 @@ use Rattle.model.proofs.RefusalNumbers.{listed_refusals_analysis}
 use Rattle.bytes_le.specs.Overlay.{overlay}
 use Rattle.bytes_le.proofs.Overlays.{overlay_read}
 use Rattle.program.specs.Reading.{program_answer, tables_of}
-use Rattle.program.specs.declared.ProgramRead.{ProgramRead}
-use Rattle.program.specs.declared.ProgramRead.TheVariants.{Refused as NotRead}
-use Rattle.analysis.specs.Deriving.{analysis_words, derivation, DerivationAnswers, Filed, FileGiven, Derives}
-use Rattle.analysis.specs.declared.Derived.{Derived}
-use Rattle.analysis.specs.declared.Derived.TheVariants.{Refused}
+use Rattle.refusals.specs.Answers.{number_of}
+use Rattle.refusals.specs.declared.Refusal.{Refusal}
+use Rattle.refusals.specs.declared.Refusal.TheVariants.{LentTooShort}
+use Rattle.std.specs.Prelude.{Result, Ok, Err}
+use Rattle.writer.specs.Writing.{FileWritten}
+use Rattle.analysis.specs.Deriving.{analysis_words, derivation, DerivationAnswers, FileGiven, Derives}
 
 -- what stands at the start of the output is read back
 read_back : (before after file : List ℕ) → length file ≤ length before → after ≡ overlay before 0 file → take (length file) after ≡ file
@@ -48,7 +49,7 @@ module _ (s : List ℕ) (P : Program) (e : read_program s ≡ ok P) where
   unfolding analysis
   then_derived = ap (λ o. o >>= λ Q. derived Q.code >>= λ S. ok (encode Q.tables.fields S)) e
 
-  pub derives_refusal : (k : ℕ) (out : List ℕ) → derived P.code ≡ refused k → FileGiven (analysis s) (Refused k) out out
+  pub derives_refusal : (k : Refusal) (out : List ℕ) → derived P.code ≡ refused (number_of k) → FileGiven (analysis s) (Err k) out out
   derives_refusal k out d = (then_derived ∙ ap (◌>>= λ S. ok (encode P.tables.fields S)) d, refl)
 
   module _ (S : Conjuncts) (d : derived P.code ≡ ok S) where
@@ -59,27 +60,28 @@ module _ (s : List ℕ) (P : Program) (e : read_program s ≡ ok P) where
     is-file =
         then_derived ∙ ap (◌>>= λ R. ok (encode P.tables.fields R)) d ∙ ap (λ (T : Tables). ok (encode T.fields S)) same_tables
 
-    pub derives_file : (r : Derived) (before after : List ℕ) → condition_bytes ≤ length before → Filed (encode (tables_of s).fields S) r before after
-        → FileGiven (analysis s) r before after
-    derives_file r before after room w =
-        subst (λ x. FileGiven (analysis s) x before after) (sym w.answer)
-        (is-file ∙ ap (λ f. ok f) (sym first), record { most = w.most; whole = ap length first; rest = w.output ∙ ap (overlay before 0) (sym first) })
+    pub derives_file : (n : ℕ) (before after : List ℕ) → condition_bytes ≤ length before → FileWritten (tables_of s).fields S before after n
+        → FileGiven (analysis s) (Ok n) before after
+    derives_file n before after room w =
+        (is-file ∙ ap (λ f. ok f) (sym first), record { most = w.most; whole = ap length first ∙ sym w.end; rest = w.bytes ∙ ap (overlay before 0) (sym first) })
       where
-        first : take (length (encode (tables_of s).fields S)) after ≡ encode (tables_of s).fields S
-        first = read_back before after (encode (tables_of s).fields S) (omega (arith, w.most)) w.output
+        file : List ℕ
+        file = encode (tables_of s).fields S
+
+        first : take n after ≡ file
+        first = ap (λ m. take m after) w.end ∙ read_back before after file (omega (arith, w.most, w.end)) w.bytes
 
 -- ---- a program that is not read
 
 -- its rows are refused
-pub rows_refusal : (s : List ℕ) (k : ℕ) (out : List ℕ) → read_program s ≡ refused k → FileGiven (analysis s) (Refused k) out out
+pub rows_refusal : (s : List ℕ) (k : Refusal) (out : List ℕ) → read_program s ≡ refused (number_of k) → FileGiven (analysis s) (Err k) out out
 unfolding analysis
 rows_refusal s k out e = (rw e, refl)
 
-unread_refusal : (s : List ℕ) (r : ProgramRead) (k : ℕ) → program_answer r ≡ mapped (λ O. layout_of s) (read_outline s) → r ≡ NotRead k
-    → analysis s ≡ refused k
+unread_refusal : (s : List ℕ) (k : Refusal) → program_answer (Err k) ≡ mapped (λ O. layout_of s) (read_outline s) → analysis s ≡ refused (number_of k)
 unfolding analysis read_program
-unread_refusal s r k h e =
-    let n = mapped-refused (λ (O : Outline). layout_of s) (read_outline s) k (sym (ap program_answer e) ∙ h) in
+unread_refusal s k h =
+    let n = mapped-refused (λ (O : Outline). layout_of s) (read_outline s) (number_of k) h in
     rw n
 
 -- ---- what is lent
@@ -90,26 +92,26 @@ module _ (output scratch : ℕ) (s : List ℕ) where
   enough k h = rw (le-leb condition_bytes output k, le-leb analysis_words scratch h)
 
   -- a refusal before any work: everything lent is as it was
-  refused-idle : (k : ℕ) (out words : List ℕ) → derivation output scratch s ≡ refused k → Derives (derivation output scratch s) (Refused k) out out words words
+  pub refused-idle : (k : Refusal) (out words : List ℕ) → derivation output scratch s ≡ refused (number_of k) → Derives (derivation output scratch s) (Err k) out out words words
   refused-idle k out words e =
       record { answer = e; output = refl; scratch = scratch_as_it_was analysis_words wrong_blocks (derivation output scratch s) words }
 
-  pub unread_refused : condition_bytes ≤ output → analysis_words ≤ scratch → (r : ProgramRead) (k : ℕ)
-      → program_answer r ≡ mapped (λ O. layout_of s) (read_outline s) → r ≡ NotRead k → derivation output scratch s ≡ refused k
-  unread_refused m h r k e d = sym (enough m h) ∙ unread_refusal s r k e d
+  pub unread_refused : condition_bytes ≤ output → analysis_words ≤ scratch → (k : Refusal)
+      → program_answer (Err k) ≡ mapped (λ O. layout_of s) (read_outline s) → derivation output scratch s ≡ refused (number_of k)
+  unread_refused m h k e = sym (enough m h) ∙ unread_refusal s k e
 
   module _ (out words : List ℕ) where
-    pub output-short : output < condition_bytes → Derives (derivation output scratch s) (Refused 1) out out words words
+    pub output-short : output < condition_bytes → Derives (derivation output scratch s) (Err LentTooShort) out out words words
     unfolding derivation
-    output-short h = refused-idle 1 out words (rw (lt-leb condition_bytes output h))
+    output-short h = refused-idle LentTooShort out words (rw (lt-leb condition_bytes output h))
 
-    pub scratch-short : condition_bytes ≤ output → scratch < analysis_words → Derives (derivation output scratch s) (Refused 1) out out words words
+    pub scratch-short : condition_bytes ≤ output → scratch < analysis_words → Derives (derivation output scratch s) (Err LentTooShort) out out words words
     unfolding derivation
-    scratch-short k h = refused-idle 1 out words (rw (le-leb condition_bytes output k, lt-leb analysis_words scratch h))
+    scratch-short k h = refused-idle LentTooShort out words (rw (le-leb condition_bytes output k, lt-leb analysis_words scratch h))
 
     -- the work was done on the documented words
     pub derived-read : condition_bytes ≤ output → analysis_words ≤ scratch → scratch ≡ length words → (O : Outline) → read_outline s ≡ ok O
-        → (r : Derived) (after ys : List ℕ) → FileGiven (analysis s) r out after → length ys ≡ length (take analysis_words words)
+        → (r : Result ℕ Refusal) (after ys : List ℕ) → FileGiven (analysis s) r out after → length ys ≡ length (take analysis_words words)
         → Derives (derivation output scratch s) r out after words (ys ++ drop analysis_words words)
     derived-read m h l O e r after ys g w =
         let same = enough m h in

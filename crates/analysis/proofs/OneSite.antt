@@ -13,9 +13,9 @@ use Rattle.model.specs.TidySets.{Tidy}
 use Rattle.model.proofs.Walks.Tidied.{sites-tidy}
 use Rattle.sets.specs.Region.{set_of, Within}
 use Rattle.sets.proofs.Rows.{frame}
-use Rattle.rules.specs.Answers.{answered, Below}
-use Rattle.rules.specs.declared.Answer.{Answer}
-use Rattle.rules.specs.declared.Answer.TheVariants.{Done, Refused}
+use Rattle.rules.specs.Answers.{Answer, answered, Below}
+use Rattle.refusals.specs.declared.Refusal.{Refusal}
+use Rattle.std.specs.Prelude.{Ok, Err}
 use Rattle.enclosing.specs.Enclosing.{EnclosedIn, walked_out, WalksOut}
 use Rattle.analysis.specs.Deriving.{union_at, site_at, analysis_words}
 use Rattle.analysis.specs.Joining.{joined_to, Sited}
@@ -39,10 +39,10 @@ module _ (k : List ℕ) (i x ty : ℕ) (v : Node) (s t u : List ℕ) (a : Answer
   walked : (n q : ℕ) (w : EnclosedIn k n i q) → i < q → walked_out k n i q w ((var x ty ∷ []) ∷ []) ≡ answered a (set_of u site_at)
   walked n q w b = ap (walked_out k n i q w) (sym (only ∙ ap (λ z. (z ∷ []) ∷ []) node)) ∙ walks n q w b
 
-  pub sited_refused : (c : ℕ) → a ≡ Refused c → (Q : Conjuncts) (n : ℕ) → Sited k n i x ty (set_of s union_at) (Refused c) Q
+  pub sited_refused : (c : Refusal) → a ≡ Err c → (Q : Conjuncts) (n : ℕ) → Sited k n i x ty (set_of s union_at) (Err c) Q
   sited_refused c e Q n q w b = ap (◌>>= joined_to (set_of s union_at)) (walked n q w b ∙ ap (λ z. answered z (set_of u site_at)) e)
 
-  pub sited_done : a ≡ Done → (d : Answer) (Q : Conjuncts) → joined_to (set_of u union_at) (set_of u site_at) ≡ answered d Q → (n : ℕ) → Sited k n i x ty (set_of s union_at) d Q
+  pub sited_done : a ≡ Ok tt → (d : Answer) (Q : Conjuncts) → joined_to (set_of u union_at) (set_of u site_at) ≡ answered d Q → (n : ℕ) → Sited k n i x ty (set_of s union_at) d Q
   sited_done e d Q h n q w b =
       ap (◌>>= joined_to (set_of s union_at)) (walked n q w b ∙ ap (λ z. answered z (set_of u site_at)) e) ∙ ap (λ R. joined_to R (set_of u site_at)) (sym union_stays) ∙ h
 

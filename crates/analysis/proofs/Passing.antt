@@ -24,9 +24,10 @@ use Rattle.code_table.specs.Statements.{stmt_for, stmt_from}
 use Rattle.code_table.specs.Table.{table_of, row_in, stmt_in, mate_in, KnownBelow}
 use Rattle.sets.specs.Region.{set_of}
 use Rattle.walk.proofs.Regions.{below-table}
-use Rattle.rules.specs.Answers.{answered, Below}
-use Rattle.rules.specs.declared.Answer.{Answer}
-use Rattle.rules.specs.declared.Answer.TheVariants.{Done, Refused}
+use Rattle.rules.specs.Answers.{Answer, answered, Below}
+use Rattle.refusals.specs.Answers.{number_of}
+use Rattle.refusals.specs.declared.Refusal.{Refusal}
+use Rattle.std.specs.Prelude.{Ok, Err}
 use Rattle.enclosing.specs.Enclosing.{walked_out, Enclosed}
 use Rattle.analysis.proofs.Repeating.{repeated, joined-site, joined-other, site-row}
 use Rattle.analysis.specs.Deriving.{union_at, analysis_words}
@@ -115,19 +116,19 @@ module _ (k : List ℕ) (n i : ℕ) where
           go (bare p g) = absurd (p (site row.a row.ty) (site-row row kind))
 
       -- one that repeats an earlier one, by its row as it was fetched
-      pub pass_repeated : (d : Decoded) → d ≡ row → {j : ℕ} → Repeats k j i d.a d.ty → Tidy R → PassedLabel k n i R Done R
+      pub pass_repeated : (d : Decoded) → d ≡ row → {j : ℕ} → Repeats k j i d.a d.ty → Tidy R → PassedLabel k n i R (Ok tt) R
       pass_repeated d e {j} r t all =
           let again = subst (λ (x : Decoded). Repeats k j i x.a x.ty) e r in
-          pass_site Done R (repeated k n i j row.a row.ty again R all t) all
+          pass_site (Ok tt) R (repeated k n i j row.a row.ty again R all t) all
 
     -- any other statement
-    pub pass_other : (row.kind ≡ 10 → ⊥) → PassedLabel k n i R Done R
+    pub pass_other : (row.kind ≡ 10 → ⊥) → PassedLabel k n i R (Ok tt) R
     pass_other other all L f = go (next b L f)
       where
         joined : AllJoined k n (i + 1) R
         joined = joined-other k n i R all (λ x ty p. some-site x ty (sym (no_site row other) ∙ ap begins p))
 
-        go : Next (stmt_in k) (mate_in k) n i L → GoesOn k n i R Done R L
+        go : Next (stmt_in k) (mate_in k) n i L → GoesOn k n i R (Ok tt) R L
         go (statement x q w M p c e g) =
             let none : here x ≡ [] = ap begins (sym p) ∙ no_site row other in
             record {
@@ -161,19 +162,19 @@ module _ (k : List ℕ) (n : ℕ) where
       g.2 ∙ ap (join R) (from_end (stmt_in k) (mate_in k) n g.0 at-end)
 
   module _ (i : ℕ) (R Q : Conjuncts) (a : Answer) (f : Left i R) (all : AllJoined k n i R) (h : PassedLabel k n i R a Q) where
-    pub left-refused : (m : ℕ) → a ≡ Refused m → (c : Code) → Laid (stmt_in k) (mate_in k) c 0 n → Nested most_nested c → derived c ≡ refused m
+    pub left-refused : (m : Refusal) → a ≡ Err m → (c : Code) → Laid (stmt_in k) (mate_in k) c 0 n → Nested most_nested c → derived c ≡ refused (number_of m)
     left-refused m e c l d =
         let g = f c l d in
         let p = h all g.0 g.1 in
         g.2 ∙ p.same ∙ ap (λ x. answered x Q >>= λ U. join U p.later) e
 
-    pub left-next : a ≡ Done → Left (i + 1) Q
+    pub left-next : a ≡ Ok tt → Left (i + 1) Q
     left-next e c l d =
         let g = f c l d in
         let p = h all g.0 g.1 in
         (p.later, p.sites, g.2 ∙ p.same ∙ ap (λ x. answered x Q >>= λ U. join U p.later) e)
 
-    pub all-next : a ≡ Done → (c : Code) → Laid (stmt_in k) (mate_in k) c 0 n → Nested most_nested c → AllJoined k n (i + 1) Q
+    pub all-next : a ≡ Ok tt → (c : Code) → Laid (stmt_in k) (mate_in k) c 0 n → Nested most_nested c → AllJoined k n (i + 1) Q
     all-next e c l d = let g = f c l d in (h all g.0 g.1).joined e
 
 -- ---- the words
@@ -182,7 +183,6 @@ module _ (s₀ : List ℕ) (n : ℕ) where
   -- all labels before i are passed, from the words s₀ to s
   pub record Passed (s : List ℕ) (i : ℕ) : Type 0 where
     pub same_length : length s ≡ length s₀
-    pub most : i ≤ n
     pub tidy : Tidy (set_of s union_at)
     pub table : table_of 0 s ≡ table_of 0 s₀
     pub left : Left (table_of 0 s₀) n i (set_of s union_at)
@@ -194,15 +194,14 @@ module _ (s₀ : List ℕ) (n : ℕ) where
     here-passed : PassedLabel (table_of 0 s₀) n i (set_of s union_at) a (set_of t union_at)
     here-passed = subst (λ k. PassedLabel k n i (set_of s union_at) a (set_of t union_at)) g.table (does n more)
 
-    pub passed-refused : (m : ℕ) → a ≡ Refused m → (c : Code) → Laid (stmt_in (table_of 0 s₀)) (mate_in (table_of 0 s₀)) c 0 n → Nested most_nested c
-        → derived c ≡ refused m
+    pub passed-refused : (m : Refusal) → a ≡ Err m → (c : Code) → Laid (stmt_in (table_of 0 s₀)) (mate_in (table_of 0 s₀)) c 0 n → Nested most_nested c
+        → derived c ≡ refused (number_of m)
     passed-refused = left-refused (table_of 0 s₀) n i (set_of s union_at) (set_of t union_at) a g.left g.all here-passed
 
-    pub passed-next : a ≡ Done → analysis_words ≤ length s₀ → length t ≡ length s → Tidy (set_of t union_at) → Below union_at s t
+    pub passed-next : a ≡ Ok tt → analysis_words ≤ length s₀ → length t ≡ length s → Tidy (set_of t union_at) → Below union_at s t
         → (c : Code) → Laid (stmt_in (table_of 0 s₀)) (mate_in (table_of 0 s₀)) c 0 n → Nested most_nested c → Passed t (i + 1)
     passed-next e room same-t tidy below c l d = record {
       same_length = same-t ∙ g.same_length;
-      most = omega arith;
       tidy = tidy;
       table = below-table union_at s t (omega arith) (omega (arith, g.same_length)) same-t below ∙ g.table;
       left = left-next (table_of 0 s₀) n i (set_of s union_at) (set_of t union_at) a g.left g.all here-passed e;

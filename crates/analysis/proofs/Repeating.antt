@@ -25,7 +25,7 @@ use Rattle.model.proofs.Walks.Walks.{back-piece}
 use Rattle.code_table.specs.declared.Decoded.{Decoded}
 use Rattle.code_table.specs.Statements.{stmt_for, stmt_from}
 use Rattle.code_table.specs.Table.{stmt_in, mate_in}
-use Rattle.rules.specs.declared.Answer.TheVariants.{Done}
+use Rattle.std.specs.Prelude.{Ok}
 use Rattle.enclosing.specs.Enclosing.{EnclosedIn, walked_out}
 use Rattle.analysis.specs.Joining.{joined_to, Sited, Keeps, Repeats, AllJoined}
 
@@ -64,7 +64,7 @@ module _ (k : List ℕ) (n i : ℕ) where
         (λ e. left_alone l x ty (stmt_in k l) (subst (λ s. Keeps x s) (sym (subst (λ a. stmt_in k a ≡ plain (site x ty)) (sym (eqb-true l j e)) r.is-site)) tt))
         (λ e. let differs = eqb-false l j e in left_alone l x ty (stmt_in k l) (r.kept l (omega (arith, differs)) q))
 
-    pub repeated : (R : Conjuncts) → AllJoined k n i R → Tidy R → Sited k n i x ty R Done R
+    pub repeated : (R : Conjuncts) → AllJoined k n i R → Tidy R → Sited k n i x ty R (Ok tt) R
     repeated R a tidy q w h =
         let o = same_way_out (stmt_in k) (mate_in k) n (set_at x ty) j i (omega (arith, r.earlier)) all_left w in
         let at = o.is in
@@ -78,7 +78,7 @@ module _ (k : List ℕ) (n i : ℕ) where
 -- ---- the union behind a label
 
 -- a site with the label i: its own set and what it was joined to are in the new union
-joins : (k : List ℕ) (n i x ty : ℕ) (R Q : Conjuncts) → Sited k n i x ty R Done Q → (q : ℕ) (w : EnclosedIn k n i q) → i < q
+joins : (k : List ℕ) (n i x ty : ℕ) (R Q : Conjuncts) → Sited k n i x ty R (Ok tt) Q → (q : ℕ) (w : EnclosedIn k n i q) → i < q
     → (Z : Conjuncts) × ((walked_out k n i q w (set_at x ty) >>= start) ≡ ok Z) × Sub Z Q × Sub R Q
 joins k n i x ty R Q f q w h =
     let s = bind_ok (walked_out k n i q w (set_at x ty)) (joined_to R) Q (f q w h) in
@@ -99,12 +99,12 @@ module _ (k : List ℕ) (n i : ℕ) (R : Conjuncts) (a : AllJoined k n i R) wher
       case (eqb j i) (λ z. InUnion j q x ty w R) (λ e. absurd (none x ty (subst (λ l. stmt_in k l ≡ plain (site x ty)) (eqb-true j i e) s)))
       (λ e. let differs = eqb-false j i e in a j q x ty w (omega (arith, differs)) b s)
 
-  module _ (Q : Conjuncts) (x ty : ℕ) (at : stmt_in k i ≡ plain (site x ty)) (f : Sited k n i x ty R Done Q) where
+  module _ (Q : Conjuncts) (x ty : ℕ) (at : stmt_in k i ≡ plain (site x ty)) (f : Sited k n i x ty R (Ok tt) Q) where
     here : (j q x' ty' : ℕ) (w : EnclosedIn k n j q) → j < q → stmt_in k j ≡ plain (site x' ty') → j ≡ i → InUnion j q x' ty' w Q
     here j q x' ty' w b s e =
         let v = same-variable (stmt_in k j) x ty x' ty' (subst (λ l. stmt_in k l ≡ plain (site x ty)) (sym e) at) s in
-        let there = subst (λ l. Sited k n l x ty R Done Q) (sym e) f in
-        let named = subst (λ y. Sited k n j y ty' R Done Q) v.0 (subst (λ u. Sited k n j x u R Done Q) v.1 there) in
+        let there = subst (λ l. Sited k n l x ty R (Ok tt) Q) (sym e) f in
+        let named = subst (λ y. Sited k n j y ty' R (Ok tt) Q) v.0 (subst (λ u. Sited k n j x u R (Ok tt) Q) v.1 there) in
         let r = joins k n j x' ty' R Q named q w b in
         (r.0, r.1, r.2)
 

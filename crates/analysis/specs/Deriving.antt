@@ -1,7 +1,7 @@
 -- What the answer of a derivation stands for, and what it leaves in the output and in scratch.
-use Rattle.std.specs.Prelude.{◌&&◌, List, ◌≡◌, ℕ, ◌+◌, ◌*◌, ◌≤◌, leb, length, take}
+use Rattle.std.specs.Prelude.{◌&&◌, List, ◌≡◌, ℕ, ◌+◌, ◌*◌, ◌≤◌, leb, length, take, Result, Ok, Err}
 use Rattle.model.specs.Condition.{condition_bytes, analysis}
-use Rattle.model.specs.Refusals.{Out, ok, refused, check, lent_too_short, wrong_blocks}
+use Rattle.model.specs.Refusals.{Out, check, lent_too_short, wrong_blocks}
 use Rattle.model.specs.Demands.{ResultOrRefusal, OrLent, AnalysisRefusal}
 use Rattle.model.specs.Lent.{ScratchLeft}
 use Rattle.bytes_le.specs.Overlay.{overlay}
@@ -9,8 +9,8 @@ use Rattle.program.specs.Reading.{ProgramIsRead}
 use Rattle.program.specs.declared.Layout.{Layout}
 use Rattle.code_table.specs.Table.{table_words}
 use Rattle.sets.specs.Region.{region_words}
-use Rattle.analysis.specs.declared.Derived.{Derived}
-use Rattle.analysis.specs.declared.Derived.TheVariants.{Written, Refused}
+use Rattle.refusals.specs.Answers.{out_of}
+use Rattle.refusals.specs.declared.Refusal.{Refusal}
 
 -- where the union so far stands: the first region, behind the code table
 abbrev pub union_at : ℕ
@@ -39,9 +39,8 @@ pub record Derivable (program : List ℕ) (layout : Layout) (output scratch : Li
   pub words : analysis_words ≤ length scratch
 
 -- an answer, with the output afterwards: the file, which is its first n bytes, or the number of the refusal
-abbrev pub file_of : Derived → List ℕ → Out (List ℕ)
-file_of (Written n) after = ok (take n after)
-file_of (Refused k) after = refused k
+abbrev pub file_of : Result ℕ Refusal → List ℕ → Out (List ℕ)
+file_of r after = out_of (λ n. take n after) r
 
 -- n bytes stand at the start of the output, and every byte past them is as it was
 pub record AtStart (n : ℕ) (before after : List ℕ) : Type 0 where
@@ -50,22 +49,16 @@ pub record AtStart (n : ℕ) (before after : List ℕ) : Type 0 where
   pub rest : after ≡ overlay before 0 (take n after)
 
 -- the output: the file at its start; after a refusal all as it was
-abbrev pub OutputLeft : Derived → List ℕ → List ℕ → Type 0
-OutputLeft (Written n) before after = AtStart n before after
-OutputLeft (Refused k) before after = after ≡ before
-
--- the file is written: its length is the answer, and it stands at the start of the output
-pub record Filed (file : List ℕ) (r : Derived) (before after : List ℕ) : Type 0 where
-  pub answer : r ≡ Written (length file)
-  pub most : length file ≤ condition_bytes
-  pub output : after ≡ overlay before 0 file
+abbrev pub OutputLeft : Result ℕ Refusal → List ℕ → List ℕ → Type 0
+OutputLeft (Ok n) before after = AtStart n before after
+OutputLeft (Err r) before after = after ≡ before
 
 -- the answer is that of the definition, and the output is left so
-abbrev pub FileGiven : Out (List ℕ) → Derived → List ℕ → List ℕ → Type 0
+abbrev pub FileGiven : Out (List ℕ) → Result ℕ Refusal → List ℕ → List ℕ → Type 0
 FileGiven file r before after = (file ≡ file_of r after) × OutputLeft r before after
 
 -- the whole contract: also what is left in scratch; the refusals 1 to 8 are found before any work
-pub record Derives (file : Out (List ℕ)) (r : Derived) (before after words words' : List ℕ) : Type 0 where
+pub record Derives (file : Out (List ℕ)) (r : Result ℕ Refusal) (before after words words' : List ℕ) : Type 0 where
   pub answer : file ≡ file_of r after
   pub output : OutputLeft r before after
   pub scratch : ScratchLeft analysis_words wrong_blocks file words words'

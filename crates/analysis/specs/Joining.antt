@@ -1,5 +1,5 @@
 -- The union of the sites' sets, site by site.
-use Rattle.std.specs.Prelude.{List, [], ◌∷◌, ◌≡◌, ℕ, ◌+◌, ◌≤◌, ◌<◌, length}
+use Rattle.std.specs.Prelude.{List, [], ◌∷◌, ◌≡◌, ℕ, ◌+◌, ◌≤◌, ◌<◌, length, Ok}
 use Rattle.model.specs.Code.{assign, store, site, Stmt, plain, if, else, end, while}
 use Rattle.model.specs.Conjunct.{Conjuncts, union_of, limits, var}
 use Rattle.model.specs.Refusals.{Out, ok, ◌>>=◌}
@@ -10,9 +10,7 @@ use Rattle.model.specs.TidySets.{Sub, Tidy}
 use Rattle.code_table.specs.Statements.{variable_numbers}
 use Rattle.code_table.specs.Table.{table_of, stmt_in, mate_in, KnownBelow}
 use Rattle.sets.specs.Region.{set_of, region_words}
-use Rattle.rules.specs.Answers.{answered}
-use Rattle.rules.specs.declared.Answer.{Answer}
-use Rattle.rules.specs.declared.Answer.TheVariants.{Done}
+use Rattle.rules.specs.Answers.{Answer, answered}
 use Rattle.walk.specs.Piece.{Piece}
 use Rattle.enclosing.specs.Enclosing.{EnclosedIn, Enclosed, walked_out}
 use Rattle.analysis.specs.Deriving.{union_at, analysis_words}
@@ -68,7 +66,7 @@ pub record GoesOn (k : List ℕ) (n i : ℕ) (R : Conjuncts) (a : Answer) (Q : C
   pub later : List (Out Conjuncts)
   pub sites : SitesFrom k n (i + 1) later
   pub same : join R L ≡ (answered a Q >>= λ U. join U later)
-  pub joined : a ≡ Done → AllJoined k n (i + 1) Q
+  pub joined : a ≡ Ok tt → AllJoined k n (i + 1) Q
 
 -- the label i is passed, from the union R, in which all sites before it are joined
 abbrev pub PassedLabel : List ℕ → (n i : ℕ) → Conjuncts → Answer → Conjuncts → Type 0

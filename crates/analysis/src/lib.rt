@@ -3,13 +3,12 @@
 
 ghost use Rattle.std.specs.Prelude.{◌≡◌, true, [], ◌∷◌, ℕ, ◌+◌, ◌*◌, ◌≤◌, ◌<◌, length};
 ghost use Rattle.model.specs.Code.{Code};
-ghost use Rattle.model.specs.Condition.{encode, analysis};
+ghost use Rattle.model.specs.Condition.{analysis};
 ghost use Rattle.model.specs.Nesting.{Nested};
 ghost use Rattle.model.specs.Refusals.{ok};
 ghost use Rattle.model.specs.Sizes.{most_nested, most_rows};
 ghost use Rattle.model.specs.TidySets.{Tidy};
 ghost use Rattle.model.specs.Walk.{start, derived};
-ghost use Rattle.program.specs.Reading.{tables_of};
 ghost use Rattle.code_table.specs.Table.{table_words, table_of, stmt_in};
 ghost use Rattle.inliner.specs.Loading.{RowsOf};
 ghost use Rattle.conjunct.specs.Word.{node_of};
@@ -18,15 +17,13 @@ ghost use Rattle.rules.specs.Adding.{Buffers};
 ghost use Rattle.rules.specs.Answers.{answered, Below};
 ghost use Rattle.walk.specs.Piece.{Lies};
 ghost use Rattle.enclosing.specs.Enclosing.{Moved};
-ghost use Rattle.writer.specs.Writing.{Writable};
-ghost use Rattle.analysis.specs.Deriving.{union_at, derivation, Derivable, Filed, FileGiven, Derives};
+ghost use Rattle.analysis.specs.Deriving.{union_at, derivation, Derivable, FileGiven, Derives};
 ghost use Rattle.analysis.specs.Joining.{hints, joined_to, Sited, Keeps, KeptFrom, Repeats, PassedLabel, EmptyRoom, SiteIn, LabelIn, ProgramIn};
 
 use code_table::Decoded;
 use conjunct::MOST_NODES;
-use inliner::Loaded;
-use program::{Layout, ProgramRead};
-use rules::Answer;
+use program::Layout;
+use refusals::Refusal;
 
 // Where the union so far stands: the first region, behind the code table.
 const UNION: usize = code_table::WORDS;
@@ -56,13 +53,11 @@ fn gather_start(s: &mut [u64], b: usize, room: usize, e: &mut [u64], seen: &mut 
     ensures { (start (set_of s.old b) ≡ ok (set_of s.new room)) × Within room s.old s.new }
 {
     let count = sets::size(s, b);
-    let mut k: usize = 0;
-    while k < count {
+    for k in 0..count {
         let n = sets::get(s, b, k, e);
         conjunct::at_start(e, n);
         conjunct::numbering::renumber(e, n, seen);
         sets::insert(s, room, e, n);
-        k += 1;
     }
 }
 
@@ -81,35 +76,31 @@ fn start_set(s: &mut [u64], b: usize)
 }
 
 // The set of the region after b, at the program's start, joined to the union so far at b.
-fn join_next(s: &mut [u64], b: usize) -> Answer
+fn join_next(s: &mut [u64], b: usize) -> Result<(), Refusal>
     requires { (b + 3 * region_words ≤ length s.old) × Tidy (set_of s.old b) }
     ensures { Moved (joined_to (set_of s.old b) (set_of s.old (b + region_words)) ≡ answered result (set_of s.new b))
         result b s.old s.new }
 {
     let next = b + sets::REGION;
     start_set(s, next);
-    let fits = sets::union(s, next, b);
-    if !fits {
-        return Answer::Refused(10);
+    if !sets::union(s, next, b) {
+        return Err(Refusal::TooManyConjuncts);
     }
     sets::copy(s, b, next);
-    Answer::Done
+    Ok(())
 }
 
 // One site, on the variable x of type ty: its set at the program's start, joined to the union so far.
 // The first region behind the table holds that union, and from the next one on there is room to work in.
-fn site(s: &mut [u64], i: usize, x: usize, ty: u8) -> Answer
+fn site(s: &mut [u64], i: usize, x: usize, ty: u8) -> Result<(), Refusal>
     requires { SiteIn s.old i x ty }
     ensures { Moved ((n : ℕ) → Sited (table_of 0 s.old) n i x ty (set_of s.old union_at) result (set_of s.new union_at))
         result union_at s.old s.new }
 {
     let w = conjunct::node::variable(x as u64, ty as u64);
     single(s, SITE, w);
-    let a = enclosing::walk_out(s, SITE, i);
-    match a {
-        Answer::Refused(n) => Answer::Refused(n),
-        Answer::Done => join_next(s, UNION),
-    }
+    enclosing::walk_out(s, SITE, i)?;
+    join_next(s, UNION)
 }
 
 // ---- the sites by rising label
@@ -120,17 +111,11 @@ fn keeps(s: &[u64], l: usize, x: usize) -> bool
     ensures { result ≡ true → Keeps x (stmt_in (table_of 0 s.now) l) }
 {
     let d = code_table::fetch(s, 0, l);
-    let kind = d.kind;
-    if 11 <= kind {
-        return false;
+    match d.kind {
+        0..=8 => d.a != x,
+        9..=10 => true,
+        _ => false,
     }
-    if 9 <= kind {
-        return true;
-    }
-    if d.a == x {
-        return false;
-    }
-    true
 }
 
 // Whether the statements on the labels from p up to q are plain and do not write the variable x.
@@ -138,9 +123,7 @@ fn keep_all(s: &[u64], p: usize, q: usize, x: usize) -> bool
     requires { (table_words ≤ length s.now) × (q ≤ most_rows) }
     ensures { result ≡ true → KeptFrom (table_of 0 s.now) p q x }
 {
-    let mut l = q;
-    while p < l {
-        l -= 1;
+    for l in (p..q).rev() {
         if !keeps(s, l, x) {
             return false;
         }
@@ -158,22 +141,12 @@ fn repeats(s: &[u64], j: usize, i: usize, d: Decoded) -> bool
         return false;
     }
     let e = code_table::fetch(s, 0, j);
-    let earlier = e.kind;
-    if earlier != 10 {
-        return false;
-    }
-    if e.a != d.a {
-        return false;
-    }
-    if e.ty != d.ty {
-        return false;
-    }
-    keep_all(s, j + 1, i, d.a)
+    e.kind == 10 && e.a == d.a && e.ty == d.ty && keep_all(s, j + 1, i, d.a)
 }
 
 // The statement with the label i, if it is a site. One that repeats an earlier one adds nothing; `last` has
 // the label where to look for that one, by the variable's number.
-fn pass(s: &mut [u64], i: usize, last: &mut [usize]) -> Answer
+fn pass(s: &mut [u64], i: usize, last: &mut [usize]) -> Result<(), Refusal>
     requires { LabelIn s.old i × (hints ≤ length last.old) }
     ensures { Moved ((n : ℕ) → i < n → PassedLabel (table_of 0 s.old) n i (set_of s.old union_at) result (set_of s.new union_at))
         result union_at s.old s.new }
@@ -181,39 +154,33 @@ fn pass(s: &mut [u64], i: usize, last: &mut [usize]) -> Answer
     let d = code_table::fetch(s, 0, i);
     let kind = d.kind;
     if kind != 10 {
-        return Answer::Done;
+        return Ok(());
     }
     let x = d.a;
     let j = last[x % HINTS];
     last[x % HINTS] = i;
     if repeats(s, j, i, d) {
-        return Answer::Done;
+        return Ok(());
     }
     site(s, i, x, d.ty)
 }
 
 // The set that the analysis derives from the n statements of the table, in the first region. `last` is
 // room to work in, whatever it has.
-fn join_sites(s: &mut [u64], n: usize, last: &mut [usize]) -> Answer
+fn join_sites(s: &mut [u64], n: usize, last: &mut [usize]) -> Result<(), Refusal>
     requires { ProgramIn s.old n × (hints ≤ length last.old) }
     ensures { (c : Code) → Lies s.old c 0 n → Nested most_nested c → derived c ≡ answered result (set_of s.new union_at) }
 {
     sets::clear(s, UNION);
-    let mut i: usize = 0;
-    while i < n {
-        let a = pass(s, i, last);
-        match a {
-            Answer::Refused(k) => return Answer::Refused(k),
-            Answer::Done => {}
-        }
-        i += 1;
+    for i in 0..n {
+        pass(s, i, last)?;
     }
-    Answer::Done
+    Ok(())
 }
 
 // The set that the analysis derives from the n statements of the table, in the first region, with
 // room to work in of its own.
-fn sites(s: &mut [u64], n: usize) -> Answer
+fn sites(s: &mut [u64], n: usize) -> Result<(), Refusal>
     requires { ProgramIn s.old n }
     ensures { (c : Code) → Lies s.old c 0 n → Nested most_nested c → derived c ≡ answered result (set_of s.new union_at) }
 {
@@ -230,23 +197,6 @@ pub const SCRATCH: usize = SITE + 10 * sets::REGION;
 // The bytes of output that it needs: the length of the longest condition file.
 pub const CONDITION: usize = 62024;
 
-// The length of the condition file that stands at the start of the output, or the number of the
-// refusal.
-#[derive(Clone, Copy)]
-pub enum Derived {
-    Written(usize),
-    Refused(u8),
-}
-
-// The file of the union, at the start of the output.
-fn write_file(program: &[u8], layout: Layout, s: &[u64], condition: &mut [u8]) -> Derived
-    requires { Writable program.now layout s.now union_at condition.old }
-    ensures { Filed (encode (tables_of program.now).fields (set_of s.now union_at)) result condition.old condition.new }
-{
-    let n = writer::write(program, layout, s, UNION, condition);
-    Derived::Written(n)
-}
-
 // Of a program whose n rows stand in their table.
 fn derive_rows(
     program: &[u8],
@@ -254,47 +204,38 @@ fn derive_rows(
     n: usize,
     condition: &mut [u8],
     scratch: &mut [u64],
-) -> Derived
+) -> Result<usize, Refusal>
     requires { Derivable program.now layout condition.old scratch.old × RowsOf program.now n (table_of 0 scratch.old) }
     ensures { FileGiven (analysis program.now) result condition.old condition.new }
 {
-    let a = sites(scratch, n);
-    match a {
-        Answer::Refused(k) => Derived::Refused(k),
-        Answer::Done => write_file(program, layout, scratch, condition),
-    }
+    sites(scratch, n)?;
+    Ok(writer::write(program, layout, scratch, UNION, condition))
 }
 
 // Of a program that is listed: its rows are written out, and walked.
-fn derive_read(program: &[u8], layout: Layout, condition: &mut [u8], scratch: &mut [u64]) -> Derived
+fn derive_read(
+    program: &[u8],
+    layout: Layout,
+    condition: &mut [u8],
+    scratch: &mut [u64],
+) -> Result<usize, Refusal>
     requires { Derivable program.now layout condition.old scratch.old }
     ensures { FileGiven (analysis program.now) result condition.old condition.new }
 {
-    let loaded = inliner::load(program, layout, scratch, 0);
-    match loaded {
-        Loaded::Refused(k) => Derived::Refused(k),
-        Loaded::Rows(n) => derive_rows(program, layout, n, condition, scratch),
-    }
+    let n = inliner::load(program, layout, scratch, 0)?;
+    derive_rows(program, layout, n, condition, scratch)
 }
 
-// The condition file of a program's bytes. A refusal leaves the output as it was. The first SCRATCH
-// words of scratch are free, but that the refusals 1 to 8 leave them as they were; no word past them
-// changes.
-pub fn derive(program: &[u8], condition: &mut [u8], scratch: &mut [u64]) -> Derived
+// The condition file of a program's bytes, at the start of the output: its length. A refusal leaves the
+// output as it was. The first SCRATCH words of scratch are free, but that the refusals 1 to 8 leave them
+// as they were; no word past them changes.
+pub fn derive(program: &[u8], condition: &mut [u8], scratch: &mut [u64]) -> Result<usize, Refusal>
     ensures { Derives (derivation (length condition.old) (length scratch.old) program.now) result
         condition.old condition.new scratch.old scratch.new }
 {
-    if condition.len() < CONDITION {
-        return Derived::Refused(1);
+    if condition.len() < CONDITION || scratch.len() < SCRATCH {
+        return Err(Refusal::LentTooShort);
     }
-    if scratch.len() < SCRATCH {
-        return Derived::Refused(1);
-    }
-    let r = program::read(program);
-    match r {
-        ProgramRead::Refused(n) => Derived::Refused(n),
-        ProgramRead::Read(layout) => {
-            derive_read(program, layout, condition, &mut scratch[0..SCRATCH])
-        }
-    }
+    let layout = program::read(program)?;
+    derive_read(program, layout, condition, &mut scratch[..SCRATCH])
 }

@@ -14,15 +14,15 @@ use Rattle.analysis.proofs.gather_start.Goals as goal
 pub loop-k-init : goal.loop-k-init
 loop-k-init c =
     let a = c.args in
-    (omega arith, refl, refl, refl, λ i h. refl, c.requires.0.empty ∙ sym (started_none (set_of a.s.now a.b)), c.size-count.ensures.0)
+    (λ i h. refl, c.requires.0.empty ∙ sym (started_none (set_of a.s.now a.b)))
 
 pub insert-requires : goal.insert-requires
 insert-requires c =
     let n = c.get-n.ensures.0 in
-    let words = c.renumber.auto.words ∙ c.at_start.auto.w ∙ c.get-n.auto.out ∙ c.loop-k.invariant.2 in (
+    let words = c.renumber.auto.words ∙ c.at_start.auto.w ∙ c.get-n.auto.out ∙ c.loop-k.auto.e in (
       record {
-        there = omega (arith, c.loop-k.invariant.1, c.requires.0.there);
-        canon = gathered_canon at_start (set_of c.args.s.now c.args.b) (set_of c.loop-k.s c.args.room) c.loop-k.k c.loop-k.invariant.5;
+        there = omega (arith, c.loop-k.auto.s, c.requires.0.there);
+        canon = gathered_canon at_start (set_of c.args.s.now c.args.b) (set_of c.loop-k.s c.args.room) c.loop-k.k c.loop-k.invariant.1;
       },
       record { few = n; there = omega (arith, n, words, c.requires.1) },
     )
@@ -31,17 +31,12 @@ pub loop-k-preserved : goal.loop-k-preserved
 loop-k-preserved c =
     let a = c.args in
     let this = c.renumber.ensures ∙ ap renumber (c.at_start.ensures ∙ ap (map zeroed) c.get-n.ensures.1) in (
-      omega (arith, c.loop-k.invariant.0),
-      c.insert.auto.s ∙ c.loop-k.invariant.1,
-      c.renumber.auto.words ∙ c.at_start.auto.w ∙ c.get-n.auto.out ∙ c.loop-k.invariant.2,
-      c.renumber.auto.seen ∙ c.loop-k.invariant.3,
-      within_trans a.room a.s.now c.loop-k.s c.insert.new.s c.loop-k.invariant.4 c.insert.ensures.1,
+      within_trans a.room a.s.now c.loop-k.s c.insert.new.s c.loop-k.invariant.0 c.insert.ensures.1,
       started_more a.s.now a.b a.room c.requires.0.apart c.requires.0.there c.loop-k.s c.insert.new.s c.loop-k.k (conj_of c.renumber.new.words c.get-n.result) c.insert.result
-          c.loop-k.invariant.1 c.loop-k.invariant.4 (omega (arith, c.loop-k-test.true, c.loop-k.invariant.6)) this c.loop-k.invariant.5 c.insert.ensures.0,
-      c.loop-k.invariant.6,
+          c.loop-k.auto.s c.loop-k.invariant.0 (omega (arith, c.loop-k-test.true, c.size-count.ensures.0)) this c.loop-k.invariant.1 c.insert.ensures.0,
     )
 
 pub returns : goal.returns
 returns c =
     let a = c.args in
-    (start-done a.s.now a.b c.loop-k.s a.room c.loop-k.k (omega (arith, c.loop-k.invariant.0, c.loop-k.invariant.6)) c.loop-k.invariant.5, c.loop-k.invariant.4)
+    (start-done a.s.now a.b c.loop-k.s a.room c.loop-k.k (omega (arith, c.size-count.ensures.0)) c.loop-k.invariant.1, c.loop-k.invariant.0)

@@ -1,12 +1,6 @@
 -- `analysis::join_sites` meets its contract. The invariant: the sites before the label are joined.
-use mathlib.Core.Path.{◌≡◌}
-use Prim.Native.Nat.{◌-◌}
-use lib.ListN.{length}
 use Rattle.analysis.proofs.Passing.{Passed}
 use Rattle.analysis.proofs.join_sites.Given as goal
 
 abbrev pub invariant-loop-i : goal.invariant-loop-i
-invariant-loop-i l = Passed l.initial.s l.n l.s l.i × (length l.last ≡ length l.initial.last)
-
-abbrev pub decreases-loop-i : goal.decreases-loop-i
-decreases-loop-i l = l.n - l.i
+invariant-loop-i l = Passed l.initial.s l.n l.s l.i

@@ -11,7 +11,7 @@ use Rattle.analysis.specs.Joining.{Keeps}
 use Rattle.analysis.proofs.keep_all.Goals as goal
 
 pub loop-l-init : goal.loop-l-init
-loop-l-init c = (omega arith, λ m a b. absurd (omega (arith, a, b)))
+loop-l-init c = λ m a b. absurd (omega (arith, a, b))
 
 pub returns-then-not-keeps : goal.returns-then-not-keeps
 returns-then-not-keeps c = λ e. absurd (true≢false (sym e))
@@ -19,13 +19,11 @@ returns-then-not-keeps c = λ e. absurd (true≢false (sym e))
 pub loop-l-preserved : goal.loop-l-preserved
 loop-l-preserved c =
     let a = c.args in
-    let this = c.keeps.ensures c.if-not-keeps.false in (
-      omega arith,
-      λ m h b.
-          case (eqb m (c.loop-l.l - 1)) (λ z. Keeps a.x (stmt_in (table_of 0 a.s.now) m))
-          (λ e. subst (λ j. Keeps a.x (stmt_in (table_of 0 a.s.now) j)) (sym (eqb-true m (c.loop-l.l - 1) e)) this)
-          (λ e. let differs = eqb-false m (c.loop-l.l - 1) e in c.loop-l.invariant.1 m (omega (arith, differs, h)) b),
-    )
+    let this = c.keeps.ensures c.if-not-keeps.false in
+    λ m h b.
+    case (eqb m (c.loop-l.l - 1)) (λ z. Keeps a.x (stmt_in (table_of 0 a.s.now) m))
+    (λ e. subst (λ j. Keeps a.x (stmt_in (table_of 0 a.s.now) j)) (sym (eqb-true m (c.loop-l.l - 1) e)) this)
+    (λ e. let differs = eqb-false m (c.loop-l.l - 1) e in c.loop-l.invariant m (omega (arith, differs, h)) b)
 
 pub returns : goal.returns
-returns c = λ e m a b. c.loop-l.invariant.1 m (omega (arith, a, c.loop-l-test.false)) b
+returns c = λ e m a b. c.loop-l.invariant m (omega (arith, a, c.loop-l-test.false)) b
