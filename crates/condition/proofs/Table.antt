@@ -23,7 +23,7 @@ use Rattle.model.proofs.Basics.Every.{every_of_map, every-at}
 use Rattle.model.proofs.Files.Parts.{length-entries, entries-get_or, chained_le, chained-inside, length_part, entries-part}
 use Rattle.model.proofs.Files.FieldTables.{fields-part, types-right}
 use Rattle.condition.specs.Answers.{part_nodes, part_right_lem, pair_part, pair_right, pair_place, pairs_of, fields_at, types_at, linked}
-use Rattle.condition.specs.Answers.{sizes, sizes_of, ConditionIsRead, PairInside, fields_of, types_of, conjuncts_of}
+use Rattle.condition.specs.Answers.{sizes, sizes_of, ConditionIsRead, PairInside, counts_of, fields_of, types_of, conjuncts_of}
 use Rattle.condition.specs.declared.Counts.{Counts}
 use Rattle.condition.proofs.Nodes.{node-narrow, right-narrow}
 use Rattle.condition.proofs.Passes.{pairs_from, pairs_step}
@@ -289,11 +289,20 @@ module _ (s : List ℕ) where
 
   -- by the counts that were read
   module _ (c f : ℕ) (ec : c ≡ u32_at s 0) (ef : f ≡ u32_at s 4) where
-    pub refuses : form_by s c f ≡ false → refused wrong_condition ≡ mapped sizes (read_condition s)
-    refuses h = sym (sizes-form ∙ rw (← ec, ← ef, h))
+    bytes-form : mapped (λ (C : Condition). s) (read_condition s) ≡ check (form_by s c f) wrong_condition (ok s)
+    bytes-form =
+        rw (ec, ef)
+        (ap (mapped (λ (C : Condition). s)) (read-form s)
+        ∙ mapped-check (λ (C : Condition). s) (form_by s (u32_at s 0) (u32_at s 4)) wrong_condition (record { fields = fields_of s; conjuncts = conjuncts_of s }))
 
-    pub accepts : form_by s c f ≡ true → ok (c, f) ≡ mapped sizes (read_condition s)
-    accepts h = sym (sizes-form ∙ rw (← ec, ← ef, h, fields-many f))
+    pub refuses : form_by s c f ≡ false → refused wrong_condition ≡ mapped (λ (C : Condition). s) (read_condition s)
+    refuses h = sym (bytes-form ∙ rw h)
+
+    pub accepts : form_by s c f ≡ true → ok s ≡ mapped (λ (C : Condition). s) (read_condition s)
+    accepts h = sym (bytes-form ∙ rw h)
+
+    pub accepts-sizes : form_by s c f ≡ true → mapped sizes (read_condition s) ≡ ok (c, f)
+    accepts-sizes h = sizes-form ∙ rw (← ec, ← ef, h, fields-many f)
 
 -- the default does not count inside a list
 get_d_any : {A : Type 0} (xs : List A) (i : ℕ) (d e : A) → i < length xs → get_or xs i d ≡ get_or xs i e
@@ -353,6 +362,25 @@ counted-read s k read =
     let ec : k.conjuncts ≡ u32_at s 0 = sym (ap (λ (x : ℕ × ℕ). x.0) m) in
     let ef : k.fields ≡ u32_at s 4 = sym (ap (λ (x : ℕ × ℕ). x.1) m) ∙ fields-many s (u32_at s 4) in
     record { conjuncts = ec; fields = ef; form = rw (ec, ef) e.0; table = rw (ec, ef) l }
+
+-- its counts are those at its start
+pub counts-read : (s : List ℕ) (k : Counts) → ConditionIsRead s k → k ≡ counts_of s
+counts-read s k read =
+    let q = counted-read s k read in
+    let by : ℕ → ℕ → Counts = λ c f. record { conjuncts = c; fields = f } in
+    ap₂ by q.conjuncts q.fields
+
+pub form-read : (s : List ℕ) (k : Counts) → ConditionIsRead s k → ConditionIsRead s (counts_of s)
+form-read s k read = subst (ConditionIsRead s) (counts-read s k read) read
+
+-- what is read is the bytes that were given, and they are in their form
+pub bytes-are : (s t : List ℕ) → ok t ≡ mapped (λ (C : Condition). s) (read_condition s) → (t ≡ s) × ConditionIsRead s (counts_of s)
+bytes-are s t h =
+    let e = check-ok (form_by s (u32_at s 0) (u32_at s 4)) wrong_condition (ok s) t (sym (bytes-form s (u32_at s 0) (u32_at s 4) refl refl) ∙ sym h) in
+    (sym (ok_eq s t e.1), accepts-sizes s (u32_at s 0) (u32_at s 4) refl refl e.0)
+
+pub conjuncts-read : (s : List ℕ) (k : Counts) → ConditionIsRead s k → k.conjuncts ≡ length (conjuncts_of s)
+conjuncts-read s k read = (counted-read s k read).conjuncts ∙ sym (conjuncts-count s)
 
 -- a conjunct's part
 module _ (s : List ℕ) (k : Counts) (read : ConditionIsRead s k) (i : ℕ) (h : i < k.conjuncts) where

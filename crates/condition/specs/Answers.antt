@@ -110,12 +110,17 @@ sizes C = (length C.conjuncts, length C.fields)
 abbrev pub sizes_of : Counts → ℕ × ℕ
 sizes_of k = (k.conjuncts, k.fields)
 
-abbrev pub condition_answer : Result Counts Refusal → Out (ℕ × ℕ)
-condition_answer = out_of sizes_of
+-- the bytes of a condition that is read, or the number of the refusal
+abbrev pub condition_answer : Result (List ℕ) Refusal → Out (List ℕ)
+condition_answer = out_of (λ s. s)
 
 -- the condition is in its form, with these counts
 abbrev pub ConditionIsRead : List ℕ → Counts → Type 0
 ConditionIsRead s k = mapped sizes (read_condition s) ≡ ok (sizes_of k)
+
+-- the counts that stand at its start
+abbrev pub counts_of : List ℕ → Counts
+counts_of s = record { conjuncts = u32_at s 0; fields = u32_at s 4 }
 
 -- the fields, their types and the conjuncts that a file holds
 abbrev pub fields_of : List ℕ → List Field

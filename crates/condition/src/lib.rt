@@ -2,7 +2,7 @@
 // by one over the conjuncts; and what a filter needs of a condition that is read.
 #![tactic(auto)]
 
-ghost use Rattle.std.specs.Prelude.{◌≡◌, true, ◌&&◌, map, length};
+ghost use Rattle.std.specs.Prelude.{◌≡◌, true, ◌&&◌, List, map, length};
 ghost use Prim.Native.Nat.{ℕ, ◌+◌, ◌*◌, ◌/◌, ◌%◌, ◌≤◌, ◌<◌, compare};
 ghost use Rattle.model.specs.Lists.{every};
 ghost use Rattle.model.specs.Refusals.{ok, check, mapped, wrong_condition};
@@ -12,10 +12,11 @@ ghost use Rattle.model.specs.Fields.{entry_of, field_right, types_in, fields_in}
 ghost use Rattle.model.specs.Conjunct.{◌then◌, order_numbers};
 ghost use Rattle.model.specs.Condition.{node_at, node_right_lem, conjunct_at, whole, numbered, is_before, rising, read_condition};
 ghost use Rattle.condition.specs.Answers.{constant_right_lem, reading_right_lem, operation_right_lem, right_by_lem, NodeIs, EntryIs, node_out};
-ghost use Rattle.condition.specs.Answers.{conjunct_answer, formed, part_nodes, part_right_lem, pair_part, pair_right, sizes, condition_answer};
-ghost use Rattle.condition.specs.Answers.{ConditionIsRead, PairInside, ConjunctIs, fields_of, types_at, pair_place, pairs_of, linked};
+ghost use Rattle.condition.specs.Answers.{conjunct_answer, formed, part_nodes, part_right_lem, pair_part, pair_right, condition_answer};
+ghost use Rattle.condition.specs.Answers.{ConditionIsRead, PairInside, ConjunctIs, counts_of, fields_of, conjuncts_of, types_at, pair_place, pairs_of, linked};
 
 use refusals::Refusal;
+use std::marker::Model;
 
 // ---- the sizes of the condition file
 
@@ -66,9 +67,24 @@ pub struct Node {
 
 // How many conjuncts and fields a condition has.
 #[derive(Clone, Copy)]
-pub struct Counts {
-    pub conjuncts: usize,
-    pub fields: usize,
+struct Counts {
+    conjuncts: usize,
+    fields: usize,
+}
+
+// A condition that is read: its bytes, and its counts. A proof sees the bytes.
+#[derive(Drop)]
+pub struct Condition<'a> {
+    bytes: &'a [u8],
+    counts: Counts,
+}
+
+impl<'a> Model for Condition<'a> {
+    ghost Value = { List ℕ };
+
+    ghost view = { λ c. c.bytes.now };
+
+    ghost invariant = { λ c. ConditionIsRead c.bytes.now c.counts };
 }
 
 // The node with a number in a part.
@@ -311,8 +327,8 @@ fn is_rising(condition: &[u8], fields: usize, count: usize) -> bool
 }
 
 // The condition's form. Every refusal has the same number, so the order of the tests does not show.
-pub fn read(condition: &[u8]) -> Result<Counts, Refusal>
-    ensures { condition_answer result ≡ mapped sizes (read_condition condition.now) }
+pub fn read(condition: &[u8]) -> Result<Condition<'_>, Refusal>
+    ensures { condition_answer result ≡ mapped (λ C. condition.now) (read_condition condition.now) }
 {
     if condition.len() < COUNTS_SIZE {
         return Err(Refusal::WrongCondition);
@@ -340,22 +356,36 @@ pub fn read(condition: &[u8]) -> Result<Counts, Refusal>
     if !is_rising(condition, fields, conjuncts) {
         return Err(Refusal::WrongCondition);
     }
-    Ok(Counts { conjuncts, fields })
+    let counts = Counts { conjuncts, fields };
+    Ok(Condition {
+        bytes: condition,
+        counts,
+    })
 }
 
-// A conjunct of a condition that is read, as the part that starts at its offset.
-pub fn conjunct(condition: &[u8], counts: Counts, i: usize) -> &[u8]
-    requires { ConditionIsRead condition.now counts × (i < counts.conjuncts) }
-    ensures { ConjunctIs condition.now counts i result.now }
-{
-    part_of(condition, counts.fields, i)
-}
+impl<'a> Condition<'a> {
+    // How many conjuncts it has.
+    pub fn conjuncts(&self) -> usize
+        ensures many { result ≡ length (conjuncts_of self.now) }
+        ensures read { ConditionIsRead self.now (counts_of self.now) }
+    {
+        self.counts.conjuncts
+    }
 
-// The table of the fields of a condition that is read.
-pub fn fields(condition: &[u8], counts: Counts) -> &[u8]
-    requires { ConditionIsRead condition.now counts }
-    ensures { (fields_in result.now ≡ fields_of condition.now) × (length result.now ≡ field_size * counts.fields) }
-{
-    let end = COUNTS_SIZE + FIELD_SIZE * counts.fields;
-    &condition[COUNTS_SIZE..end]
+    // The conjunct with a number, as the part that starts at its offset.
+    pub fn conjunct(&self, i: usize) -> &'a [u8]
+        requires { i < length (conjuncts_of self.now) }
+        ensures { ConjunctIs self.now (counts_of self.now) i result.now }
+    {
+        part_of(self.bytes, self.counts.fields, i)
+    }
+
+    // The table of its fields.
+    pub fn fields(&self) -> &'a [u8]
+        ensures table { (fields_in result.now ≡ fields_of self.now) × (length result.now ≡ field_size * length (fields_of self.now)) }
+        ensures read { ConditionIsRead self.now (counts_of self.now) }
+    {
+        let end = COUNTS_SIZE + FIELD_SIZE * self.counts.fields;
+        &self.bytes[COUNTS_SIZE..end]
+    }
 }

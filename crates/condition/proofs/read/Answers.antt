@@ -6,23 +6,23 @@ use Prim.Native.Nat.{◌+◌, ◌*◌, ◌≤◌}
 use native.Mathlib.Omega.{arith}
 use lib.ListN.{length}
 use Rattle.model.specs.Sizes.{field_size, counts_size}
-use Rattle.model.specs.Condition.{conjunct_at, rising, read_condition}
+use Rattle.model.specs.Condition.{Condition, conjunct_at, rising, read_condition}
 use Rattle.model.specs.Lists.{every}
 use Rattle.model.specs.Fields.{field_right}
 use Rattle.model.specs.Refusals.{refused, mapped, wrong_condition}
-use Rattle.condition.specs.Answers.{pair_right, sizes, pairs_of, fields_at, types_at, linked}
+use Rattle.condition.specs.Answers.{pair_right, pairs_of, fields_at, types_at, linked}
 use Rattle.condition.proofs.Passes.{formed-true, formed-false}
-use Rattle.condition.proofs.Table.{fields-taken, form_by, refuses, accepts, form-short, form-many, form_wide, form_cut}
+use Rattle.condition.proofs.Table.{fields-taken, form_by, refuses, accepts, accepts-sizes, form-short, form-many, form_wide, form_cut}
 use Rattle.condition.proofs.Table.{form_unchained, form_unlisted, form_wrong, form-is}
 use Rattle.std.proofs.lemmas.Result.{err_from_is_err_and}
 use Rattle.refusals.specs.Answers.{number_of}
 use Rattle.condition.proofs.read.Goals as goal
-use Rattle.condition.proofs.read.Goals.{After-u32_at-fields, Else-condition-start, Else-not-is_chained, Else-not-all_right, In_ok-read_conjuncts}
+use Rattle.condition.proofs.read.Goals.{After-u32_at-fields, Else-condition-start, Else-not-is_chained, Else-not-all_right, Else-not-is_rising, In_ok-read_conjuncts}
 
 -- ---- the places: where the counts were read, and where each test has passed
 
 -- ---- what is known there
-not-read : (c : After-u32_at-fields) → form_by c.args.condition.now c.u32_at-conjuncts.result c.u32_at-fields.result ≡ false → refused wrong_condition ≡ mapped sizes (read_condition c.args.condition.now)
+not-read : (c : After-u32_at-fields) → form_by c.args.condition.now c.u32_at-conjuncts.result c.u32_at-fields.result ≡ false → refused wrong_condition ≡ mapped (λ (C : Condition). c.args.condition.now) (read_condition c.args.condition.now)
 not-read c e = refuses c.args.condition.now c.u32_at-conjuncts.result c.u32_at-fields.result c.u32_at-conjuncts.ensures.0 c.u32_at-fields.ensures.0 e
 
 chain : (c : Else-not-is_chained) → linked c.args.condition.now c.u32_at-fields.result c.u32_at-conjuncts.result ≡ true
@@ -92,7 +92,16 @@ pub returns-then-not-is_rising : goal.returns-then-not-is_rising
 returns-then-not-is_rising c =
     not-read (goal.at.returns-then-not-is_rising c).After-u32_at-fields (ordered (goal.at.returns-then-not-is_rising c).In_ok-read_conjuncts ∙ sym c.is_rising.ensures ∙ c.if-not-is_rising.true)
 
+-- all tests pass
+right : (c : Else-not-is_rising) → form_by c.args.condition.now c.u32_at-conjuncts.result c.u32_at-fields.result ≡ true
+right c = ordered (goal.at.Else-not-is_rising c).In_ok-read_conjuncts ∙ sym c.is_rising.ensures ∙ c.if-not-is_rising.false
+
+pub invariant_of-result : goal.invariant_of-result
+invariant_of-result c =
+    accepts-sizes c.args.condition.now c.u32_at-conjuncts.result c.u32_at-fields.result c.u32_at-conjuncts.ensures.0 c.u32_at-fields.ensures.0
+    (right (goal.at.invariant_of-result c).Else-not-is_rising)
+
 pub returns : goal.returns
 returns c =
     accepts c.args.condition.now c.u32_at-conjuncts.result c.u32_at-fields.result c.u32_at-conjuncts.ensures.0 c.u32_at-fields.ensures.0
-    (ordered (goal.at.returns c).In_ok-read_conjuncts ∙ sym c.is_rising.ensures ∙ c.if-not-is_rising.false)
+    (right (goal.at.returns c).Else-not-is_rising)
