@@ -14,6 +14,7 @@ use Rattle.model.specs.Refusals.{Out, ok, refused, mapped, check, wrong_input}
 use Rattle.model.specs.Bytes.{Pair, pair_at, entries, pairs_at, chained}
 use Rattle.model.specs.Fields.{Field, types_in}
 use Rattle.model.specs.Input.{width, lengths_right, bits_right_lem, read_input}
+use Rattle.model.proofs.Basics.Results.{ok_eq, refused-ok}
 use Rattle.model.proofs.Basics.Tests.{case, and_left, and_right}
 use Rattle.model.proofs.Files.Parts.{chained_le}
 use Rattle.model.proofs.Files.FieldTables.{length_types}
@@ -157,3 +158,13 @@ module _ (fields : List Field) (s : List ℕ) where
 
     pub readings_decide : e ≡ length s → Answers (check (readings_right fields s) wrong_input (ok tt))
     readings_decide h = read-check fields s ∙ rw (by_end (types_in fields) s e r ∙ eq-eqb e (length s) h)
+
+-- and the answer with a value in the place of its unit
+pub with_value : {A B : Type 0} (b : B) (o : Out A) (p : Out (Unit {0})) → mapped (λ (x : A). tt {0}) o ≡ p → mapped (λ (x : A). b) o ≡ mapped (λ (u : Unit {0}). b) p
+with_value b (ok a) p e = ap (mapped (λ (u : Unit {0}). b)) e
+with_value b (refused n) p e = ap (mapped (λ (u : Unit {0}). b)) e
+
+-- what is read with one answer is that answer
+pub constant_read : {A B : Type 0} (b : B) (o : Out A) (v : B) → ok v ≡ mapped (λ (x : A). b) o → v ≡ b
+constant_read b (ok a) v e = ok_eq v b e
+constant_read b (refused n) v e = absurd (refused-ok n v (sym e))

@@ -7,9 +7,17 @@ use Rattle.model.specs.Input.{width, readings_of, read_input}
 use Rattle.refusals.specs.declared.Refusal.{Refusal}
 use Rattle.refusals.specs.Answers.{out_of}
 
--- read, or the number of the refusal
-abbrev pub input_answer : Result Unit Refusal → Out (Unit {0})
-input_answer = out_of (λ u. tt {0})
+-- the table of an input's fields, and its bytes
+pub record InputFile : Type 0 where
+  pub fields : List ℕ
+  pub bytes : List ℕ
+
+abbrev pub file_of : (fields s : List ℕ) → InputFile
+file_of fields s = record { fields = fields; bytes = s }
+
+-- the file that is read, or the number of the refusal
+abbrev pub input_answer : Result InputFile Refusal → Out InputFile
+input_answer = out_of (λ i. i)
 
 -- the input is in its form, for the fields of a table
 abbrev pub InputIsRead : (fields s : List ℕ) → Type 0

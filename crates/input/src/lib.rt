@@ -1,7 +1,7 @@
 // The reader of the input file (document 01: sheet): one pass over the pairs that carries the place
 // where the next part begins, and one over the readings of fields that are narrower than their type;
 // a field's readings as a part of the caller's slice; one reading as a number. The fields come as the
-// bytes of their table, as it lies in a program or a condition.
+// bytes of their table, as it lies in a program or a condition. What is read is a value of its own.
 #![tactic(auto)]
 
 ghost use Rattle.std.specs.Prelude.{◌≡◌, ℕ, ◌+◌, ◌-◌, ◌*◌, ◌/◌, ◌^◌, ◌≤◌, ◌<◌, length};
@@ -13,12 +13,13 @@ ghost use Rattle.model.specs.Refusals.{mapped};
 ghost use Rattle.model.specs.Bytes.{pair_at, pairs_at};
 ghost use Rattle.model.specs.Fields.{Field, entry_of, bits_of_lem, types_in, fields_in};
 ghost use Rattle.model.specs.Input.{width, bits_at, reading_at_lem, in_bits_lem, bits_right_lem, read_input};
-ghost use Rattle.input.specs.Answers.{input_answer, InputIsRead, WidthIs, PartInside, field_part, field_readings};
+ghost use Rattle.input.specs.Answers.{InputFile, file_of, input_answer, InputIsRead, WidthIs, PartInside, field_part, field_readings};
 ghost use Rattle.input.specs.Bits.{LimitsAre, part_readings};
 ghost use Rattle.input.specs.FirstWrong.{RightBefore, PartIs, PairsAre};
 
 use arith::{Num, Range};
 use refusals::Refusal;
+use std::marker::Model;
 
 // the bytes of a field's entry: its type, and the number of its bits added to OVER_BITS
 const FIELD_SIZE: usize = fields::SIZE;
@@ -32,6 +33,21 @@ const MOST_READINGS: usize = 128;
 const SIGNED: u8 = 4;
 
 const WIDTHS: u8 = 4;
+
+// An input that is read: the table of its fields, and its bytes. A proof sees both.
+#[derive(Drop)]
+pub struct Input<'a> {
+    fields: &'a [u8],
+    bytes: &'a [u8],
+}
+
+impl<'a> Model for Input<'a> {
+    ghost Value = { InputFile };
+
+    ghost view = { λ i. file_of i.fields.now i.bytes.now };
+
+    ghost invariant = { λ i. InputIsRead i.fields.now i.bytes.now };
+}
 
 // How far what a field's bits hold goes below 0, and how far above.
 #[derive(Clone, Copy)]
@@ -188,9 +204,9 @@ fn bits_right(fields: &[u8], input: &[u8]) -> bool
     true
 }
 
-// Whether the input has its form, for the fields of this table.
-pub fn read(fields: &[u8], input: &[u8]) -> Result<(), Refusal>
-    ensures { input_answer result ≡ mapped (λ I. tt {0}) (read_input (fields_in fields.now) input.now) }
+// The input, if it has its form for the fields of this table.
+pub fn read<'a>(fields: &'a [u8], input: &'a [u8]) -> Result<Input<'a>, Refusal>
+    ensures { input_answer result ≡ mapped (λ I. file_of fields.now input.now) (read_input (fields_in fields.now) input.now) }
 {
     let Ok(end) = first_wrong(fields, input) else {
         return Err(Refusal::WrongInput);
@@ -201,25 +217,39 @@ pub fn read(fields: &[u8], input: &[u8]) -> Result<(), Refusal>
     if !bits_right(fields, input) {
         return Err(Refusal::WrongInput);
     }
-    Ok(())
+    Ok(Input {
+        fields,
+        bytes: input,
+    })
 }
 
-// The readings of a field, as a part of an input that is read.
-pub fn readings<'a>(fields: &[u8], input: &'a [u8], field: usize) -> &'a [u8]
-    requires { InputIsRead fields.now input.now × (field < length fields.now / field_size) }
-    ensures { result.now ≡ field_part input.now field }
-{
-    part_of(input, field)
-}
+impl<'a> Input<'a> {
+    // The table of its fields.
+    pub fn fields(&self) -> &'a [u8]
+        ensures table { result.now ≡ self.now.fields }
+        ensures read { InputIsRead self.now.fields self.now.bytes }
+    {
+        self.fields
+    }
 
-// How many readings a field has in an input that is read.
-pub fn count(fields: &[u8], input: &[u8], field: usize) -> usize
-    requires { InputIsRead fields.now input.now × (field < length fields.now / field_size) }
-    ensures { (result ≡ length (field_readings fields.now input.now field)) × (result ≤ most_readings) }
-{
-    let w = width_of(fields[FIELD_SIZE * field]);
-    let len = bytes_le::u32_at(input, 8 * field + 4) as usize;
-    len / w
+    // The readings of a field, as a part of the caller's bytes.
+    pub fn readings(&self, field: usize) -> &'a [u8]
+        requires { field < length self.now.fields / field_size }
+        ensures { result.now ≡ field_part self.now.bytes field }
+    {
+        part_of(self.bytes, field)
+    }
+
+    // How many readings a field has.
+    pub fn count(&self, field: usize) -> usize
+        requires { field < length self.now.fields / field_size }
+        ensures { (result ≡ length (field_readings self.now.fields self.now.bytes field)) × (result ≤ most_readings) }
+    {
+        let fields = self.fields;
+        let w = width_of(fields[FIELD_SIZE * field]);
+        let len = bytes_le::u32_at(self.bytes, 8 * field + 4) as usize;
+        len / w
+    }
 }
 
 // The bytes of a reading as a number, as many as its type has.
