@@ -11,7 +11,7 @@ use lib.Seq.{drop-cons}
 use borrow.Author.Tests.{leb-true}
 use Rattle.model.specs.Sizes.{most_fields, most_conjuncts}
 use Rattle.model.specs.Lists.{All, every}
-use Rattle.model.specs.Bytes.{part, Pair, pair_at}
+use Rattle.model.specs.Bytes.{u32_at, part, Pair, pair_at}
 use Rattle.model.specs.Fields.{field_right}
 use Rattle.model.specs.Program.{type_right}
 use Rattle.model.specs.Conjunct.{Conj}
@@ -19,9 +19,8 @@ use Rattle.model.specs.Condition.{conjunct_at, length_right, nodes_right, whole,
 use Rattle.model.proofs.Basics.Lists.{all_get_d}
 use Rattle.model.proofs.Basics.Tests.{and_left, and_right}
 use Rattle.model.proofs.Files.FieldTables.{length_types}
-use Rattle.condition.specs.Answers.{part_nodes, pair_part, pair_right, pair_place, fields_at, types_at, pairs_of, linked, ConditionIsRead, types_of, conjuncts_of}
-use Rattle.condition.specs.declared.Counts.{Counts}
-use Rattle.condition.proofs.Table.{form_by, form-narrow, form-types, form-pair, counted-read, conjunct-inside, fields-many, conjuncts-count}
+use Rattle.condition.specs.Answers.{part_nodes, pair_part, pair_right, pair_place, fields_at, types_at, pairs_of, linked, ConditionIsRead, counts_of, fields_of, types_of, conjuncts_of}
+use Rattle.condition.proofs.Table.{Counted, form_by, form-narrow, form-types, form-pair, counted-read, conjunct-inside, fields-many, conjuncts-count}
 use Rattle.plan.specs.Part.{conjunct_of, IsConjunct}
 use Rattle.plan.proofs.Parts.{part-is-conjunct}
 
@@ -58,39 +57,42 @@ right-is-conjunct types s p few inside right =
     let two = and_left (long && formed) one three in
     part-is-conjunct types s p few inside (and_left long formed two) (and_right long formed two) (and_right (long && formed) one three)
 
-module _ (s : List ℕ) (k : Counts) (read : ConditionIsRead s k) where
-  pub fields-narrow : k.fields ≤ most_fields
-  fields-narrow = form-narrow s k.conjuncts k.fields (counted-read s k read).form
+module _ (s : List ℕ) (read : ConditionIsRead s (counts_of s)) where
+  counted : Counted s (u32_at s 0) (u32_at s 4)
+  counted = counted-read s (counts_of s) read
+
+  pub fields-narrow : length (fields_of s) ≤ most_fields
+  fields-narrow = rw (fields-many s (u32_at s 4)) (form-narrow s (u32_at s 0) (u32_at s 4) counted.form)
 
   pub types-right : every type_right (types_of s) ≡ true
-  types-right =
-      let q = counted-read s k read in
-      subst (λ (f : ℕ). every type_right (types_at s f) ≡ true) q.fields (form-types s k.conjuncts k.fields q.form)
+  types-right = form-types s (u32_at s 0) (u32_at s 4) counted.form
 
-  pub conjuncts-many : length (conjuncts_of s) ≡ k.conjuncts
-  conjuncts-many = conjuncts-count s ∙ sym (counted-read s k read).conjuncts
+  below : (i : ℕ) → i < length (conjuncts_of s) → i < u32_at s 0
+  below i h = omega (arith, conjuncts-count s)
 
-  pub conjunct-formed : (i : ℕ) → i < k.conjuncts → IsConjunct (pair_part s (pair_place k.fields i))
+  pub conjunct-formed : (i : ℕ) → i < length (conjuncts_of s) → IsConjunct (pair_part s (pair_place (u32_at s 4) i))
   conjunct-formed i h =
-      let q = counted-read s k read in
-      let types = types_at s k.fields in
-      let size : length types ≡ k.fields = length_types (fields_at s k.fields) ∙ fields-many s k.fields in
-      right-is-conjunct types s (pair_at s (pair_place k.fields i)) (omega (arith, fields-narrow)) (conjunct-inside s k read i h)
-      (form-pair s k.conjuncts k.fields q.form i h)
+      let f = u32_at s 4 in
+      let types = types_at s f in
+      let size : length types ≡ f = length_types (fields_at s f) ∙ fields-many s f in
+      let few = form-narrow s (u32_at s 0) f counted.form in
+      right-is-conjunct types s (pair_at s (pair_place f i)) (omega (arith, few)) (conjunct-inside s (counts_of s) read i (below i h))
+      (form-pair s (u32_at s 0) f counted.form i (below i h))
 
+-- ---- from conjunct to conjunct
+
+module _ (s : List ℕ) where
   -- what is so of all conjuncts is so of the one that a part is
-  pub conjunct-asked : (i : ℕ) (P : Conj → Type 0) → All P (conjuncts_of s) → i < k.conjuncts → (p : List ℕ) → part_nodes p ≡ get_or (conjuncts_of s) i []
+  pub conjunct-asked : (i : ℕ) (P : Conj → Type 0) → All P (conjuncts_of s) → i < length (conjuncts_of s) → (p : List ℕ) → part_nodes p ≡ get_or (conjuncts_of s) i []
       → P (conjunct_of p)
   unfolding conjunct_of
-  conjunct-asked i P all h p is = subst P (sym is) (all_get_d P (conjuncts_of s) i [] all (omega (arith, conjuncts-many)))
-
-  -- ---- from conjunct to conjunct
+  conjunct-asked i P all h p is = subst P (sym is) (all_get_d P (conjuncts_of s) i [] all h)
 
   -- the one with number i is that of a part p
-  pub next-conjunct : (i : ℕ) → i < k.conjuncts → (p : List ℕ) → part_nodes p ≡ get_or (conjuncts_of s) i []
+  pub next-conjunct : (i : ℕ) → i < length (conjuncts_of s) → (p : List ℕ) → part_nodes p ≡ get_or (conjuncts_of s) i []
       → drop i (conjuncts_of s) ≡ conjunct_of p ∷ drop (i + 1) (conjuncts_of s)
   unfolding conjunct_of
-  next-conjunct i h p is = rw (is, add-one i) (drop-cons (conjuncts_of s) i [] (omega (arith, conjuncts-many)))
+  next-conjunct i h p is = rw (is, add-one i) (drop-cons (conjuncts_of s) i [] h)
 
-  pub none_left : (i : ℕ) → k.conjuncts ≤ i → drop i (conjuncts_of s) ≡ []
-  none_left i h = drop_of_length-le (conjuncts_of s) {i = i} (omega (arith, conjuncts-many))
+  pub none_left : (i : ℕ) → length (conjuncts_of s) ≤ i → drop i (conjuncts_of s) ≡ []
+  none_left i h = drop_of_length-le (conjuncts_of s) {i = i} h

@@ -17,8 +17,8 @@ use Rattle.model.specs.Filter.{few_combinations, has_readings}
 use Rattle.model.specs.Failure.{Found, first, failure_in, verdict}
 use Rattle.model.proofs.Basics.Results.{ok_eq, refused-ok, check-ok, mapped-ok}
 use Rattle.model.proofs.Basics.Tests.{and_left, and_right}
-use Rattle.condition.specs.Answers.{sizes, sizes_of, ConditionIsRead, fields_of, conjuncts_of}
-use Rattle.condition.specs.declared.Counts.{Counts}
+use Rattle.condition.specs.Answers.{sizes, sizes_of, ConditionIsRead, counts_of, fields_of, conjuncts_of}
+use Rattle.input.specs.Answers.{InputFile}
 use Rattle.condition.proofs.Table.{condition-read}
 use Rattle.plan.specs.Readings.{Counted, NoneBlank}
 use Rattle.evaluator.proofs.Calls.{readings-none-blank}
@@ -86,22 +86,22 @@ module _ (s t : List ℕ) where
   unfolding verdict judged
   verdict-steps = refl
 
-  pub condition-refused : (n : ℕ) → refused n ≡ mapped sizes (read_condition s) → refused n ≡ verdict s t
-  condition-refused n e = through sizes n (read_condition s) (λ C. on_input_lem C.fields C.conjuncts) e ∙ sym verdict-steps
+  pub condition-refused : (n : ℕ) → refused n ≡ mapped (λ C. s) (read_condition s) → refused n ≡ verdict s t
+  condition-refused n e = through (λ C. s) n (read_condition s) (λ C. on_input_lem C.fields C.conjuncts) e ∙ sym verdict-steps
 
-  module _ (k : Counts) (read : ConditionIsRead s k) where
+  module _ (read : ConditionIsRead s (counts_of s)) where
     verdict-read : verdict s t ≡ on_input_lem (fields_of s) (conjuncts_of s)
     verdict-read =
-        let r = mapped-ok sizes (read_condition s) (sizes_of k) read in
+        let r = mapped-ok sizes (read_condition s) (sizes_of (counts_of s)) read in
         let C : Condition = r.0 in
         let q = condition-read s C r.1 in
         verdict-steps ∙ ap (λ (o : Out Condition). o >>= λ D. on_input_lem D.fields D.conjuncts) r.1 ∙ ap₂ on_input_lem q.0 q.1
 
-    pub input-refused : (n : ℕ) → refused n ≡ mapped (λ I. tt {0}) (read_input (fields_of s) t) → refused n ≡ verdict s t
-    input-refused n e = through (λ I. tt {0}) n (read_input (fields_of s) t) (λ I. judged I (conjuncts_of s)) e ∙ sym verdict-read
+    pub input-refused : (i : InputFile) (n : ℕ) → refused n ≡ mapped (λ I. i) (read_input (fields_of s) t) → refused n ≡ verdict s t
+    input-refused i n e = through (λ I. i) n (read_input (fields_of s) t) (λ I. judged I (conjuncts_of s)) e ∙ sym verdict-read
 
-    pub both_read : mapped (λ I. tt {0}) (read_input (fields_of s) t) ≡ ok tt → verdict s t ≡ judged (input_in (fields_of s) t) (conjuncts_of s)
-    both_read h =
-        let r = mapped-ok (λ I. tt {0}) (read_input (fields_of s) t) (tt {0}) h in
+    pub both_read : (i j : InputFile) → ok j ≡ mapped (λ I. i) (read_input (fields_of s) t) → verdict s t ≡ judged (input_in (fields_of s) t) (conjuncts_of s)
+    both_read i j h =
+        let r = mapped-ok (λ I. i) (read_input (fields_of s) t) j (sym h) in
         verdict-read ∙ ap (λ (o : Out Input). o >>= λ I. judged I (conjuncts_of s)) r.1
         ∙ ap (λ (I : Input). judged I (conjuncts_of s)) (input-is (fields_of s) t r.0 r.1)

@@ -8,7 +8,6 @@ use Rattle.model.specs.Program.{type_right}
 use Rattle.model.specs.Bytes.{pair_at}
 use Rattle.model.specs.Fields.{Field, types_in, fields_in}
 use Rattle.model.specs.Input.{Input, width, readings_of}
-use Rattle.input.specs.Answers.{InputIsRead}
 
 -- the readings that a byte string holds for these fields; a field that is not listed has none
 unfoldable pub input_in : List Field → List ℕ → Input
@@ -33,9 +32,8 @@ pub record ReadingsFit (ty : ℕ) (part : List ℕ) (n from : ℕ) (mags : List 
   pub magnitudes : from + n ≤ length mags
   pub signs : from + n ≤ length negs
 
--- an input that is read, and places for the readings of the fields of a table
-pub record Decodable (fields input mags : List ℕ) (negs : List Bool) : Type 0 where
-  pub read : InputIsRead fields input
+-- the types of the fields of a table, and places for their readings
+pub record Decodable (fields mags : List ℕ) (negs : List Bool) : Type 0 where
   pub typed : every type_right (types_in (fields_in fields)) ≡ true
   pub magnitudes : most_readings * (length fields / field_size) ≤ length mags
   pub signs : most_readings * (length fields / field_size) ≤ length negs

@@ -1,15 +1,17 @@
 -- What the filter's verdicts stand for, and what the numbers of combinations tell of conjuncts.
-use Rattle.std.specs.Prelude.{◌≡◌, Result, Bool, List, ℕ, ◌*◌, ◌≤◌, length}
+use Rattle.std.specs.Prelude.{◌≡◌, Result, Bool, true, List, ℕ, ◌*◌, ◌/◌, ◌≤◌, length}
 use Rattle.arith.specs.declared.Cause.{Cause}
-use Rattle.model.specs.Sizes.{most_fields, most_readings}
+use Rattle.model.specs.Sizes.{field_size, most_fields, most_readings}
 use Rattle.model.specs.Lists.{All, every}
-use Rattle.model.specs.Refusals.{Out, ok, mapped, check, too_many_combinations, blank_field}
+use Rattle.model.specs.Refusals.{Out, ok, check, too_many_combinations, blank_field}
+use Rattle.model.specs.Program.{type_right}
+use Rattle.model.specs.Fields.{types_in, fields_in}
 use Rattle.model.specs.Conjunct.{Conjuncts}
-use Rattle.model.specs.Input.{Input, read_input}
+use Rattle.model.specs.Input.{Input}
 use Rattle.model.specs.Filter.{few_combinations, has_readings}
 use Rattle.model.specs.Failure.{Found, nothing, found, first, failure_in}
-use Rattle.condition.specs.declared.Counts.{Counts}
-use Rattle.condition.specs.Answers.{ConditionIsRead, fields_of, conjuncts_of}
+use Rattle.condition.specs.Answers.{fields_of, conjuncts_of}
+use Rattle.input.specs.Answers.{InputFile}
 use Rattle.plan.specs.Readings.{Lent, NoneBlank, Decoded}
 use Rattle.evaluator.specs.Answer.{answer_of}
 use Rattle.filter.specs.Decoding.{input_in}
@@ -47,9 +49,8 @@ judged I S =
 
 -- ---- what the functions ask for and come to
 
--- a condition that is read, and readings of which each conjunct has one of each of its fields
-pub record Triable (condition : List ℕ) (sizes : Counts) (counts mags : List ℕ) (negs : List Bool) : Type 0 where
-  pub read : ConditionIsRead condition sizes
+-- readings of which each conjunct of a condition has one of each of its fields
+pub record Triable (condition counts mags : List ℕ) (negs : List Bool) : Type 0 where
   pub lent : Lent counts mags negs
   pub none-blank : All (NoneBlank counts) (conjuncts_of condition)
 
@@ -57,17 +58,18 @@ pub record Triable (condition : List ℕ) (sizes : Counts) (counts mags : List �
 abbrev pub FirstFails : Result (Unit {0}) Cause → List ℕ → List ℕ → List ℕ → List Bool → Type 0
 FirstFails r condition counts mags negs = (I : Input) → Decoded I counts mags negs → answer_of r ≡ first (failure_in I) (conjuncts_of condition)
 
--- a condition and an input that are read
-pub record BothRead (condition : List ℕ) (sizes : Counts) (input : List ℕ) : Type 0 where
-  pub of_condition : ConditionIsRead condition sizes
-  pub of_input : mapped (λ I. tt {0}) (read_input (fields_of condition) input) ≡ ok tt
+-- the table of an input is that of a condition that is read
+pub record InputOf (condition fields : List ℕ) : Type 0 where
+  pub same : fields_in fields ≡ fields_of condition
+  pub few : length fields / field_size ≤ most_fields
+  pub typed : every type_right (types_in (fields_in fields)) ≡ true
 
 -- with places for the readings
-pub record Judgeable (condition : List ℕ) (sizes : Counts) (input counts mags : List ℕ) (negs : List Bool) : Type 0 where
-  pub read : BothRead condition sizes input
+pub record Judgeable (condition : List ℕ) (input : InputFile) (counts mags : List ℕ) (negs : List Bool) : Type 0 where
+  pub of : InputOf condition input.fields
   pub counts-long : length counts ≡ most_fields
-  pub magnitudes : most_readings * sizes.fields ≤ length mags
-  pub signs : most_readings * sizes.fields ≤ length negs
+  pub magnitudes : most_readings * (length input.fields / field_size) ≤ length mags
+  pub signs : most_readings * (length input.fields / field_size) ≤ length negs
 
 -- the verdict on them
 abbrev pub Judges : Result Verdict Refusal → List ℕ → List ℕ → Type 0

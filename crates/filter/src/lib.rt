@@ -5,19 +5,19 @@
 // refuses nothing.
 #![tactic(auto)]
 
-ghost use Rattle.std.specs.Prelude.{◌≡◌, ℕ, ◌*◌, ◌≤◌, ◌<◌, length};
+ghost use Rattle.std.specs.Prelude.{◌≡◌, ℕ, ◌*◌, ◌/◌, ◌≤◌, ◌<◌, length};
 ghost use Rattle.arith.specs.Types.{Row};
-ghost use Rattle.model.specs.Sizes.{most_fields, most_readings};
+ghost use Rattle.model.specs.Sizes.{field_size, most_fields, most_readings};
 ghost use Rattle.model.specs.Fields.{fields_in};
 ghost use Rattle.model.specs.Input.{Input, width, reading_at_lem};
 ghost use Rattle.model.specs.Failure.{verdict};
-ghost use Rattle.condition.specs.Answers.{ConditionIsRead, conjuncts_of};
+ghost use Rattle.condition.specs.Answers.{conjuncts_of};
 ghost use Rattle.plan.specs.Readings.{signed_at, Few, Lent, Counted, Decoded, Taken};
-ghost use Rattle.filter.specs.Verdict.{verdict_of, Told, judged, Triable, FirstFails, BothRead, Judgeable, Judges};
+ghost use Rattle.filter.specs.Verdict.{verdict_of, Told, judged, Triable, FirstFails, InputOf, Judgeable, Judges};
 ghost use Rattle.filter.specs.Decoding.{input_in, Filled, ReadingFits, ReadingsFit, Decodable, FieldPut};
 
 use arith::{Cause, Range};
-use condition::Counts;
+use condition::Condition;
 use refusals::Refusal;
 
 // The input passes, or is held, and why it is.
@@ -69,29 +69,30 @@ fn put_readings(ty: u8, part: &[u8], n: usize, from: usize, mags: &mut [u64], ne
 
 // The readings of a field, put to the places from READINGS * f on, and how many they are; none of a field
 // that is not listed. There is room for those that are.
-fn put_field(fields: &[u8], input: &[u8], f: usize, mags: &mut [u64], negs: &mut [bool]) -> usize
-    requires { Decodable fields.now input.now mags.old negs.old × (f < most_fields) }
-    ensures { FieldPut result (input_in (fields_in fields.now) input.now f) f (signed_at mags.old negs.old)
+fn put_field(input: &input::Input, f: usize, mags: &mut [u64], negs: &mut [bool]) -> usize
+    requires { Decodable input.now.fields mags.old negs.old × (f < most_fields) }
+    ensures { FieldPut result (input_in (fields_in input.now.fields) input.now.bytes f) f (signed_at mags.old negs.old)
         (signed_at mags.new negs.new) }
 {
+    let fields = input.fields();
     if fields.len() / FIELD_SIZE <= f {
         return 0;
     }
-    let part = input::readings(fields, input, f);
-    let n = input::count(fields, input, f);
+    let part = input.readings(f);
+    let n = input.count(f);
     put_readings(fields[FIELD_SIZE * f], part, n, READINGS * f, mags, negs);
     n
 }
 
 // The readings of all fields, where there is room for those that are listed. Counts, magnitudes and signs are
 // three slices, as the evaluator takes them.
-fn decode(fields: &[u8], input: &[u8], counts: &mut [usize], mags: &mut [u64], negs: &mut [bool])
-    requires { Decodable fields.now input.now mags.old negs.old × (length counts.old ≡ most_fields) }
+fn decode(input: &input::Input, counts: &mut [usize], mags: &mut [u64], negs: &mut [bool])
+    requires { Decodable input.now.fields mags.old negs.old × (length counts.old ≡ most_fields) }
     ensures { Lent counts.new mags.new negs.new
-        × Decoded (input_in (fields_in fields.now) input.now) counts.new mags.new negs.new }
+        × Decoded (input_in (fields_in input.now.fields) input.now.bytes) counts.new mags.new negs.new }
 {
     for f in 0..FIELDS {
-        counts[f] = put_field(fields, input, f, mags, negs);
+        counts[f] = put_field(input, f, mags, negs);
     }
 }
 
@@ -99,14 +100,14 @@ fn decode(fields: &[u8], input: &[u8], counts: &mut [usize], mags: &mut [u64], n
 
 // What the numbers of combinations tell of all conjuncts. A blank field comes first: it is looked for
 // to the last conjunct, also where one before has too many combinations.
-fn products(condition: &[u8], sizes: Counts, counts: &[usize]) -> Result<(), Refusal>
-    requires { ConditionIsRead condition.now sizes × Few counts.now }
+fn products(condition: &Condition, counts: &[usize]) -> Result<(), Refusal>
+    requires { Few counts.now }
     ensures { (I : Input) → Counted I counts.now → Told result I (conjuncts_of condition.now) }
 {
-    let n = sizes.conjuncts;
+    let n = condition.conjuncts();
     let mut many = false;
     for i in 0..n {
-        let part = condition::conjunct(condition, sizes, i);
+        let part = condition.conjunct(i);
         let p = evaluator::product(part, counts);
         if p == 0 {
             return Err(Refusal::BlankField);
@@ -123,18 +124,17 @@ fn products(condition: &[u8], sizes: Counts, counts: &[usize]) -> Result<(), Ref
 
 // Why the first conjunct that does not hold does not, or that all do.
 fn try_all(
-    condition: &[u8],
-    sizes: Counts,
+    condition: &Condition,
     counts: &[usize],
     mags: &[u64],
     negs: &[bool],
 ) -> Result<(), Cause>
-    requires { Triable condition.now sizes counts.now mags.now negs.now }
+    requires { Triable condition.now counts.now mags.now negs.now }
     ensures { FirstFails result condition.now counts.now mags.now negs.now }
 {
-    let n = sizes.conjuncts;
+    let n = condition.conjuncts();
     for place in 0..n {
-        let part = condition::conjunct(condition, sizes, place);
+        let part = condition.conjunct(place);
         evaluator::first_failure(part, counts, mags, negs)?;
     }
     Ok(())
@@ -142,75 +142,71 @@ fn try_all(
 
 // ---- the verdict
 
-// Of a condition that is read, with the readings of an input: nothing is evaluated before all numbers of
-// combinations are known.
+// Of a condition, with the readings of an input: nothing is evaluated before all numbers of combinations
+// are known.
 fn judge(
-    condition: &[u8],
-    sizes: Counts,
+    condition: &Condition,
     counts: &[usize],
     mags: &[u64],
     negs: &[bool],
 ) -> Result<Verdict, Refusal>
-    requires { ConditionIsRead condition.now sizes × Lent counts.now mags.now negs.now }
+    requires { Lent counts.now mags.now negs.now }
     ensures { (I : Input) → Decoded I counts.now mags.now negs.now
         → verdict_of result ≡ judged I (conjuncts_of condition.now) }
 {
-    products(condition, sizes, counts)?;
-    match try_all(condition, sizes, counts, mags, negs) {
+    products(condition, counts)?;
+    match try_all(condition, counts, mags, negs) {
         Ok(()) => Ok(Verdict::Pass),
         Err(cause) => Ok(Verdict::Held(cause)),
     }
 }
 
-// Of a condition and an input that are read, with room for the readings.
+// Of a condition and an input, with room for the readings.
 fn judge_in(
-    condition: &[u8],
-    sizes: Counts,
-    input: &[u8],
+    condition: &Condition,
+    input: &input::Input,
     counts: &mut [usize],
     mags: &mut [u64],
     negs: &mut [bool],
 ) -> Result<Verdict, Refusal>
-    requires { Judgeable condition.now sizes input.now counts.old mags.old negs.old }
-    ensures { Judges result condition.now input.now }
+    requires { Judgeable condition.now input.now counts.old mags.old negs.old }
+    ensures { Judges result condition.now input.now.bytes }
 {
-    let fields = condition::fields(condition, sizes);
-    decode(fields, input, counts, mags, negs);
-    judge(condition, sizes, counts, mags, negs)
+    decode(input, counts, mags, negs);
+    judge(condition, counts, mags, negs)
 }
 
 // With so many places of its own for the readings.
 fn judge_with<const PLACES: usize>(
-    condition: &[u8],
-    sizes: Counts,
-    input: &[u8],
+    condition: &Condition,
+    input: &input::Input,
 ) -> Result<Verdict, Refusal>
-    requires { BothRead condition.now sizes input.now
-        × (most_readings * sizes.fields ≤ PLACES) × (PLACES ≤ most_readings * most_fields) }
-    ensures { Judges result condition.now input.now }
+    requires { InputOf condition.now input.now.fields
+        × (most_readings * (length input.now.fields / field_size) ≤ PLACES) × (PLACES ≤ most_readings * most_fields) }
+    ensures { Judges result condition.now input.now.bytes }
 {
     let mut counts: [usize; FIELDS] = [0; FIELDS];
     let mut mags: [u64; PLACES] = [0; PLACES];
     let mut negs: [bool; PLACES] = [false; PLACES];
-    judge_in(condition, sizes, input, &mut counts, &mut mags, &mut negs)
+    judge_in(condition, input, &mut counts, &mut mags, &mut negs)
 }
 
-// Of a condition and an input that are read. The fewer places there are, the less is to be cleared.
-fn judge_input(condition: &[u8], sizes: Counts, input: &[u8]) -> Result<Verdict, Refusal>
-    requires { BothRead condition.now sizes input.now }
-    ensures { Judges result condition.now input.now }
+// Of a condition and an input. The fewer places there are, the less is to be cleared.
+fn judge_input(condition: &Condition, input: &input::Input) -> Result<Verdict, Refusal>
+    requires { InputOf condition.now input.now.fields }
+    ensures { Judges result condition.now input.now.bytes }
 {
-    if sizes.fields <= FEW {
-        return judge_with::<SMALL_ROOM>(condition, sizes, input);
+    if input.fields().len() / FIELD_SIZE <= FEW {
+        return judge_with::<SMALL_ROOM>(condition, input);
     }
-    judge_with::<ROOM>(condition, sizes, input)
+    judge_with::<ROOM>(condition, input)
 }
 
 // The verdict on two byte strings.
 pub fn check(condition: &[u8], input: &[u8]) -> Result<Verdict, Refusal>
     ensures { verdict_of result ≡ verdict condition.now input.now }
 {
-    let sizes = condition::read(condition)?;
-    input::read(condition::fields(condition, sizes), input)?;
-    judge_input(condition, sizes, input)
+    let condition = condition::read(condition)?;
+    let input = input::read(condition.fields(), input)?;
+    judge_input(&condition, &input)
 }

@@ -10,4 +10,4 @@ use Rattle.filter.proofs.decode.Given as goal
 abbrev pub invariant-loop-f : goal.invariant-loop-f
 invariant-loop-f l =
     (length l.counts ≡ most_fields) × (length l.mags ≡ length l.initial.mags) × (length l.negs ≡ length l.initial.negs)
-    × DecodedTo (input_in (fields_in l.fields) l.input) l.f l.counts l.mags l.negs
+    × DecodedTo (input_in (fields_in l.input.fields) l.input.bytes) l.f l.counts l.mags l.negs

@@ -14,6 +14,9 @@ use Rattle.filter.proofs.Verdicts.{judged-refused, judged-within, within-full, n
 use Rattle.filter.proofs.judge.Goals as goal
 use Rattle.filter.proofs.judge.Goals.{After-try_all}
 
+pub products-requires : goal.products-requires
+products-requires c = c.requires.few
+
 pub returns-in_err-products : goal.returns-in_err-products
 returns-in_err-products c = λ I d.
     let p = err_from_is_err_and c.from_residual.result c.from_residual.ensures.1 in
@@ -23,8 +26,7 @@ pub try_all-requires : goal.try_all-requires
 try_all-requires c =
     let S = conjuncts_of c.args.condition.now in
     record {
-      read = c.requires.0;
-      lent = c.requires.1;
+      lent = c.requires;
       none-blank = none-blank c.args.counts.now S (λ I n. within-full I S (c.in_ok-products.ensures I n));
     }
 

@@ -8,6 +8,5 @@ use Rattle.plan.specs.Readings.{Decoded}
 use Rattle.filter.proofs.try_all.Given as goal
 
 abbrev pub invariant-loop-place : goal.invariant-loop-place
-invariant-loop-place l =
-    (l.n ≡ l.sizes.conjuncts)
-    × ((I : Input) → Decoded I l.counts l.mags l.negs → first (failure_in I) (conjuncts_of l.condition) ≡ first (failure_in I) (drop l.place (conjuncts_of l.condition)))
+invariant-loop-place l = (I : Input) → Decoded I l.counts l.mags l.negs
+    → first (failure_in I) (conjuncts_of l.condition) ≡ first (failure_in I) (drop l.place (conjuncts_of l.condition))
