@@ -19,7 +19,7 @@ use Rattle.model.specs.Refusals.{Out, ok, refused, mapped}
 use Rattle.model.specs.Values.{Operation, add, sub, mul, div}
 use Rattle.model.proofs.Files.Parts.{length-entries}
 use Rattle.model.proofs.Basics.Results.{mapped-ok}
-use Rattle.condition.specs.Answers.{pair_part, pair_place, sizes, ConditionIsRead, conjuncts_of}
+use Rattle.condition.specs.Answers.{pair_part, pair_place, sizes, ConditionIsRead, counts_of, conjuncts_of}
 use Rattle.condition.specs.declared.Counts.{Counts}
 use Rattle.condition.proofs.Table.{form-many, counted-read, conjuncts-count, conjunct-nodes, conjunct-short, condition-read}
 use Rattle.listing.specs.Text.{Room, text_most}
@@ -103,9 +103,12 @@ lines-most i (e ∷ S) h =
 
 -- ---- a condition that is read
 
-module _ (s : List ℕ) (k : Counts) (read : ConditionIsRead s k) where
-  -- it has as many conjuncts as its reader says, and at most 64
-  pub conjuncts-are : k.conjuncts ≡ length (conjuncts_of s)
+module _ (s : List ℕ) (read : ConditionIsRead s (counts_of s)) where
+  abbrev k : Counts
+  k = counts_of s
+
+  -- it has as many conjuncts as stand at its start, and at most 64
+  conjuncts-are : k.conjuncts ≡ length (conjuncts_of s)
   conjuncts-are = (counted-read s k read).conjuncts ∙ sym (conjuncts-count s)
 
   conjuncts-most : k.conjuncts ≤ 64
@@ -151,11 +154,11 @@ module _ (s : List ℕ) (k : Counts) (read : ConditionIsRead s k) where
       ap text_of m.1 ∙ ap listing_text (condition-read s m.0 m.1).1
 
 -- of a file that is refused it is that of the refusal
-pub listing-refused : (s : List ℕ) (n : ℕ) → refused n ≡ mapped sizes (read_condition s) → refusal_text n ≡ listing s
+pub listing-refused : (s : List ℕ) (n : ℕ) → refused n ≡ mapped (λ C. s) (read_condition s) → refusal_text n ≡ listing s
 unfolding listing
 listing-refused s n e = go (read_condition s) e
   where
-    go : (o : Out Condition) → refused n ≡ mapped sizes o → refusal_text n ≡ text_of o
+    go : (o : Out Condition) → refused n ≡ mapped (λ C. s) o → refusal_text n ≡ text_of o
     go (ok C) q = let z : ◌≡◌ {A = ℕ} 0 1 = cc in absurd (omega arith)
     go (refused m) q = let d : n ≡ m = cc in ap refusal_text d
 

@@ -10,10 +10,10 @@ ghost use Rattle.arith.specs.Whole.{value_of};
 ghost use Rattle.model.specs.Decimal.{decimal, number};
 ghost use Rattle.model.specs.Listing.{type_text_lem, node_name, node_text_lem, line_text, lines_from, listing_text, refusal_text};
 ghost use Rattle.refusals.specs.Answers.{number_of};
-ghost use Rattle.condition.specs.Answers.{node_from, part_nodes, ConditionIsRead, conjuncts_of};
+ghost use Rattle.condition.specs.Answers.{node_from, part_nodes, conjuncts_of};
 ghost use Rattle.listing.specs.Text.{Room, Puts, Lists, text_most, refusing, listed};
 
-use condition::{Counts, Node};
+use condition::{Condition, Node};
 use itoa::Buffer;
 use refusals::Refusal;
 
@@ -147,27 +147,28 @@ fn put_line(out: &mut [u8], at: usize, place: usize, part: &[u8]) -> usize
 // ---- the whole
 
 // The lines of all conjuncts.
-fn put_lines(out: &mut [u8], at: usize, condition: &[u8], counts: Counts) -> usize
-    requires { ConditionIsRead condition.now counts × Room (lines_from 0 (conjuncts_of condition.now)) at out.old }
+fn put_lines(out: &mut [u8], at: usize, condition: &Condition) -> usize
+    requires { Room (lines_from 0 (conjuncts_of condition.now)) at out.old }
     ensures { Puts (lines_from 0 (conjuncts_of condition.now)) at out.old result out.new }
 {
-    let n = counts.conjuncts;
+    let n = condition.conjuncts();
     let mut next = at;
     for i in 0..n {
-        next = put_line(out, next, i, condition::conjunct(condition, counts, i));
+        next = put_line(out, next, i, condition.conjunct(i));
     }
     next
 }
 
 // The number of conjuncts, and a line for each.
-fn put_conjuncts(out: &mut [u8], condition: &[u8], counts: Counts) -> usize
-    requires { ConditionIsRead condition.now counts × (text_most ≤ length out.old) }
+fn put_conjuncts(out: &mut [u8], condition: &Condition) -> usize
+    requires { text_most ≤ length out.old }
     ensures { Puts (listing_text (conjuncts_of condition.now)) 0 out.old result out.new }
 {
+    let n = condition.conjuncts();
     let first = put(out, 0, b"conjuncts ");
-    let end = put_decimal(out, first, counts.conjuncts as u64);
+    let end = put_decimal(out, first, n as u64);
     out[end] = b'\n';
-    put_lines(out, end + 1, condition, counts)
+    put_lines(out, end + 1, condition)
 }
 
 fn put_refusal(out: &mut [u8], refusal: Refusal) -> usize
@@ -201,7 +202,7 @@ pub fn text(condition: &[u8], out: &mut [u8]) -> usize
         return 0;
     }
     match condition::read(condition) {
-        Ok(counts) => put_conjuncts(out, condition, counts),
+        Ok(condition) => put_conjuncts(out, &condition),
         Err(refusal) => put_refusal(out, refusal),
     }
 }

@@ -1,10 +1,9 @@
 -- `listing::text` meets its contract.
-use mathlib.Core.Path.{◌≡◌, sym, subst}
+use mathlib.Core.Path.{◌≡◌, sym, ap, ◌∙◌}
 use borrow.Author.Tests.{le-leb, lt-leb}
-use Rattle.model.specs.Condition.{read_condition}
-use Rattle.model.specs.Refusals.{mapped}
-use Rattle.condition.specs.Answers.{sizes, condition_answer, ConditionIsRead}
-use Rattle.condition.specs.declared.Counts.{Counts}
+use Rattle.model.specs.Listing.{listing, listing_text}
+use Rattle.condition.specs.Answers.{conjuncts_of}
+use Rattle.condition.proofs.Table.{bytes-are}
 use Rattle.refusals.specs.Answers.{number_of}
 use Rattle.listing.specs.Text.{text_most, listed}
 use Rattle.listing.proofs.Texts.{lists, lists_none, room_as, puts_as}
@@ -12,13 +11,11 @@ use Rattle.listing.proofs.Sizes.{room-listing, room_refusal, listing-read, listi
 use Rattle.listing.proofs.text.Goals as goal
 use Rattle.listing.proofs.text.Goals.{In-Ok}
 
-abbrev counts : In-Ok → Counts
-counts c = c.in-Ok.counts
-
-is_read : (c : In-Ok) → ConditionIsRead c.args.condition.now (counts c)
-is_read c =
-    let s = c.args.condition.now in
-    sym (subst (λ r. condition_answer r ≡ mapped sizes (read_condition s)) c.in-Ok.is c.read.ensures)
+-- the listing is that of the conjuncts of what is read
+read-text : (c : In-Ok) → listing_text (conjuncts_of c.in-Ok.condition) ≡ listing c.args.condition.now
+read-text c =
+    let b = bytes-are c.args.condition.now c.in-Ok.condition c.in-Ok.ensures in
+    ap (λ s. listing_text (conjuncts_of s)) b.0 ∙ sym (listing-read c.args.condition.now b.1)
 
 pub returns-then-out-lt-TEXT : goal.returns-then-out-lt-TEXT
 unfolding listed
@@ -27,19 +24,15 @@ returns-then-out-lt-TEXT c = rw (lt-leb text_most _ c.if-out-lt-TEXT.true) (list
 pub returns-in-Ok : goal.returns-in-Ok
 unfolding listed
 returns-in-Ok c =
-    let a = c.args in
-    let e = sym (listing-read a.condition.now (counts (goal.at.returns-in-Ok c).In-Ok) (is_read (goal.at.returns-in-Ok c).In-Ok)) in
+    let s = c.args.condition.now in
+    let is_read = (bytes-are s c.in-Ok.condition c.in-Ok.ensures).1 in
     rw (le-leb text_most _ c.if-out-lt-TEXT.false)
-    (lists (room_as e (room-listing a.condition.now (counts (goal.at.returns-in-Ok c).In-Ok) (is_read (goal.at.returns-in-Ok c).In-Ok) a.out.now c.if-out-lt-TEXT.false))
-    (puts_as e c.put_conjuncts.ensures))
+    (lists (room_as (sym (listing-read s is_read)) (room-listing s is_read c.args.out.now c.if-out-lt-TEXT.false))
+    (puts_as (read-text (goal.at.returns-in-Ok c).In-Ok) c.put_conjuncts.ensures))
 
 pub returns-in-Err : goal.returns-in-Err
 unfolding listed
 returns-in-Err c =
-    let s = c.args.condition.now in
-    let e =
-    listing-refused s (number_of c.in-Err.refusal)
-    (subst (λ a. condition_answer a ≡ mapped sizes (read_condition s)) c.in-Err.is c.read.ensures)
-    in
+    let e = listing-refused c.args.condition.now (number_of c.in-Err.refusal) c.in-Err.ensures in
     rw (le-leb text_most _ c.if-out-lt-TEXT.false)
     (lists (room_as e (room_refusal _ c.args.out.now c.if-out-lt-TEXT.false)) (puts_as e c.put_refusal.ensures))
