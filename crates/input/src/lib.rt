@@ -36,12 +36,12 @@ const WIDTHS: u8 = 4;
 
 // An input that is read: the table of its fields, and its bytes. A proof sees both.
 #[derive(Drop)]
-pub struct Input<'a> {
-    fields: &'a [u8],
+pub struct Input<'t, 'a> {
+    fields: &'t [u8],
     bytes: &'a [u8],
 }
 
-impl<'a> Model for Input<'a> {
+impl<'t, 'a> Model for Input<'t, 'a> {
     ghost Value = { InputFile };
 
     ghost view = { λ i. file_of i.fields.now i.bytes.now };
@@ -205,7 +205,7 @@ fn bits_right(fields: &[u8], input: &[u8]) -> bool
 }
 
 // The input, if it has its form for the fields of this table.
-pub fn read<'a>(fields: &'a [u8], input: &'a [u8]) -> Result<Input<'a>, Refusal>
+pub fn read<'t, 'a>(fields: &'t [u8], input: &'a [u8]) -> Result<Input<'t, 'a>, Refusal>
     ensures { input_answer result ≡ mapped (λ I. file_of fields.now input.now) (read_input (fields_in fields.now) input.now) }
 {
     let Ok(end) = first_wrong(fields, input) else {
@@ -223,9 +223,9 @@ pub fn read<'a>(fields: &'a [u8], input: &'a [u8]) -> Result<Input<'a>, Refusal>
     })
 }
 
-impl<'a> Input<'a> {
+impl<'t, 'a> Input<'t, 'a> {
     // The table of its fields.
-    pub fn fields(&self) -> &'a [u8]
+    pub fn fields(&self) -> &'t [u8]
         ensures table { result.now ≡ self.now.fields }
         ensures read { InputIsRead self.now.fields self.now.bytes }
     {
