@@ -160,7 +160,10 @@ fn read_nodes(fields: &[u8], part: &[u8]) -> Result<(), Refusal>
     let mut stack: [u8; STACK] = [0; STACK];
     let mut height: usize = 0;
     for k in 0..n {
-        let v = read_node(fields, part, k)?;
+        // let .. else, and no ?: a reader's entry is taken so, and its one refusal passed on.
+        let Ok(v) = read_node(fields, part, k) else {
+            return Err(Refusal::WrongCondition);
+        };
         let ty = v.ty;
         if v.kind < SUM {
             stack[height] = ty;
