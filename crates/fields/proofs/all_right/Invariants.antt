@@ -6,4 +6,3 @@ use Rattle.fields.proofs.all_right.Given as goal
 
 abbrev pub invariant-loop-f : goal.invariant-loop-f
 invariant-loop-f l = every field_right (fields_in l.table) ≡ every field_right (drop l.f (fields_in l.table))
-
