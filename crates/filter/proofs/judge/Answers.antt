@@ -14,9 +14,6 @@ use Rattle.filter.proofs.Verdicts.{judged-refused, judged-within, within-full, n
 use Rattle.filter.proofs.judge.Goals as goal
 use Rattle.filter.proofs.judge.Goals.{After-try_all}
 
-pub products-requires : goal.products-requires
-products-requires c = c.requires.few
-
 pub returns-in_err-products : goal.returns-in_err-products
 returns-in_err-products c = λ I d.
     let p = err_from_is_err_and c.from_residual.result c.from_residual.ensures.1 in

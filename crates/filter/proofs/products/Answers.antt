@@ -16,7 +16,7 @@ use Rattle.plan.specs.Part.{conjunct_of, IsConjunct}
 use Rattle.plan.specs.Readings.{Counted}
 use Rattle.evaluator.proofs.Calls.{product-few, product-readings}
 use Rattle.filter.proofs.Conjuncts.{conjunct-formed, next-conjunct, none_left}
-use Rattle.filter.proofs.FirstPass.{ToldTo, told_at-start, told_blank, told_many, told_few, told_within, told_too_many}
+use Rattle.filter.proofs.FirstPass.{ToldTo, told_blank, told_many, told_few, told_within, told_too_many}
 use Rattle.filter.proofs.products.Goals as goal
 use Rattle.filter.proofs.products.Goals.{After-loop-i, After-product-p, then-p-gt-LIMIT, else-p-gt-LIMIT}
 
@@ -36,10 +36,6 @@ module _ (c : After-product-p) where
 
     combinations_told : leb c.product-p.result most_combinations ≡ few_combinations I next
     combinations_told = product-few next c.args.counts.now c.product-p.result c.product-p.ensures I n
-
--- ---- answers
-pub loop-i-init : goal.loop-i-init
-loop-i-init c = λ I n. told_at-start I (conjuncts_of c.args.condition.now)
 
 pub product-p-requires : goal.product-p-requires
 product-p-requires c =

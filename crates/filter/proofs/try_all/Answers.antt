@@ -1,5 +1,5 @@
 -- `filter::try_all` meets its contract. The loop's invariant: what is left to be evaluated answers for all.
-use mathlib.Core.Path.{◌≡◌, refl, sym, subst, ◌∙◌}
+use mathlib.Core.Path.{◌≡◌, sym, subst, ◌∙◌}
 use mathlib.Core.List.{◌∷◌}
 use Prim.Native.Nat.{◌+◌, ◌<◌}
 use native.Mathlib.Omega.{arith}
@@ -23,10 +23,6 @@ module _ (c : After-conjunct-part) where
   is-next =
       next-conjunct c.args.condition.now c.loop-place.place (omega (arith, c.conjuncts-n.ensures.many, c.loop-place-test.true))
       c.conjunct-part.result.now c.conjunct-part.ensures.nodes
-
--- ---- answers
-pub loop-place-init : goal.loop-place-init
-loop-place-init c = λ I d. refl
 
 pub first_failure-requires : goal.first_failure-requires
 first_failure-requires c =
