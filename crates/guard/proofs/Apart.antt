@@ -16,10 +16,11 @@ use Rattle.model.proofs.Basics.Results.{check-ok}
 use Rattle.filter.specs.Verdict.{verdict_of}
 use Rattle.filter.specs.declared.Verdict.TheVariants.{Pass}
 use Rattle.interpreter.specs.Answers.{run_lent, Interprets}
-use Rattle.interpreter.specs.declared.Ran.TheVariants.{Ended}
+use Rattle.interpreter.specs.declared.Ran.{Ran as Answer}
+use Rattle.interpreter.specs.Ends.{number_of_end}
 use Rattle.interpreter.specs.Progress.{scratch_words}
 use Rattle.analysis.specs.Deriving.{analysis_words, derivation, Derives}
-use Rattle.analysis.specs.declared.Derived.TheVariants.{Written}
+use Rattle.std.specs.Prelude.{Ok}
 
 -- where enough is lent, a derivation is the analysis
 pub derivation-analysis : (output words : ℕ) (program C : List ℕ) → derivation output words program ≡ ok C → analysis program ≡ ok C
@@ -34,13 +35,13 @@ lent-run words scratch program input limit choices log R e = (check-ok (leb word
 -- whoever derives a condition, finds that the input passes under its bytes, and runs the program on the input has the records of the
 -- exact run, whatever was lent to each
 pub apart : (program input : List ℕ) (limit : ℕ) (choices log : List ℕ) (n : ℕ) (before condition s s' : List ℕ)
-    (end steps records : ℕ) (log' t t' : List ℕ)
-    → Derives (derivation (length before) (length s) program) (Written n) before condition s s'
-    → verdict_of Pass ≡ verdict (take n condition) input
-    → Interprets (run_lent scratch_words (length t) program input limit choices log) (Ended end steps records) log log' t t'
-    → Exact program input limit choices (length log) records log'
-apart program input limit choices log n before condition s s' end steps records log' t t' d v r =
-    let ran : Ran = record { end = end; steps = steps; records = records; log = log' } in
+    (r : Answer) (log' t t' : List ℕ)
+    → Derives (derivation (length before) (length s) program) (Ok n) before condition s s'
+    → verdict_of (Ok Pass) ≡ verdict (take n condition) input
+    → Interprets (run_lent scratch_words (length t) program input limit choices log) (Ok r) log log' t t'
+    → Exact program input limit choices (length log) r.records log'
+apart program input limit choices log n before condition s s' r log' t t' d v q =
+    let ran : Ran = record { end = number_of_end r.end; steps = r.steps; records = r.records; log = log' } in
     demand3 program (take n condition) input limit choices log ran
-    (derivation-analysis (length before) (length s) program (take n condition) d.answer) (verdict-answer (take n condition) input (verdict_of Pass) v)
-    (lent-run scratch_words (length t) program input limit choices log ran (sym r.answer))
+    (derivation-analysis (length before) (length s) program (take n condition) d.answer) (verdict-answer (take n condition) input (verdict_of (Ok Pass)) v)
+    (lent-run scratch_words (length t) program input limit choices log ran (sym q.answer))

@@ -23,7 +23,16 @@ use Rattle.interpreter.specs.Answers.{run_lent}
 use Rattle.interpreter.specs.Progress.{scratch_words}
 use Rattle.guard.specs.Answers.{guarding, GuardingAnswers, Guards}
 use Rattle.guard.specs.declared.Guarded.{Guarded}
-use Rattle.guard.specs.declared.Guarded.TheVariants.{Ended, Held, Refused}
+use Rattle.guard.specs.declared.Guarded.TheVariants.{Ended, Held}
+use Rattle.std.specs.Prelude.{Result, Ok, Err}
+use Rattle.refusals.specs.Answers.{number_of}
+use Rattle.refusals.specs.declared.Refusal.{Refusal}
+use Rattle.interpreter.specs.declared.Ran.{Ran as Run}
+use Rattle.interpreter.specs.Ends.{number_of_end}
+
+-- the model's run that an answer and a log are
+abbrev pub ran_with : Run → List ℕ → Ran
+ran_with run log = record { end = number_of_end run.end; steps = run.steps; records = run.records; log = log }
 
 -- ---- the contract, by cases on what the definition gives
 
@@ -31,28 +40,27 @@ module _ (program input : List ℕ) (limit : ℕ) (choices : List ℕ) (o : Out 
   abbrev Scratch : Out ModelGuarded → List ℕ → Type 0
   Scratch x s' = ScratchLeft analysis_words wrong_blocks x s s'
 
-  abbrev Is : Out ModelGuarded → Guarded → (c' l' s' : List ℕ) → Type 0
+  abbrev Is : Out ModelGuarded → Result Guarded Refusal → (c' l' s' : List ℕ) → Type 0
   Is x r c' l' s' = Guards program input limit choices x r c l s c' l' s'
 
-  pub guards_refused : (n : ℕ) (l' s' : List ℕ) → o ≡ refused n → l' ≡ l → Scratch o s' → Is o (Refused n) c l' s'
-  guards_refused n l' s' e k w =
-      subst (λ x. Scratch x s' → Is x (Refused n) c l' s') (sym e)
-      (λ v. record { answer = refl; condition = refl; log = k; exact = tt; scratch = v }) w
+  pub guards_refused : (k : Refusal) (l' s' : List ℕ) → o ≡ refused (number_of k) → l' ≡ l → Scratch o s' → Is o (Err k) c l' s'
+  guards_refused k l' s' e q w =
+      subst (λ x. Scratch x s' → Is x (Err k) c l' s') (sym e)
+      (λ v. record { answer = refl; condition = refl; log = q; exact = tt; scratch = v }) w
 
-  pub guards_held : (s' : List ℕ) → o ≡ ok held → Scratch o s' → Is o Held c l s'
+  pub guards_held : (s' : List ℕ) → o ≡ ok held → Scratch o s' → Is o (Ok Held) c l s'
   guards_held s' e w =
-      subst (λ x. Scratch x s' → Is x Held c l s') (sym e)
+      subst (λ x. Scratch x s' → Is x (Ok Held) c l s') (sym e)
       (λ v. record { answer = refl; condition = refl; log = refl; exact = tt; scratch = v }) w
 
-  pub guards_ended : (C : List ℕ) (R : Ran) (c' s' : List ℕ) → o ≡ ok (passed C R) → c' ≡ overlay c 0 C
-      → Exact program input limit choices (length l) R.records R.log → Scratch o s'
-      → Is o (Ended R.end R.steps R.records) c' R.log s'
-  guards_ended C R c' s' e k x w =
-      subst (λ y. Scratch y s' → Is y (Ended R.end R.steps R.records) c' R.log s') (sym e)
+  pub guards_ended : (C : List ℕ) (run : Run) (c' l' s' : List ℕ) → o ≡ ok (passed C (ran_with run l')) → c' ≡ overlay c 0 C
+      → Exact program input limit choices (length l) run.records l' → Scratch o s' → Is o (Ok (Ended run)) c' l' s'
+  guards_ended C run c' l' s' e k x w =
+      subst (λ y. Scratch y s' → Is y (Ok (Ended run)) c' l' s') (sym e)
       (λ v. record { answer = refl; condition = k; log = refl; exact = x; scratch = v }) w
 
   -- with what was left in scratch before
-  pub guards_after : (r : Guarded) (t c' l' u : List ℕ) → Guards program input limit choices o r c l t c' l' u → Scratch o u
+  pub guards_after : (r : Result Guarded Refusal) (t c' l' u : List ℕ) → Guards program input limit choices o r c l t c' l' u → Scratch o u
       → Is o r c' l' u
   guards_after r t c' l' u g w = record { answer = g.answer; condition = g.condition; log = g.log; exact = g.exact; scratch = w }
 

@@ -10,19 +10,15 @@ ghost use Rattle.model.specs.Filter.{pass_number, filter_input};
 ghost use Rattle.model.specs.Guarded.{guarded};
 ghost use Rattle.guard.specs.Answers.{Ready, guarding, Guards};
 
-use analysis::Derived;
 use filter::Verdict;
 use interpreter::Ran;
+use refusals::Refusal;
 
-// The refusal of what was lent: too short.
-const LENT_TOO_SHORT: u8 = 1;
-
-// The input is held, or it passed and was run; or a refusal.
-#[derive(Clone, Copy)]
+// The input is held, or it passed and was run.
+#[derive(Clone, Copy, Debug, PartialEq, Eq)]
 pub enum Guarded {
-    Ended { end: u8, steps: u64, records: u64 },
+    Ended(Ran),
     Held,
-    Refused(u8),
 }
 
 // An input that passed under the condition in a file: the run, and then the file to its output.
@@ -35,29 +31,15 @@ fn run_passed(
     file: &[u8],
     condition: &mut [u8],
     scratch: &mut [u64],
-) -> Guarded
+) -> Result<Guarded, Refusal>
     requires { Ready program.now file.now condition.old scratch.old × (filter_input file.now input.now ≡ ok pass_number) }
     ensures { Guards program.now input.now limit choices.now
         (guarded program.now input.now limit choices.now log.old)
         result condition.old log.old scratch.old condition.new log.new scratch.new }
 {
-    let ran = interpreter::run(program, input, limit, choices, log, scratch);
-    match ran {
-        Ran::Refused(k) => Guarded::Refused(k),
-        Ran::Ended {
-            end,
-            steps,
-            records,
-        } => {
-            let n = file.len();
-            bytes_le::put_bytes(condition, 0, file, n);
-            Guarded::Ended {
-                end: end,
-                steps: steps,
-                records: records,
-            }
-        }
-    }
+    let ran = interpreter::run(program, input, limit, choices, log, scratch)?;
+    condition[..file.len()].copy_from_slice(file);
+    Ok(Guarded::Ended(ran))
 }
 
 // With the program's condition in a file: the filter, and the run of an input that passes.
@@ -70,16 +52,15 @@ fn filter_and_run(
     file: &[u8],
     condition: &mut [u8],
     scratch: &mut [u64],
-) -> Guarded
+) -> Result<Guarded, Refusal>
     requires { Ready program.now file.now condition.old scratch.old }
     ensures { Guards program.now input.now limit choices.now
         (guarded program.now input.now limit choices.now log.old)
         result condition.old log.old scratch.old condition.new log.new scratch.new }
 {
-    let verdict = filter::check(file, input);
+    let verdict = filter::check(file, input)?;
     match verdict {
-        Verdict::Refused(k) => Guarded::Refused(k),
-        Verdict::Held(_) => Guarded::Held,
+        Verdict::Held(_) => Ok(Guarded::Held),
         Verdict::Pass => run_passed(
             program, input, limit, choices, log, file, condition, scratch,
         ),
@@ -96,29 +77,24 @@ fn derive_and_run(
     file: &mut [u8],
     condition: &mut [u8],
     scratch: &mut [u64],
-) -> Guarded
+) -> Result<Guarded, Refusal>
     requires { (condition_bytes ≤ length file.old) × (condition_bytes ≤ length condition.old) }
     ensures { Guards program.now input.now limit choices.now
         (guarding (length condition.old) (length scratch.old) program.now input.now limit
         choices.now log.old)
         result condition.old log.old scratch.old condition.new log.new scratch.new }
 {
-    let derived = analysis::derive(program, file, scratch);
-    match derived {
-        Derived::Refused(k) => Guarded::Refused(k),
-        Derived::Written(n) => {
-            filter_and_run(
-                program,
-                input,
-                limit,
-                choices,
-                log,
-                &file[..n],
-                condition,
-                scratch,
-            )
-        }
-    }
+    let n = analysis::derive(program, file, scratch)?;
+    filter_and_run(
+        program,
+        input,
+        limit,
+        choices,
+        log,
+        &file[..n],
+        condition,
+        scratch,
+    )
 }
 
 // The program is run on the input only if the input passes under the program's condition. Held and
@@ -132,14 +108,14 @@ pub fn run(
     log: &mut [u8],
     condition: &mut [u8],
     scratch: &mut [u64],
-) -> Guarded
+) -> Result<Guarded, Refusal>
     ensures { Guards program.now input.now limit choices.now
         (guarding (length condition.old) (length scratch.old) program.now input.now limit
         choices.now log.old)
         result condition.old log.old scratch.old condition.new log.new scratch.new }
 {
     if condition.len() < analysis::CONDITION {
-        return Guarded::Refused(LENT_TOO_SHORT);
+        return Err(Refusal::LentTooShort);
     }
     let mut file: [u8; analysis::CONDITION] = [0; analysis::CONDITION];
     derive_and_run(

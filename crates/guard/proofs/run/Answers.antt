@@ -5,6 +5,7 @@ use Rattle.model.specs.Refusals.{wrong_blocks}
 use Rattle.model.proofs.Files.Lent.{scratch_as_it_was}
 use Rattle.analysis.specs.Deriving.{analysis_words}
 use Rattle.guard.specs.Answers.{guarding}
+use Rattle.refusals.specs.declared.Refusal.TheVariants.{LentTooShort}
 use Rattle.guard.proofs.Behind.{output-short, guards_refused}
 use Rattle.guard.proofs.run.Goals as goal
 
@@ -16,5 +17,5 @@ returns-then-condition-lt-CONDITION c =
     let s = a.scratch.now in
     let o = guarding (length a.condition.now) (length s) program input a.limit a.choices.now a.log.now in
     let short = output-short program input a.limit a.choices.now a.log.now (length a.condition.now) (length s) c.if-condition-lt-CONDITION.true in
-    guards_refused program input a.limit a.choices.now o a.condition.now a.log.now s 1 a.log.now s short refl
+    guards_refused program input a.limit a.choices.now o a.condition.now a.log.now s LentTooShort a.log.now s short refl
     (scratch_as_it_was analysis_words wrong_blocks o s)
