@@ -111,8 +111,8 @@ abbrev pub sizes_of : Counts → ℕ × ℕ
 sizes_of k = (k.conjuncts, k.fields)
 
 -- the bytes of a condition that is read, or the number of the refusal
-abbrev pub condition_answer : Result (List ℕ) Refusal → Out (List ℕ)
-condition_answer = out_of (λ s. s)
+abbrev pub condition_read : Result (List ℕ) Refusal → Out (List ℕ)
+condition_read = out_of (λ s. s)
 
 -- the condition is in its form, with these counts
 abbrev pub ConditionIsRead : List ℕ → Counts → Type 0

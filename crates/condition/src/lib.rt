@@ -12,7 +12,7 @@ ghost use Rattle.model.specs.Fields.{entry_of, field_right, types_in, fields_in}
 ghost use Rattle.model.specs.Conjunct.{◌then◌, order_numbers};
 ghost use Rattle.model.specs.Condition.{node_at, node_right_lem, conjunct_at, whole, numbered, is_before, rising, read_condition};
 ghost use Rattle.condition.specs.Answers.{constant_right_lem, reading_right_lem, operation_right_lem, right_by_lem, NodeIs, EntryIs, node_out};
-ghost use Rattle.condition.specs.Answers.{conjunct_answer, formed, part_nodes, part_right_lem, pair_part, pair_right, condition_answer};
+ghost use Rattle.condition.specs.Answers.{conjunct_answer, formed, part_nodes, part_right_lem, pair_part, pair_right, condition_read};
 ghost use Rattle.condition.specs.Answers.{ConditionIsRead, PairInside, ConjunctIs, counts_of, fields_of, conjuncts_of, types_at, pair_place, pairs_of, linked};
 
 use refusals::Refusal;
@@ -160,7 +160,7 @@ fn read_nodes(fields: &[u8], part: &[u8]) -> Result<(), Refusal>
     let mut stack: [u8; STACK] = [0; STACK];
     let mut height: usize = 0;
     for k in 0..n {
-        // let .. else, and no ?: a reader's entry is taken so, and its one refusal passed on.
+        // let .. else, and no ?: the form that document 01 names for a reader's entry (docs/DECISIONS.md).
         let Ok(v) = read_node(fields, part, k) else {
             return Err(Refusal::WrongCondition);
         };
@@ -331,7 +331,7 @@ fn is_rising(condition: &[u8], fields: usize, count: usize) -> bool
 
 // The condition's form. Every refusal has the same number, so the order of the tests does not show.
 pub fn read(condition: &[u8]) -> Result<Condition<'_>, Refusal>
-    ensures { condition_answer result ≡ mapped (λ C. condition.now) (read_condition condition.now) }
+    ensures { condition_read result ≡ mapped (λ C. condition.now) (read_condition condition.now) }
 {
     if condition.len() < COUNTS_SIZE {
         return Err(Refusal::WrongCondition);

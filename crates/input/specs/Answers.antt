@@ -16,8 +16,8 @@ abbrev pub file_of : (fields s : List ℕ) → InputFile
 file_of fields s = record { fields = fields; bytes = s }
 
 -- the file that is read, or the number of the refusal
-abbrev pub input_answer : Result InputFile Refusal → Out InputFile
-input_answer = out_of (λ i. i)
+abbrev pub input_read : Result InputFile Refusal → Out InputFile
+input_read = out_of (λ i. i)
 
 -- the input is in its form, for the fields of a table
 abbrev pub InputIsRead : (fields s : List ℕ) → Type 0

@@ -171,26 +171,25 @@ fn put_conjuncts(out: &mut [u8], condition: &Condition) -> usize
     put_lines(out, end + 1, condition)
 }
 
-fn put_refusal(out: &mut [u8], refusal: Refusal) -> usize
+fn put_refusal(out: &mut [u8], n: u8) -> usize
     requires { text_most ≤ length out.old }
-    ensures { Puts (refusal_text (number_of refusal)) 0 out.old result out.new }
+    ensures { Puts (refusal_text n) 0 out.old result out.new }
 {
-    let n = u8::from(refusal);
     let first = put(out, 0, b"refused ");
     let end = put_decimal(out, first, n as u64);
     out[end] = b'\n';
     end + 1
 }
 
-// The text of a refusal at the start of the output, and how many bytes it has; none where the output
-// is shorter than TEXT.
-pub fn refusal(refusal: Refusal, out: &mut [u8]) -> usize
-    ensures { Lists (refusing (length out.old) (number_of refusal)) out.old result out.new }
+// The text of a refusal by its number at the start of the output, and how many bytes it has; none where the
+// output is shorter than TEXT. Any number is taken, and no `Refusal`: it has always answered for all of them.
+pub fn refusal(n: u8, out: &mut [u8]) -> usize
+    ensures { Lists (refusing (length out.old) n) out.old result out.new }
 {
     if out.len() < TEXT {
         return 0;
     }
-    put_refusal(out, refusal)
+    put_refusal(out, n)
 }
 
 // The listing of a condition file at the start of the output, and how many bytes it has; none where
@@ -203,6 +202,6 @@ pub fn text(condition: &[u8], out: &mut [u8]) -> usize
     }
     match condition::read(condition) {
         Ok(condition) => put_conjuncts(out, &condition),
-        Err(refusal) => put_refusal(out, refusal),
+        Err(refusal) => put_refusal(out, u8::from(refusal)),
     }
 }

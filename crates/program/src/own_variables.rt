@@ -21,7 +21,7 @@ use super::{Entry, Layout, statement};
 // the most variables that a statement names: the target of a call and its arguments
 const MOST_NAMES: usize = 5;
 
-// The variables that a statement names: the first `count` of five.
+// The variables that a statement names: the first `count` of five, since nothing is allocated.
 #[derive(Clone, Copy)]
 struct Names {
     count: usize,

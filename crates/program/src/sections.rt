@@ -117,7 +117,7 @@ fn read_table(program: &[u8], most: usize, entry: usize) -> Result<Layout, Refus
     }
     let mut end = SECTION_TABLE;
     for i in 0..SECTIONS {
-        // let .. else, and no ?: a reader's entry is taken so, and its one refusal passed on.
+        // let .. else, and no ?: the form that document 01 names for a reader's entry (docs/DECISIONS.md).
         let Ok(pair) = section_at(program, PAIR_SIZE * i, end) else {
             return Err(Refusal::WrongSections);
         };

@@ -164,7 +164,7 @@ pub fn statements_right(program: &[u8], layout: Layout) -> Result<(), Refusal>
     let mut agree = true;
     let mut inside = true;
     for i in 0..layout.statements {
-        // let .. else, and no ?: a reader's entry is taken so, and its one refusal passed on.
+        // let .. else, and no ?: the form that document 01 names for a reader's entry (docs/DECISIONS.md).
         let Ok(q) = read_statement(program, layout, i) else {
             return Err(Refusal::WrongStatement);
         };

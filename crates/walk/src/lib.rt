@@ -183,7 +183,7 @@ fn rounds(
     open_rounds(s, b);
     let inner = b + 2 * sets::REGION;
     let mut k: usize = 0;
-    // A loop, and no for: it yields that the set is settled, or the refusal, by break.
+    // A loop that yields by break, and no for: the form that document 01 names (docs/DECISIONS.md).
     loop {
         if MOST_ROUNDS <= k {
             break Err(Refusal::NeverSettles);

@@ -1,10 +1,9 @@
 -- `listing::put_refusal` meets its contract.
-use mathlib.Core.Path.{ap}
 use native.Mathlib.Omega.{arith}
 use mathlib.Core.List.{[], ◌∷◌}
 use Rattle.model.specs.Listing.{refusal_text}
 use Rattle.listing.specs.Text.{Room}
-use Rattle.listing.proofs.Texts.{room-part, room_then, puts_then, puts_byte, puts_as}
+use Rattle.listing.proofs.Texts.{room-part, room_then, puts_then, puts_byte}
 use Rattle.listing.proofs.Sizes.{room_refusal}
 use Rattle.listing.proofs.put_refusal.Goals as goal
 use Rattle.listing.proofs.put_refusal.Goals.{After-put_decimal-end}
@@ -17,7 +16,7 @@ after-number c =
 pub returns : goal.returns
 unfolding refusal_text
 returns c =
-    puts_as (ap refusal_text c.from-n.ensures) (puts_then c.put-first.ensures (puts_then c.put_decimal-end.ensures (puts_byte 10 _ _)))
+    puts_then c.put-first.ensures (puts_then c.put_decimal-end.ensures (puts_byte 10 _ _))
 
 pub put_decimal-end-requires : goal.put_decimal-end-requires
 unfolding refusal_text

@@ -1,7 +1,7 @@
 -- `listing::text` meets its contract.
 use mathlib.Core.Path.{◌≡◌, sym, ap, ◌∙◌}
 use borrow.Author.Tests.{le-leb, lt-leb}
-use Rattle.model.specs.Listing.{listing, listing_text}
+use Rattle.model.specs.Listing.{listing, listing_text, refusal_text}
 use Rattle.condition.specs.Answers.{conjuncts_of}
 use Rattle.condition.proofs.Table.{bytes-are}
 use Rattle.refusals.specs.Answers.{number_of}
@@ -35,4 +35,4 @@ unfolding listed
 returns-in-Err c =
     let e = listing-refused c.args.condition.now (number_of c.in-Err.refusal) c.in-Err.ensures in
     rw (le-leb text_most _ c.if-out-lt-TEXT.false)
-    (lists (room_as e (room_refusal _ c.args.out.now c.if-out-lt-TEXT.false)) (puts_as e c.put_refusal.ensures))
+    (lists (room_as e (room_refusal _ c.args.out.now c.if-out-lt-TEXT.false)) (puts_as (ap refusal_text c.from.ensures ∙ e) c.put_refusal.ensures))
