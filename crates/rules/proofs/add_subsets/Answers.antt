@@ -3,7 +3,7 @@ use mathlib.Core.List.{List, [], ◌++◌, map}
 use mathlib.Core.Path.{◌≡◌, refl, sym, ap, ◌∙◌}
 use Prim.Native.Nat.{ℕ, ◌+◌, ◌-◌, ◌^◌, ◌≤◌}
 use native.Mathlib.Omega.{arith}
-use lib.ListN.{length, get_or, take, drop, length-append, length-drop}
+use lib.ListN.{length, get_or, take, drop}
 use lib.Seq.{length-take-le}
 use Rattle.std.proofs.lemmas.List.{take_at}
 use Rattle.model.specs.Conjunct.{Atom, atom, var, Conj, renumber}
@@ -26,9 +26,6 @@ module _ (xs e out : List ℕ) (n : ℕ) (there : n ≤ length e) (same : xs ≡
   copied-start : take n (xs ++ drop n out) ≡ take n e
   copied-start = take_at xs (drop n out) n copied_count ∙ same
 
-  copied-length : n ≤ length out → length (xs ++ drop n out) ≡ length out
-  copied-length h = simp (length-append, length-drop) (omega (arith, copied_count))
-
 pub loop-j-init : goal.loop-j-init
 loop-j-init c =
     let a = c.args in
@@ -37,19 +34,6 @@ loop-j-init c =
       λ ks x ty p q. union_none (Chosen ks x ty e) (set_of a.s.now a.room) c.power-j.result
           (c.power-j.ensures ∙ ap (2 ^◌) (sym (atoms-length a.atoms.now ks p)) ∙ sym (chosen-length ks x ty e)),
       c.requires.0.room.canon,
-    )
-
-pub add-requires : goal.add-requires
-add-requires c =
-    let given = c.requires.0 in
-    let a = c.args in
-    let out = c.choose.auto.w ∙ copied-length c.copy_from_slice.new.self a.e.now c.loop-j.out a.n given.there c.copy_from_slice.ensures.after (omega (arith, given.few, given.buffers.0))
-    ∙ c.loop-j.auto.out in (
-      record { there = omega (arith, c.loop-j.auto.s, given.room.there); canon = c.loop-j.invariant.2 },
-      record {
-        conjunct = record { few = given.few; there = omega (arith, given.few, out, given.buffers.0) };
-        space = omega (arith, c.loop-j.auto.seen, given.buffers.1);
-      },
     )
 
 -- the conjunct, and what is chosen of it in this turn
@@ -94,8 +78,3 @@ loop-j-preserved c =
           (this (goal.at.loop-j-preserved c).After-add ks x ty p q) (c.loop-j.invariant.1 ks x ty p q) c.in_ok-add.ensures.0,
       still_canon (new (goal.at.loop-j-preserved c).After-add) a.room c.loop-j.s c.add.new.s c.loop-j.invariant.2 c.in_ok-add.ensures.0,
     )
-
-pub returns : goal.returns
-returns c =
-    let z : c.loop-j.j ≡ 0 = omega arith in
-    (λ ks x ty p q. rw z at (c.loop-j.invariant.1 ks x ty p q), c.loop-j.invariant.0)

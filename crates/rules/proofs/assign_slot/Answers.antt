@@ -4,8 +4,8 @@ use mathlib.Core.List.{flat_map}
 use mathlib.Core.Path.{◌≡◌, refl, sym, ap, subst, ◌∙◌}
 use Prim.Native.Nat.{◌+◌, ◌-◌}
 use native.Mathlib.Omega.{arith}
-use lib.ListN.{length, take, drop, length-drop}
-use lib.Seq.{length-take-le, take-take}
+use lib.ListN.{length, take, drop}
+use lib.Seq.{take-take}
 use Rattle.model.specs.Conjunct.{renumber}
 use Rattle.model.specs.Touch.{is_var, some}
 use Rattle.model.specs.Walk.{replace}
@@ -48,11 +48,6 @@ is-slot c =
     take-take c.capped-n.result (length s - (a.a + 1)) (drop (a.a + 1) s) (omega (arith, c.capped-n.ensures.0, c.requires.0.slot.there))
     ∙ slot-words s a.a c.capped-n.result c.requires.0.slot.there c.capped-n.ensures.0 c.capped-n.ensures.1
 
-pub right_side-right-requires : goal.right_side-right-requires
-right_side-right-requires c =
-    let p = c.requires in
-    record { label = p.0.statement.label; kind = p.1; known = p.0.statement.known }
-
 pub exchange_slot-requires : goal.exchange_slot-requires
 exchange_slot-requires c =
     let p = c.requires.0 in
@@ -68,12 +63,6 @@ pub returns-then-right-eq1 : goal.returns-then-right-eq1
 returns-then-right-eq1 c =
     let a = c.args in
     subst (λ e. Renewed e a.a a.s.now c.exchange_slot.new.s) (image (goal.at.returns-then-right-eq1 c).After-right_side-right) c.exchange_slot.ensures
-
-pub mentions_variable-requires : goal.mentions_variable-requires
-mentions_variable-requires c =
-    let a = c.args in
-    let s = a.s.now in
-    omega (arith, c.capped-n.ensures.0, c.requires.0.slot.there, length-take-le (length s - (a.a + 1)) (drop (a.a + 1) s) (rw length-drop (omega arith)))
 
 pub returns-then-not-mentions_variable : goal.returns-then-not-mentions_variable
 returns-then-not-mentions_variable c =

@@ -1,6 +1,6 @@
 -- `rules::change_all` meets its contract: after k turns the first k conjuncts are what they come to.
 use mathlib.Core.List.{[]}
-use mathlib.Core.Path.{◌≡◌, refl, sym, ap, subst, ◌∙◌}
+use mathlib.Core.Path.{◌≡◌, sym, ap, subst, ◌∙◌}
 use Prim.Native.Nat.{◌+◌, ◌*◌, ◌≤◌, ◌<◌}
 use native.Mathlib.Omega.{arith}
 use lib.ListN.{length, get_or, set, length-set}
@@ -10,7 +10,7 @@ use Rattle.refusals.specs.Answers.{number_of}
 use Rattle.model.specs.Sizes.{most_nodes}
 use Rattle.model.specs.TidySets.{Numbered}
 use Rattle.conjunct.specs.Word.{nodes_of_lem}
-use Rattle.sets.proofs.Arranging.{slot_changed, slot-within, Mapped, mapped-none, mapped-here, mapped_next, mapped-all}
+use Rattle.sets.proofs.Arranging.{slot_changed, slot-within, Mapped, mapped-here, mapped_next}
 use Rattle.sets.proofs.Rows.{set-length, set_at, within_trans}
 use Rattle.sets.specs.Region.{slot_at, set_of, slot_words, region_words}
 use Rattle.rules.proofs.Imaging.{images_refused}
@@ -32,12 +32,6 @@ this c =
     sym (set_at c.loop-k.s a.b c.loop-k.k (omega (arith, more c, set-length c.loop-k.s a.b)))
     ∙ mapped-here (image_of a.label a.d) (set_of a.s.now a.b) (set_of c.loop-k.s a.b) c.loop-k.k (more c)
     (omega (arith, more c, c.loop-k.invariant.1, c.size-count.ensures.0)) c.loop-k.invariant.2
-
-pub loop-k-init : goal.loop-k-init
-loop-k-init c =
-    let a = c.args in
-    let n = c.size-count.ensures in
-    (λ i h. refl, sym n.0, mapped-none (image_of a.label a.d) (set_of a.s.now a.b))
 
 pub change_slot-requires : goal.change_slot-requires
 change_slot-requires c =
@@ -85,8 +79,3 @@ returns-in_err-change_slot c =
       within_trans a.b a.s.now c.loop-k.s c.change_slot.new.s c.loop-k.invariant.0
           (slot-within c.loop-k.s c.change_slot.new.s a.b c.loop-k.k c.change_slot.auto.s (omega (arith, p.there, c.loop-k.auto.s)) (more (goal.at.returns-in_err-change_slot c).In-loop-k) over.2),
     )
-
-pub returns : goal.returns
-returns c =
-    let a = c.args in
-    (mapped-all (image_of a.label a.d) (set_of a.s.now a.b) (set_of c.loop-k.s a.b) c.loop-k.k (omega (arith, c.loop-k.invariant.1)) (omega (arith, c.size-count.ensures.0)) c.loop-k.invariant.2, c.loop-k.invariant.0)

@@ -15,11 +15,6 @@ cell : (c : Then-kind-eq9) → ToOne c.args.d → c.args.d.len ≡ 1
 cell c (inl other) = absurd (other c.if-kind-eq9.true)
 cell c (inr one) = one
 
-pub store_slot-requires : goal.store_slot-requires
-store_slot-requires c =
-    let p = c.requires in
-    (p.0.slot, record { store = c.if-kind-eq9.true; one = cell (goal.at.store_slot-requires c).Then-kind-eq9 p.1; known = p.0.statement.known })
-
 pub returns-then-kind-eq9 : goal.returns-then-kind-eq9
 returns-then-kind-eq9 c =
     c.store_slot.ensures c.args.label

@@ -1,6 +1,6 @@
 -- `rules::choose` meets its contract.
 use mathlib.Core.List.{List, map}
-use mathlib.Core.Path.{◌≡◌, refl, sym, ap, ◌∙◌}
+use mathlib.Core.Path.{◌≡◌, sym, ap, ◌∙◌}
 use Prim.Native.Nat.{◌+◌, ◌-◌, ◌/◌, ◌^◌, ◌<◌}
 use native.Mathlib.Omega.{arith}
 use lib.ListN.{length, get_or}
@@ -10,12 +10,6 @@ use Rattle.conjunct.specs.Value.{conj_of}
 use Rattle.rules.proofs.Choices.{no_atom_lem, atoms-length, word-atom, twice_half, half_power, atom-left, atom_replaced, all-chosen}
 use Rattle.rules.proofs.choose.Goals as goal
 use Rattle.rules.proofs.choose.Goals.{then-rest-half, else-rest-half}
-
-pub loop-atom-init : goal.loop-atom-init
-loop-atom-init c =
-    let n = length c.args.atoms.now in
-    let z : n - 0 ≡ n = omega arith in
-    (c.power-half.ensures ∙ ap (2 ^◌) (sym z), rw c.power-half.ensures c.requires.subset, λ ks x ty p q. refl)
 
 pub loop-atom-preserved : goal.loop-atom-preserved
 loop-atom-preserved c =

@@ -1,8 +1,6 @@
 -- `rules::right_side` meets its contract.
 use mathlib.Core.Path.{◌∙◌}
 use native.Mathlib.Omega.{arith}
-use Rattle.model.specs.Kinds.{a_load}
-use Rattle.code_table.specs.Statements.{OfKind}
 use Rattle.rules.proofs.ByKind.{side_number, side_copy, side_calc, side_change, side_read, side_load}
 use Rattle.rules.proofs.right_side.Goals as goal
 
@@ -30,12 +28,6 @@ returns-in-6 c =
 pub returns-in-7 : goal.returns-in-7
 returns-in-7 c =
     (c.right-in-7.ensures.0, c.right-in-7.ensures.1 ∙ rw c.reading.ensures (side_read c.args.d c.args.label c.in-7.is))
-
-pub load-requires : goal.load-requires
-load-requires c =
-    let k : OfKind a_load c.args.d = omega arith in
-    let n = c.requires.known.loads k in
-    record { label = omega arith; array = omega arith; len = omega arith; type = omega arith }
 
 pub returns-in_default : goal.returns-in_default
 returns-in_default c =

@@ -31,10 +31,6 @@ gather_all-requires c =
       numbered = subst (All Numbered) (sym (same (goal.at.gather_all-requires c).After-clear)) p.0.numbered;
     }
 
-pub copy-requires : goal.copy-requires
-copy-requires c =
-    record { first = omega (arith, c.clear.auto.s, c.gather_all.auto.s); second = omega (arith, c.clear.auto.s, c.gather_all.auto.s); apart = inl (omega arith) }
-
 pub returns : goal.returns
 returns c =
     let a = c.args in (

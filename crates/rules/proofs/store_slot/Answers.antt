@@ -10,7 +10,6 @@ use Rattle.conjunct.specs.Word.{nodes_of_lem}
 use Rattle.sets.proofs.slots.Words.{slot-part, slot-count, put_back}
 use Rattle.sets.specs.Region.{slot_at}
 use Rattle.rules.proofs.Imaging.{image_cell}
-use borrow.Author.Rules.{rules}
 use Rattle.rules.proofs.store_slot.Goals as goal
 use Rattle.rules.proofs.store_slot.Goals.{After-capped-n}
 
@@ -29,9 +28,6 @@ part_length c =
 
 taken-whole : (l : List ℕ) (n : ℕ) → length l ≡ n → conj_of l n ≡ nodes_of_lem l
 taken-whole l n e = ap (conj_of l) (sym e) ∙ ap nodes_of_lem (take-length l)
-
-pub replace_all-requires : goal.replace_all-requires
-replace_all-requires c = search (rules, part_length (goal.at.replace_all-requires c).After-capped-n)
 
 pub returns : goal.returns
 returns c = λ label.

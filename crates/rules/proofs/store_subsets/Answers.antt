@@ -1,6 +1,5 @@
 -- `rules::store_subsets` meets its contract: seven loads or more have over 64 subsets, fewer are added by `add_subsets`.
-use mathlib.Core.Path.{◌≡◌, refl, ap, ◌∙◌}
-use Prim.Native.Nat.{◌-◌}
+use mathlib.Core.Path.{◌≡◌, refl}
 use native.Mathlib.Omega.{arith}
 use lib.ListN.{length}
 use Rattle.model.specs.Conjunct.{atoms}
@@ -18,10 +17,3 @@ returns-then-k-ge7 c =
     let m : length onto ≡ c.loads-k.result =
     atoms-count c.loads-k.new.out c.loads-k.result onto (omega (arith, c.loads-k.auto.out)) c.loads-k.ensures.1 in
     (λ x ty q. chosen-many a.t.array a.t.len x ty e (omega arith) a.room a.s.now a.s.now, λ i h. refl)
-
-pub returns : goal.returns
-returns c =
-    let a = c.args in
-    let onto = loads a.t.array a.t.len (atoms (conj_of a.e.now a.n)) in
-    let from_start : c.loads-k.result - 0 ≡ c.loads-k.result = omega arith in
-    (λ x ty q. c.add_subsets.ensures.0 onto x ty (ap (conj_of c.loads-k.new.out) from_start ∙ c.loads-k.ensures.1) q, c.add_subsets.ensures.1)

@@ -51,12 +51,6 @@ substitute-requires c =
       fresh = p.fresh.atoms;
     }
 
-pub write_slot-requires : goal.write_slot-requires
-write_slot-requires c =
-    let p = c.requires in
-    let few = (replaced (goal.at.write_slot-requires c).After-substitute (Some c.in-Some.m) c.in-Some.is).0 in
-    (p.slot.there, record { few = few; there = omega (arith, few, c.substitute.auto.out, p.buffers.0) })
-
 pub returns-in_default : goal.returns-in_default
 returns-in_default c =
     let a = c.args in
