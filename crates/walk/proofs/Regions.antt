@@ -1,5 +1,5 @@
 -- Regions of one slice: what is left below a change, and what a union within the limits gives.
-use mathlib.Core.Path.{◌≡◌, refl, sym, ap, subst, ◌∙◌}
+use mathlib.Core.Path.{◌≡◌, refl, sym, subst, ◌∙◌}
 use mathlib.Core.Bool.{Bool, false}
 use mathlib.Core.List.{List}
 use mathlib.Core.Logic.{inl, inr}
@@ -148,11 +148,6 @@ module _ (s t : List ℕ) (b : ℕ) (room : b + 3 * region_words ≤ length s) (
       second = f ∙ frame s t (b + region_words) b same_length (omega arith) (inr (omega arith)) w;
       below = below_trans b s t u (within-below b (b + region_words) s t (omega arith) w) (within-below b (b + 2 * region_words) t u (omega arith) v);
     }
-
-    pub branch-closed : (o : Out Conjuncts) → o ≡ ok (set_of t (b + 2 * region_words)) → Within (b + 2 * region_words) s t
-        → set_of u b ≡ set_of t (b + 2 * region_words) → Within b t u → (o ≡ ok (set_of u b)) × Below b s u
-    branch-closed o e w f v =
-        (e ∙ ap ok (sym f), below_trans b s t u (within-below b (b + 2 * region_words) s t (omega arith) w) (within-below b b t u (omega arith) v))
 
     pub rounds-opened : set_of t (b + region_words) ≡ set_of s b → Within (b + region_words) s t → set_of u (b + 2 * region_words) ≡ set_of t b
         → Within (b + 2 * region_words) t u → RoundsOpened b s u

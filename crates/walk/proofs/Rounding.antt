@@ -1,7 +1,7 @@
 -- The rounds of a while one by one, light or not.
 use mathlib.Core.Bool.{Bool}
 use mathlib.Core.List.{List}
-use mathlib.Core.Path.{◌≡◌, refl, sym, ap, ap₂, subst, ◌∙◌}
+use mathlib.Core.Path.{◌≡◌, sym, ap, ap₂, subst, ◌∙◌}
 use Prim.Native.Nat.{ℕ, suc, ◌+◌, ◌-◌, ◌*◌, ◌≤◌, ◌<◌}
 use native.Mathlib.Omega.{arith}
 use lib.ListN.{length}
@@ -23,7 +23,7 @@ use Rattle.walk.specs.Piece.{Lies, WalkedBy}
 use Rattle.walk.specs.Turn.{Rounded, RoundsOpened, Closing, closed_as, Closed}
 use Rattle.walk.specs.declared.Round.TheVariants.{Settled, Again}
 use Rattle.walk.specs.declared.Round.{Round}
-use Rattle.walk.proofs.Regions.{below_self, below_trans, below_less, below_set, below-table, walked_done, walked_refused, lies_on, walked_from}
+use Rattle.walk.proofs.Regions.{below_trans, below_less, below_set, below-table, walked_done, walked_refused, lies_on, walked_from}
 use Rattle.walk.proofs.Kept.{KeptNext, next-tidy, by_tidy}
 
 -- ---- one round, of which k are over
@@ -78,20 +78,6 @@ module _ (light : Bool) (p q b : ℕ) (e s₀ : List ℕ) (f : RoundsFrom b e s�
     same = same ∙ f.opened.same;
     below = below_trans b e s₀ t f.opened.below below;
   }
-
-  pub rounds-begin : InRounds light p q b s₀ 0 s₀
-  rounds-begin =
-      let first = f.opened.first ∙ sym f.opened.same in
-      let second = f.opened.second ∙ sym f.opened.same in
-      record {
-        same_length = refl;
-        table = refl;
-        kept = refl;
-        below = below_self b s₀;
-        round-tidy = subst Tidy (sym f.opened.first) f.tidy;
-        walk-tidy = subst Tidy (sym f.opened.second) f.tidy;
-        same-rounds = λ c z. ap₂ (rounds_by_lem light most_rounds (walk_by light c) (set_of s₀ b)) (sym first) (sym second);
-      }
 
   module _ (k : ℕ) (s : List ℕ) (g : InRounds light p q b s₀ k s) where
     pub never_settled : most_rounds ≤ k → Rounded light (Err NeverSettles) p q b e s

@@ -1,5 +1,5 @@
 -- `walk::join_new` meets its contract.
-use mathlib.Core.Logic.{inl, inr}
+use mathlib.Core.Logic.{inl}
 use Prim.Native.Nat.{◌+◌, ◌*◌, ◌<◌}
 use native.Mathlib.Omega.{arith}
 use lib.ListN.{length}
@@ -14,14 +14,6 @@ use Rattle.walk.proofs.join_new.Goals.{Else-size-eq0}
 some : (c : Else-size-eq0) → 0 < length (set_of c.subtract.new.s (c.args.b + 3 * region_words))
 some c = omega (arith, c.size.ensures.0, c.if-size-eq0.false)
 
-pub subtract-requires : goal.subtract-requires
-subtract-requires c =
-    record {
-      taken = record { first = search rules; second = search rules; apart = inr (omega arith) };
-      left_out = record { first = search rules; second = search rules; apart = inr (omega arith) };
-      canon = c.requires.tidy_one.canon;
-    }
-
 pub returns-then-size-eq0 : goal.returns-then-size-eq0
 returns-then-size-eq0 c =
     nothing-new c.args.s.now c.subtract.new.s c.args.b c.requires.room c.subtract.auto.s c.subtract.ensures.0 c.subtract.ensures.1
@@ -32,9 +24,6 @@ unite-requires c =
     let new = new-tidy c.args.s.now c.subtract.new.s c.args.b c.requires.room c.subtract.auto.s c.subtract.ensures.0 c.subtract.ensures.1 c.requires.tidy-other in
     let all = all-tidy c.args.s.now c.subtract.new.s c.args.b c.requires.room c.subtract.auto.s c.subtract.ensures.0 c.subtract.ensures.1 c.requires.tidy_one in
     record { apart = record { first = search rules; second = search rules; apart = inl (omega arith) }; added = new; own = all }
-
-pub copy-requires : goal.copy-requires
-copy-requires c = record { first = search rules; second = search rules; apart = inl (omega arith) }
 
 pub returns-in_err-unite : goal.returns-in_err-unite
 returns-in_err-unite c =

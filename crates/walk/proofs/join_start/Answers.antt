@@ -1,19 +1,8 @@
 -- `walk::join_start` meets its contract.
-use mathlib.Core.Logic.{inl, inr}
 use mathlib.Core.Path.{sym, ◌∙◌}
-use native.Mathlib.Omega.{arith}
 use Rattle.walk.proofs.Closings.{start-refused, start-settled, start-again}
-use borrow.Author.Rules.{rules}
 use Rattle.std.proofs.lemmas.Result.{err_from_is_err_and}
 use Rattle.walk.proofs.join_start.Goals as goal
-
-pub unite-requires : goal.unite-requires
-unite-requires c =
-    let g = c.requires in
-    record { apart = record { first = search rules; second = search rules; apart = inr (omega arith) }; added = g.tidy_one; own = g.tidy-other }
-
-pub copy-requires : goal.copy-requires
-copy-requires c = record { first = search rules; second = search rules; apart = inl (omega arith) }
 
 pub returns-in_err-unite : goal.returns-in_err-unite
 returns-in_err-unite c =

@@ -1,15 +1,6 @@
 -- `walk::open_rounds` meets its contract.
-use mathlib.Core.Logic.{inr}
-use native.Mathlib.Omega.{arith}
 use Rattle.walk.proofs.Regions.{rounds-opened}
-use borrow.Author.Rules.{rules}
 use Rattle.walk.proofs.open_rounds.Goals as goal
-
-pub copy-requires : goal.copy-requires
-copy-requires c = record { first = search rules; second = search rules; apart = inr (omega arith) }
-
-pub copy-requires-2 : goal.copy-requires-2
-copy-requires-2 c = record { first = search rules; second = search rules; apart = inr (omega arith) }
 
 pub returns : goal.returns
 returns c =

@@ -1,15 +1,6 @@
 -- `walk::switch_branch` meets its contract.
-use mathlib.Core.Logic.{inl, inr}
-use native.Mathlib.Omega.{arith}
 use Rattle.walk.proofs.Regions.{branch_switched}
-use borrow.Author.Rules.{rules}
 use Rattle.walk.proofs.switch_branch.Goals as goal
-
-pub copy-requires : goal.copy-requires
-copy-requires c = record { first = search rules; second = search rules; apart = inl (omega arith) }
-
-pub copy-requires-2 : goal.copy-requires-2
-copy-requires-2 c = record { first = search rules; second = search rules; apart = inr (omega arith) }
 
 pub returns : goal.returns
 returns c =
