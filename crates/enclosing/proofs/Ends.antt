@@ -1,14 +1,13 @@
 -- Where blocks end, by the kind of the statement where they begin; and the labels before a statement one by one.
-use mathlib.Core.Path.{◌≡◌, refl, sym, subst}
-use Prim.Native.Nat.{ℕ, ◌-◌, ◌≤◌, ◌<◌}
-use native.Mathlib.Decide.{dec_lt}
+use mathlib.Core.Path.{◌≡◌, refl}
+use Prim.Native.Nat.{ℕ}
 use native.Mathlib.Omega.{arith}
-use Rattle.model.specs.Code.{Stmt, while}
+use Rattle.model.specs.Code.{while}
 use Rattle.model.specs.Kinds.{Kind, a_number, a_copy, an_operation, a_conversion, a_read, a_load, a_store, a_site, an_if, an_else, an_end, a_while, a_procedure, a_call, no_kind_lem, kind_of}
 use Rattle.model.proofs.Files.KindNumbers.{IsNumber, kind-number}
 use Rattle.code_table.specs.declared.Decoded.{Decoded}
 use Rattle.code_table.specs.Statements.{stmt_for, stmt_from}
-use Rattle.enclosing.specs.Blocks.{block_end_lem, NoneFrom}
+use Rattle.enclosing.specs.Blocks.{block_end_lem}
 
 module _ (d : Decoded) (mate : ℕ → ℕ) (s : ℕ) where
   pub if-ends : d.kind ≡ 11 → block_end_lem (stmt_from d) mate s ≡ mate (mate s)
@@ -61,15 +60,3 @@ no_while d other v = go (kind_of d.kind) (kind-number d.kind)
     go a_procedure n e = let z : ◌≡◌ {A = ℕ} 0 1 = cc in omega arith
     go a_call n e = let z : ◌≡◌ {A = ℕ} 0 1 = cc in omega arith
     go no_kind_lem n e = let z : ◌≡◌ {A = ℕ} 0 1 = cc in omega arith
-
--- one label more that begins no block around i
-pub none_more : (stmt : ℕ → Stmt) (mate : ℕ → ℕ) (i s e : ℕ) → 0 < s → NoneFrom stmt mate i s → e ≡ block_end_lem (stmt (s - 1)) mate (s - 1) → e ≤ i
-    → NoneFrom stmt mate i (s - 1)
-none_more stmt mate i s e p h q l t a b = go (dec_lt t s)
-  where
-    go : Dec (t < s) → block_end_lem (stmt t) mate t ≤ i
-    go (yes k) = let same : t ≡ s - 1 = omega arith in subst (λ x. block_end_lem (stmt x) mate x ≤ i) (sym same) (subst (◌≤ i) q l)
-    go (no k) = h t (omega arith) b
-
-pub none_after : (stmt : ℕ → Stmt) (mate : ℕ → ℕ) (i s : ℕ) → 0 < s → NoneFrom stmt mate i s → (t : ℕ) → s - 1 < t → t < i → block_end_lem (stmt t) mate t ≤ i
-none_after stmt mate i s p h t a b = h t (omega arith) b

@@ -2,15 +2,13 @@
 use mathlib.Core.Path.{◌≡◌, ap, ◌∙◌}
 use Rattle.model.specs.Code.{Code}
 use Rattle.model.specs.Conjunct.{Conjuncts}
-use Rattle.model.specs.Refusals.{ok, refused, ◌>>=◌}
+use Rattle.model.specs.Refusals.{ok, ◌>>=◌}
 use Rattle.model.specs.Walk.{walk}
 use Rattle.model.specs.TidySets.{Tidy}
 use Rattle.model.proofs.Basics.Results.{gives_ok}
 use Rattle.model.proofs.Walks.Tidied.{walk-tidy}
 use Rattle.rules.specs.Answers.{Answer, answered}
-use Rattle.refusals.specs.Answers.{number_of}
-use Rattle.refusals.specs.declared.Refusal.{Refusal}
-use Rattle.std.specs.Prelude.{Ok, Err}
+use Rattle.std.specs.Prelude.{Ok}
 use Rattle.enclosing.specs.Enclosing.{walk_both_lem}
 
 module _ (c : Code) (S T : Conjuncts) (a : Answer) (h : walk c S ≡ answered a T) where
@@ -19,9 +17,6 @@ module _ (c : Code) (S T : Conjuncts) (a : Answer) (h : walk c S ≡ answered a 
 
   pub walked_tidy : Tidy S → a ≡ Ok tt → Tidy T
   walked_tidy t e = gives_ok Tidy (walk c S) T (walked e) (walk-tidy c S t)
-
-  pub both-refused : (d : Code) (n : Refusal) → a ≡ Err n → walk_both_lem c d S ≡ refused (number_of n)
-  both-refused d n e = ap (◌>>= walk d) (h ∙ ap (λ x. answered x T) e)
 
   pub both_walked : (d : Code) (U : Conjuncts) (b : Answer) → a ≡ Ok tt → walk d T ≡ answered b U → walk_both_lem c d S ≡ answered b U
   both_walked d U b e k = ap (◌>>= walk d) (walked e) ∙ k

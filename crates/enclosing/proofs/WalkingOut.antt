@@ -1,6 +1,6 @@
 -- The walk to the start, block by block.
 use mathlib.Core.List.{List}
-use mathlib.Core.Path.{◌≡◌, refl, sym, ap, subst, ◌∙◌}
+use mathlib.Core.Path.{◌≡◌, sym, ap, subst, ◌∙◌}
 use Prim.Native.Nat.{ℕ, ◌≤◌, ◌<◌}
 use lib.ListN.{length}
 use Rattle.model.specs.Conjunct.{Conjuncts}
@@ -52,17 +52,6 @@ module _ (s₀ : List ℕ) (b i : ℕ) where
     pub enclosed : Enclosed (table_of 0 s₀) statements at
     pub below : Below b s₀ s
     pub reached : (n : ℕ) → Reached (table_of 0 s₀) n i (set_of s₀ b) at (set_of s b)
-
-  pub outward_first : Tidy (set_of s₀ b) → (n : ℕ) → Enclosed (table_of 0 s₀) n i → Outward s₀ i
-  outward_first t n e = record {
-    same_length = refl;
-    table = refl;
-    tidy = t;
-    statements = n;
-    enclosed = e;
-    below = λ x h. refl;
-    reached = λ m q w h. (q, w, h, refl);
-  }
 
   module _ (s : List ℕ) (at : ℕ) (w : Outward s at) where
     pub enclosed-here : Enclosed (table_of 0 s) w.statements at

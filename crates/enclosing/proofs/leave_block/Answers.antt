@@ -68,12 +68,6 @@ kind_at-kind-requires c =
     let l = below (goal.at.kind_at-kind-requires c).Start in
     (omega (arith, c.requires.words.behind, c.requires.words.room), omega (arith, l.0, l.1, c.requires.innermost.0))
 
-pub mate-other-requires : goal.mate-other-requires
-mate-other-requires c = omega (arith, c.requires.words.behind, c.requires.words.room)
-
-pub overflow_add-r : goal.overflow_add-r
-overflow_add-r c = let l = below (goal.at.overflow_add-r c).Start in omega (arith, l.0, l.1, c.requires.innermost.0)
-
 pub overflow_add-other : goal.overflow_add-other
 overflow_add-other c =
     omega (arith, c.mate-other.ensures, (a-while (goal.at.overflow_add-other c).After-mate-other c.if-kind-eq14.true).0, (below (goal.at.overflow_add-other c).Start).1)
@@ -103,9 +97,6 @@ returns-then-kind-eq14 c =
       tidy = c.walk_both.ensures.tidy;
       below = c.walk_both.ensures.below;
     }
-
-pub overflow_add-r-then-i-other : goal.overflow_add-r-then-i-other
-overflow_add-r-then-i-other c = let l = below (goal.at.overflow_add-r-then-i-other c).Start in omega (arith, l.0, l.1, c.requires.innermost.0)
 
 pub walk-requires : goal.walk-requires
 walk-requires c =

@@ -10,8 +10,7 @@ use Rattle.code_table.specs.Table.{table_of}
 use Rattle.std.specs.Prelude.{Ok}
 use Rattle.sets.specs.Region.{set_of}
 use Rattle.walk.proofs.Regions.{below_trans, below-table, lies_on, piece_on, knows_on}
-use Rattle.enclosing.proofs.Walked.{walked_tidy, both-refused, both_walked}
-use Rattle.std.proofs.lemmas.Result.{err_from_is_err_and}
+use Rattle.enclosing.proofs.Walked.{walked_tidy, both_walked}
 use Rattle.enclosing.proofs.walk_both.Goals as goal
 use Rattle.enclosing.proofs.walk_both.Goals.{After-walk}
 
@@ -27,11 +26,6 @@ first-tidy c e =
     walked_tidy piece.code (set_of c.args.s.now c.args.b) (set_of c.walk.new.s c.args.b) c.walk.result
     (c.walk.ensures.0 piece.code piece.lies) c.requires.words.tidy e
 
-pub walk-requires : goal.walk-requires
-walk-requires c =
-    let w = c.requires.words in
-    (record { knows = c.requires.first-known; shallow = omega arith; behind = w.behind; room = omega (arith, w.room); tidy = w.tidy }, c.requires.first)
-
 pub walk-requires-2 : goal.walk-requires-2
 walk-requires-2 c =
     let t = first-table (goal.at.walk-requires-2 c).After-walk in (
@@ -44,17 +38,6 @@ walk-requires-2 c =
       },
       piece_on c.args.s.now c.walk.new.s t 4 c.args.r c.args.q c.requires.second,
     )
-
-pub returns-in_err-walk : goal.returns-in_err-walk
-returns-in_err-walk c =
-    let S = set_of c.args.s.now c.args.b in
-    let T = set_of c.walk.new.s c.args.b in
-    let gone = err_from_is_err_and c.from_residual.result c.from_residual.ensures.1 in
-    rw (gone.1, gone.2) record {
-      does = λ x y h k. both-refused x S T c.walk.result (c.walk.ensures.0 x h) y _ c.in_err-walk.was;
-      tidy = λ e. cc;
-      below = c.walk.ensures.1;
-    }
 
 pub returns : goal.returns
 returns c =

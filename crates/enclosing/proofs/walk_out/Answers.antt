@@ -6,7 +6,7 @@ use Rattle.code_table.specs.Table.{table_of}
 use Rattle.sets.specs.Region.{set_of}
 use Rattle.walk.proofs.Regions.{knows_less}
 use Rattle.enclosing.proofs.Leaving.{label-below, top-known, walks_out_top}
-use Rattle.enclosing.proofs.WalkingOut.{outward_first, enclosed-here, outward_start, outward_refused, outward_next}
+use Rattle.enclosing.proofs.WalkingOut.{enclosed-here, outward_start, outward_refused, outward_next}
 use Rattle.std.proofs.lemmas.Result.{err_from_is_err_and}
 use Rattle.enclosing.proofs.walk_out.Goals as goal
 use Rattle.enclosing.proofs.walk_out.Goals.{At-loop-r}
@@ -14,9 +14,6 @@ use Rattle.enclosing.proofs.walk_out.Goals.{At-loop-r}
 -- the label is one of the program's
 below : (c : At-loop-r) → (c.loop-r.at < c.loop-r.invariant.statements) × (c.loop-r.invariant.statements ≤ most_rows)
 below c = label-below (table_of 0 c.args.s.now) c.loop-r.invariant.statements c.loop-r.at c.loop-r.invariant.enclosed
-
-pub loop-r-init : goal.loop-r-init
-loop-r-init c = outward_first c.args.s.now c.args.b c.args.i c.requires.0.tidy c.requires.1.0 c.requires.1.1
 
 pub innermost-requires : goal.innermost-requires
 innermost-requires c =
@@ -42,24 +39,11 @@ returns c =
     (λ n. walks_out_top (table_of 0 c.loop-r.s) n c.loop-r.at c.in_default.ensures (set_of c.loop-r.s c.args.b) (set_of c.walk.new.s c.args.b) c.walk.result c.walk.ensures.0)
     c.walk.ensures.1
 
-pub leave_block-requires : goal.leave_block-requires
-leave_block-requires c =
-    record {
-      words = record { behind = c.requires.0.behind; room = omega (arith, c.requires.0.room, c.loop-r.invariant.same_length); tidy = c.loop-r.invariant.tidy };
-      statements = c.loop-r.invariant.statements;
-      enclosed = enclosed-here c.args.s.now c.args.b c.args.i c.loop-r.s c.loop-r.at c.loop-r.invariant;
-      innermost = c.in-Some.ensures;
-    }
-
 pub returns-in_err-leave_block : goal.returns-in_err-leave_block
 returns-in_err-leave_block c =
     let gone = err_from_is_err_and c.from_residual.result c.from_residual.ensures.1 in
     rw (gone.1, gone.2)
     (outward_refused c.args.s.now c.args.b c.args.i c.loop-r.s c.loop-r.at c.loop-r.invariant _ c.leave_block.result c.leave_block.new.s c.leave_block.ensures.does c.leave_block.ensures.below _ c.in_err-leave_block.was)
-
-pub loop-r-smaller : goal.loop-r-smaller
-loop-r-smaller c =
-    (c.in-Some.ensures).0
 
 pub loop-r-preserved : goal.loop-r-preserved
 loop-r-preserved c =
