@@ -1,15 +1,13 @@
 -- `writer::put_pairs` meets its contract.
-use mathlib.Core.Path.{◌≡◌, ap, ◌∙◌}
+use mathlib.Core.Path.{◌≡◌}
 use Prim.Native.Nat.{◌+◌, ◌<◌}
 use native.Mathlib.Numerals.{add-one}
 use native.Mathlib.Omega.{arith}
 use lib.ListN.{length, take}
-use lib.Seq.{take_all}
 use borrow.Author.Rules.{rules}
 use Rattle.bytes_le.proofs.Overlays.{overlay-none}
 use Rattle.model.specs.Condition.{pair_bytes}
 use Rattle.model.specs.Formed.{size}
-use Rattle.bytes_le.specs.Overlay.{overlay}
 use Rattle.sets.specs.Region.{set_of}
 use Rattle.writer.proofs.Written.{size_more, pairs_more}
 use Rattle.writer.proofs.put_pairs.Goals as goal
@@ -34,8 +32,3 @@ loop-i-preserved c =
       pairs_more S a.out.now c.loop-i.out c.put_pair.new.out a.a a.begin c.loop-i.i c.loop-i.place c.node_count-n.result inside c.loop-i.invariant.1 c.node_count-n.ensures.1
           c.loop-i.invariant.2 c.put_pair.ensures,
     )
-
-pub returns : goal.returns
-returns c =
-    let a = c.args in
-    c.loop-i.invariant.2 ∙ ap (λ S. overlay a.out.now a.a (pair_bytes a.begin S)) (take_all c.loop-i.i (set_of a.s.now a.b) (omega arith))
