@@ -26,13 +26,6 @@ returns-then-not-union c =
       below = λ i h. c.union.ensures.1 i (inl (omega arith)) ∙ c.start_set.ensures.1 i (omega arith);
     }
 
-pub copy-requires : goal.copy-requires
-copy-requires c =
-    let p = c.requires in
-    let k = c.start_set.auto.s in
-    let l = c.union.auto.s in
-    record { first = omega (arith, p.0, k, l); second = omega (arith, p.0, k, l); apart = inl (omega arith) }
-
 pub returns : goal.returns
 returns c =
     let a = c.args in

@@ -1,6 +1,5 @@
 -- `analysis::pass` meets its contract.
 use mathlib.Core.Path.{◌≡◌, refl, sym, ap, subst, ◌∙◌}
-use native.Mathlib.Omega.{arith}
 use Rattle.code_table.specs.Statements.{Known}
 use Rattle.code_table.specs.Table.{table_of, row_in}
 use Rattle.code_table.specs.declared.Decoded.{Decoded}
@@ -18,10 +17,6 @@ is-site c e = sym (ap (λ (r : Decoded). r.kind) c.fetch-d.ensures) ∙ e
 known : (c : After-fetch-d) → Known c.fetch-d.result
 known c = subst Known (sym c.fetch-d.ensures) (c.requires.0.known.known c.args.i c.requires.0.inside)
 
-pub fetch-d-requires : goal.fetch-d-requires
-fetch-d-requires c =
-    (omega (arith, c.requires.0.words.room), omega (arith, c.requires.0.known.few, c.requires.0.inside))
-
 pub returns-then-kind-ne10 : goal.returns-then-kind-ne10
 returns-then-kind-ne10 c =
     record {
@@ -30,22 +25,6 @@ returns-then-kind-ne10 c =
       tidy = λ e. c.requires.0.words.tidy;
       below = λ x h. refl;
     }
-
-pub offset_bounds-last-x : goal.offset_bounds-last-x
-offset_bounds-last-x c = omega (arith, (known (goal.at.offset_bounds-last-x c).After-fetch-d).a)
-
-pub bounds-last-x : goal.bounds-last-x
-bounds-last-x c = omega (arith, (known (goal.at.bounds-last-x c).After-fetch-d).a, c.requires.1)
-
-pub offset_bounds-last-x-2 : goal.offset_bounds-last-x-2
-offset_bounds-last-x-2 c = omega (arith, (known (goal.at.offset_bounds-last-x-2 c).After-fetch-d).a)
-
-pub bounds-last-x-2 : goal.bounds-last-x-2
-bounds-last-x-2 c = omega (arith, (known (goal.at.bounds-last-x-2 c).After-fetch-d).a, c.requires.1)
-
-pub repeats-requires : goal.repeats-requires
-repeats-requires c =
-    (omega (arith, c.requires.0.words.room), omega (arith, c.requires.0.known.few, c.requires.0.inside))
 
 pub returns-then-repeats : goal.returns-then-repeats
 returns-then-repeats c =

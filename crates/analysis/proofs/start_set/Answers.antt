@@ -9,14 +9,6 @@ use Rattle.sets.specs.Region.{region_words, set_of}
 use Rattle.analysis.proofs.Starting.{kept}
 use Rattle.analysis.proofs.start_set.Goals as goal
 
-pub copy-requires : goal.copy-requires
-copy-requires c =
-    record { first = omega (arith, c.clear.auto.s, c.gather_start.auto.s); second = omega (arith, c.clear.auto.s, c.gather_start.auto.s); apart = inl (omega arith) }
-
-pub shape_of-s : goal.shape_of-s
-shape_of-s c =
-    c.copy.auto.s ∙ c.gather_start.auto.s ∙ c.clear.auto.s
-
 pub returns : goal.returns
 returns c =
     let a = c.args in
