@@ -18,12 +18,15 @@ use Rattle.model.specs.Conjunct.{Conjuncts, ◌then◌, order_numbers, order}
 use Rattle.model.specs.Condition.{Condition, conjuncts_at, node_at, node_right_lem, conjunct_at, nodes_right, length_right, whole, numbered}
 use Rattle.model.specs.Condition.{is_before, rising, read_condition}
 use Rattle.model.proofs.Basics.Tests.{case, and_left, and_right}
-use Rattle.model.proofs.Basics.Results.{check-ok, ok_eq}
+use Rattle.model.proofs.Basics.Results.{check-ok, ok_eq, mapped-refused}
 use Rattle.model.proofs.Basics.Every.{every_of_map, every-at}
 use Rattle.model.proofs.Files.Parts.{length-entries, entries-get_or, chained_le, chained-inside, length_part, entries-part}
 use Rattle.model.proofs.Files.FieldTables.{fields-part, types-right}
 use Rattle.condition.specs.Answers.{part_nodes, part_right_lem, pair_part, pair_right, pair_place, pairs_of, fields_at, types_at, linked}
-use Rattle.condition.specs.Answers.{sizes, sizes_of, ConditionIsRead, PairInside, counts_of, fields_of, types_of, conjuncts_of}
+use Rattle.std.specs.Prelude.{Result, Ok, Err}
+use Rattle.refusals.specs.declared.Refusal.{Refusal}
+use Rattle.refusals.specs.Answers.{number_of}
+use Rattle.condition.specs.Answers.{condition_answer, bytes_answer, sizes, sizes_of, ConditionIsRead, PairInside, counts_of, fields_of, types_of, conjuncts_of}
 use Rattle.condition.specs.declared.Counts.{Counts}
 use Rattle.condition.proofs.Nodes.{node-narrow, right-narrow}
 use Rattle.condition.proofs.Passes.{pairs_from, pairs_step}
@@ -378,6 +381,12 @@ pub bytes-are : (s t : List ℕ) → ok t ≡ mapped (λ (C : Condition). s) (re
 bytes-are s t h =
     let e = check-ok (form_by s (u32_at s 0) (u32_at s 4)) wrong_condition (ok s) t (sym (bytes-form s (u32_at s 0) (u32_at s 4) refl refl) ∙ sym h) in
     (sym (ok_eq s t e.1), accepts-sizes s (u32_at s 0) (u32_at s 4) refl refl e.0)
+
+-- the numbers of a condition that is read follow from its bytes
+pub numbers_by_bytes : (s : List ℕ) (r : Result (List ℕ) Refusal) → bytes_answer r ≡ mapped (λ (C : Condition). s) (read_condition s)
+    → condition_answer r ≡ mapped sizes (read_condition s)
+numbers_by_bytes s (Ok t) h = let b = bytes-are s t h in ap (λ u. ok (sizes_of (counts_of u))) b.0 ∙ sym b.1
+numbers_by_bytes s (Err n) h = sym (ap (mapped sizes) (mapped-refused (λ (C : Condition). s) (read_condition s) (number_of n) h))
 
 pub conjuncts-read : (s : List ℕ) (k : Counts) → ConditionIsRead s k → k.conjuncts ≡ length (conjuncts_of s)
 conjuncts-read s k read = (counted-read s k read).conjuncts ∙ sym (conjuncts-count s)

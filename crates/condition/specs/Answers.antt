@@ -110,17 +110,21 @@ sizes C = (length C.conjuncts, length C.fields)
 abbrev pub sizes_of : Counts → ℕ × ℕ
 sizes_of k = (k.conjuncts, k.fields)
 
--- the bytes of a condition that is read, or the number of the refusal
-abbrev pub condition_read : Result (List ℕ) Refusal → Out (List ℕ)
-condition_read = out_of (λ s. s)
+-- the counts that stand at a file's start
+abbrev pub counts_of : List ℕ → Counts
+counts_of s = record { conjuncts = u32_at s 0; fields = u32_at s 4 }
+
+-- how many conjuncts and fields a condition that is read has, or the number of the refusal
+abbrev pub condition_answer : Result (List ℕ) Refusal → Out (ℕ × ℕ)
+condition_answer = out_of (λ s. sizes_of (counts_of s))
+
+-- its bytes, or the number of the refusal
+abbrev pub bytes_answer : Result (List ℕ) Refusal → Out (List ℕ)
+bytes_answer = out_of (λ s. s)
 
 -- the condition is in its form, with these counts
 abbrev pub ConditionIsRead : List ℕ → Counts → Type 0
 ConditionIsRead s k = mapped sizes (read_condition s) ≡ ok (sizes_of k)
-
--- the counts that stand at its start
-abbrev pub counts_of : List ℕ → Counts
-counts_of s = record { conjuncts = u32_at s 0; fields = u32_at s 4 }
 
 -- the fields, their types and the conjuncts that a file holds
 abbrev pub fields_of : List ℕ → List Field

@@ -12,7 +12,7 @@ ghost use Rattle.model.specs.Fields.{entry_of, field_right, types_in, fields_in}
 ghost use Rattle.model.specs.Conjunct.{◌then◌, order_numbers};
 ghost use Rattle.model.specs.Condition.{node_at, node_right_lem, conjunct_at, whole, numbered, is_before, rising, read_condition};
 ghost use Rattle.condition.specs.Answers.{constant_right_lem, reading_right_lem, operation_right_lem, right_by_lem, NodeIs, EntryIs, node_out};
-ghost use Rattle.condition.specs.Answers.{conjunct_answer, formed, part_nodes, part_right_lem, pair_part, pair_right, condition_read};
+ghost use Rattle.condition.specs.Answers.{conjunct_answer, formed, part_nodes, part_right_lem, pair_part, pair_right, sizes, condition_answer, bytes_answer};
 ghost use Rattle.condition.specs.Answers.{ConditionIsRead, PairInside, ConjunctIs, counts_of, fields_of, conjuncts_of, types_at, pair_place, pairs_of, linked};
 
 use refusals::Refusal;
@@ -331,7 +331,8 @@ fn is_rising(condition: &[u8], fields: usize, count: usize) -> bool
 
 // The condition's form. Every refusal has the same number, so the order of the tests does not show.
 pub fn read(condition: &[u8]) -> Result<Condition<'_>, Refusal>
-    ensures { condition_read result ≡ mapped (λ C. condition.now) (read_condition condition.now) }
+    ensures numbers { condition_answer result ≡ mapped sizes (read_condition condition.now) }
+    ensures bytes { bytes_answer result ≡ mapped (λ C. condition.now) (read_condition condition.now) }
 {
     if condition.len() < COUNTS_SIZE {
         return Err(Refusal::WrongCondition);

@@ -15,9 +15,13 @@ pub record InputFile : Type 0 where
 abbrev pub file_of : (fields s : List ℕ) → InputFile
 file_of fields s = record { fields = fields; bytes = s }
 
--- the file that is read, or the number of the refusal
-abbrev pub input_read : Result InputFile Refusal → Out InputFile
-input_read = out_of (λ i. i)
+-- read, or the number of the refusal
+abbrev pub input_answer : Result InputFile Refusal → Out (Unit {0})
+input_answer = out_of (λ i. tt {0})
+
+-- what is read, or the number of the refusal
+abbrev pub file_answer : Result InputFile Refusal → Out InputFile
+file_answer = out_of (λ i. i)
 
 -- the input is in its form, for the fields of a table
 abbrev pub InputIsRead : (fields s : List ℕ) → Type 0

@@ -13,7 +13,7 @@ ghost use Rattle.model.specs.Refusals.{mapped};
 ghost use Rattle.model.specs.Bytes.{pair_at, pairs_at};
 ghost use Rattle.model.specs.Fields.{Field, entry_of, bits_of_lem, types_in, fields_in};
 ghost use Rattle.model.specs.Input.{width, bits_at, reading_at_lem, in_bits_lem, bits_right_lem, read_input};
-ghost use Rattle.input.specs.Answers.{InputFile, file_of, input_read, InputIsRead, WidthIs, PartInside, field_part, field_readings};
+ghost use Rattle.input.specs.Answers.{InputFile, file_of, input_answer, file_answer, InputIsRead, WidthIs, PartInside, field_part, field_readings};
 ghost use Rattle.input.specs.Bits.{LimitsAre, part_readings};
 ghost use Rattle.input.specs.FirstWrong.{RightBefore, PartIs, PairsAre};
 
@@ -206,7 +206,8 @@ fn bits_right(fields: &[u8], input: &[u8]) -> bool
 
 // The input, if it has its form for the fields of this table.
 pub fn read<'t, 'a>(fields: &'t [u8], input: &'a [u8]) -> Result<Input<'t, 'a>, Refusal>
-    ensures { input_read result ≡ mapped (λ I. file_of fields.now input.now) (read_input (fields_in fields.now) input.now) }
+    ensures form { input_answer result ≡ mapped (λ I. tt {0}) (read_input (fields_in fields.now) input.now) }
+    ensures file { file_answer result ≡ mapped (λ I. file_of fields.now input.now) (read_input (fields_in fields.now) input.now) }
 {
     let Ok(end) = first_wrong(fields, input) else {
         return Err(Refusal::WrongInput);

@@ -25,16 +25,16 @@ use Rattle.filter.proofs.check.Goals.{After-fields, In_ok-input}
 on-caller : (c : After-fields) → verdict c.in_ok-condition.condition c.args.input.now ≡ verdict c.args.condition.now c.args.input.now
 on-caller c =
     ap (λ s. verdict s c.args.input.now)
-    (constant_read c.args.condition.now (read_condition c.args.condition.now) c.in_ok-condition.condition c.in_ok-condition.ensures)
+    (constant_read c.args.condition.now (read_condition c.args.condition.now) c.in_ok-condition.condition c.in_ok-condition.ensures.bytes)
 
 -- so is the input that is read
 same-input : (c : In_ok-input) → c.in_ok-input.input ≡ file_of c.fields.result.now c.args.input.now
-same-input c = constant_read _ (read_input (fields_in c.fields.result.now) c.args.input.now) c.in_ok-input.input c.in_ok-input.ensures
+same-input c = constant_read _ (read_input (fields_in c.fields.result.now) c.args.input.now) c.in_ok-input.input c.in_ok-input.ensures.file
 
 pub returns-in_err-condition : goal.returns-in_err-condition
 returns-in_err-condition c =
     let p = err_from_is_err_and c.from_residual.result c.from_residual.ensures.1 in
-    rw (p.1, p.2) (condition-refused c.args.condition.now c.args.input.now (number_of c.in_err-condition.field-0.0) c.in_err-condition.ensures)
+    rw (p.1, p.2) (condition-refused c.args.condition.now c.args.input.now (number_of c.in_err-condition.field-0.0) c.in_err-condition.ensures.bytes)
 
 pub returns-in_err-input : goal.returns-in_err-input
 returns-in_err-input c =
@@ -43,7 +43,7 @@ returns-in_err-input c =
     let file = file_of c.fields.result.now c.args.input.now in
     rw (p.1, p.2)
     (input-refused c.in_ok-condition.condition c.args.input.now c.fields.ensures.read file n
-    (subst (λ fs. refused n ≡ mapped (λ I. file) (read_input fs c.args.input.now)) c.fields.ensures.table.0 c.in_err-input.ensures)
+    (subst (λ fs. refused n ≡ mapped (λ I. file) (read_input fs c.args.input.now)) c.fields.ensures.table.0 c.in_err-input.ensures.file)
     ∙ on-caller (goal.at.returns-in_err-input c).After-fields)
 
 pub judge_input-requires : goal.judge_input-requires
@@ -67,5 +67,5 @@ returns c =
     c.judge_input.ensures
     ∙ ap (λ (i : InputFile). judged (input_in (fields_of s) i.bytes) (conjuncts_of s)) (same-input (goal.at.returns c).In_ok-input)
     ∙ sym (both_read s t c.fields.ensures.read file i
-    (subst (λ fs. ok i ≡ mapped (λ I. file) (read_input fs t)) c.fields.ensures.table.0 c.in_ok-input.ensures))
+    (subst (λ fs. ok i ≡ mapped (λ I. file) (read_input fs t)) c.fields.ensures.table.0 c.in_ok-input.ensures.file))
     ∙ on-caller (goal.at.returns c).After-fields

@@ -33,14 +33,15 @@ told fields input o e = sym (with_value (file_of fields input) (read_input (fiel
 pub returns-in_default : goal.returns-in_default
 returns-in_default c =
     let g = c.args in
-    told g.fields.now g.input.now (refused wrong_input) (one_wrong (fields_in g.fields.now) g.input.now _ c.in_default.ensures)
+    let e = one_wrong (fields_in g.fields.now) g.input.now _ c.in_default.ensures in
+    record { form = sym e; file = told g.fields.now g.input.now (refused wrong_input) e }
 
 pub returns-then-end-input : goal.returns-then-end-input
 returns-then-end-input c =
     let g = c.args in
     let end = c.in-Ok.end in
-    told g.fields.now g.input.now (refused wrong_input)
-    (ends_elsewhere (fields_in g.fields.now) g.input.now end c.in-Ok.ensures (λ q. absurd (omega (arith, q, c.if-end-input.true))))
+    let e = ends_elsewhere (fields_in g.fields.now) g.input.now end c.in-Ok.ensures (λ q. absurd (omega (arith, q, c.if-end-input.true))) in
+    record { form = sym e; file = told g.fields.now g.input.now (refused wrong_input) e }
 
 pub bits_right-requires : goal.bits_right-requires
 bits_right-requires c =
@@ -50,8 +51,8 @@ bits_right-requires c =
 pub returns-then-not-bits_right : goal.returns-then-not-bits_right
 returns-then-not-bits_right c =
     let g = c.args in
-    told g.fields.now g.input.now (refused wrong_input)
-    (decided (goal.at.returns-then-not-bits_right c).After-bits_right ∙ ap (λ b. check b wrong_input (ok tt)) c.if-not-bits_right.true)
+    let e = decided (goal.at.returns-then-not-bits_right c).After-bits_right ∙ ap (λ b. check b wrong_input (ok tt)) c.if-not-bits_right.true in
+    record { form = sym e; file = told g.fields.now g.input.now (refused wrong_input) e }
 
 -- the input is in its form
 formed : (c : Else-not-bits_right) → InputIsRead c.args.fields.now c.args.input.now
@@ -61,4 +62,6 @@ pub invariant_of-result : goal.invariant_of-result
 invariant_of-result c = formed (goal.at.invariant_of-result c).Else-not-bits_right
 
 pub returns : goal.returns
-returns c = told c.args.fields.now c.args.input.now (ok tt) (formed (goal.at.returns c).Else-not-bits_right)
+returns c =
+    let e = formed (goal.at.returns c).Else-not-bits_right in
+    record { form = sym e; file = told c.args.fields.now c.args.input.now (ok tt) e }
