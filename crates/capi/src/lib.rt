@@ -4,34 +4,30 @@
 // stands for.
 #![tactic(auto)]
 
-ghost use Rattle.std.specs.Prelude.{◌≡◌, ◌*◌, ◌≤◌, length};
+ghost use Rattle.std.specs.Prelude.{◌≡◌, ◌*◌, length};
 ghost use Rattle.model.specs.Refusals.{mapped};
-ghost use Rattle.model.specs.Failure.{cause_number, verdict_number, verdict};
+ghost use Rattle.model.specs.Failure.{verdict_number, verdict};
+ghost use Rattle.refusals.specs.Answers.{number_of};
 ghost use Rattle.analysis.specs.Deriving.{analysis_words, derivation};
 ghost use Rattle.interpreter.specs.Answers.{run_lent};
 ghost use Rattle.guard.specs.Answers.{guarding};
 ghost use Rattle.widening.specs.Converting.{conversion};
 ghost use Rattle.capi.specs.Words.{refusal_unit, answer_word, GateDerive, GateConvert, GateRun, GateGuarded};
 
-use analysis::Derived;
-use arith::Cause;
 use filter::Verdict;
 use guard::Guarded;
-use interpreter::Ran;
-use widening::Converted;
+use refusals::Refusal;
 
 // The refusal's number stands in the upper 32 bits.
 const REFUSAL: u64 = 0x1_0000_0000;
 
 // The word of a sheet that is held by a run behind the gate: a run's end is at most 4.
 const HELD: u64 = 5;
-// The refusal of what was lent: too short.
-const LENT_TOO_SHORT: u8 = 1;
 
-fn refusal(n: u8) -> u64
-    ensures { result ≡ n * refusal_unit }
+fn refusal(refusal: Refusal) -> u64
+    ensures { result ≡ number_of refusal * refusal_unit }
 {
-    (n as u64) * REFUSAL
+    u64::from(u8::from(refusal)) * REFUSAL
 }
 
 // The words of scratch that serve every call.
@@ -48,10 +44,9 @@ pub extern "C" fn gate_derive(recipe: &[u8], condition: &mut [u8], scratch: &mut
     ensures { GateDerive (derivation (length condition.old) (length scratch.old) recipe.now)
         result condition.old condition.new scratch.old scratch.new }
 {
-    let derived = analysis::derive(recipe, condition, scratch);
-    match derived {
-        Derived::Refused(n) => refusal(n),
-        Derived::Written(n) => n as u64,
+    match analysis::derive(recipe, condition, scratch) {
+        Ok(derived) => derived as u64,
+        Err(not_derived) => refusal(not_derived),
     }
 }
 
@@ -62,23 +57,11 @@ pub extern "C" fn gate_convert(old: &[u8], recipe: &mut [u8], scratch: &mut [u64
         result recipe.old recipe.new scratch.old scratch.new }
 {
     if scratch.len() < analysis::SCRATCH {
-        return refusal(LENT_TOO_SHORT);
+        return refusal(Refusal::LentTooShort);
     }
-    let converted = widening::convert(old, recipe, scratch);
-    match converted {
-        Converted::Refused(n) => refusal(n),
-        Converted::Written(n) => n as u64,
-    }
-}
-
-// The number of a cause: 1 too big, 2 too small, 3 no divisor.
-fn cause_number(cause: Cause) -> u64
-    ensures { (result ≡ cause_number cause) × (result ≤ 3) }
-{
-    match cause {
-        Cause::Above => 1,
-        Cause::Below => 2,
-        Cause::NoDivisor => 3,
+    match widening::convert(old, recipe, scratch) {
+        Ok(converted) => converted as u64,
+        Err(not_converted) => refusal(not_converted),
     }
 }
 
@@ -87,11 +70,10 @@ fn cause_number(cause: Cause) -> u64
 pub extern "C" fn gate_check(condition: &[u8], sheet: &[u8]) -> u64
     ensures { result ≡ answer_word (mapped verdict_number (verdict condition.now sheet.now)) }
 {
-    let v = filter::check(condition, sheet);
-    match v {
-        Verdict::Refused(n) => refusal(n),
-        Verdict::Pass => 0,
-        Verdict::Held(cause) => 1 + 256 * cause_number(cause),
+    match filter::check(condition, sheet) {
+        Ok(Verdict::Pass) => 0,
+        Ok(Verdict::Held(cause)) => 1 + 256 * u64::from(cause),
+        Err(not_checked) => refusal(not_checked),
     }
 }
 
@@ -113,20 +95,15 @@ pub extern "C" fn gate_run(
         records.old records.new }
 {
     if scratch.len() < analysis::SCRATCH {
-        return refusal(LENT_TOO_SHORT);
+        return refusal(Refusal::LentTooShort);
     }
-    let ran = interpreter::run(recipe, sheet, limit, choices, log, scratch);
-    match ran {
-        Ran::Refused(n) => refusal(n),
-        Ran::Ended {
-            end: e,
-            steps: s,
-            records: k,
-        } => {
-            *steps = s;
-            *records = k;
-            e as u64
+    match interpreter::run(recipe, sheet, limit, choices, log, scratch) {
+        Ok(ran) => {
+            *steps = ran.steps;
+            *records = ran.records;
+            u64::from(u8::from(ran.end))
         }
+        Err(not_run) => refusal(not_run),
     }
 }
 
@@ -149,18 +126,13 @@ pub extern "C" fn gate_guarded(
         result condition.old condition.new log.old log.new scratch.old scratch.new
         steps.old steps.new records.old records.new }
 {
-    let answer = guard::run(recipe, sheet, limit, choices, log, condition, scratch);
-    match answer {
-        Guarded::Refused(n) => refusal(n),
-        Guarded::Held => HELD,
-        Guarded::Ended {
-            end: e,
-            steps: taken,
-            records: written,
-        } => {
-            *steps = taken;
-            *records = written;
-            e as u64
+    match guard::run(recipe, sheet, limit, choices, log, condition, scratch) {
+        Ok(Guarded::Ended(passed)) => {
+            *steps = passed.steps;
+            *records = passed.records;
+            u64::from(u8::from(passed.end))
         }
+        Ok(Guarded::Held) => HELD,
+        Err(not_guarded) => refusal(not_guarded),
     }
 }
