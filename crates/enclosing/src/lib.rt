@@ -20,6 +20,7 @@ const NESTED: usize = 4;
 // ---- blocks by their labels
 
 // The label of the end of a block that begins at a label; 0 where none begins there.
+// 0 and no Option: no label lies before it, so one comparison serves both.
 fn block_end(s: &[u64], at: usize) -> usize
     requires { (table_words ≤ length s.now) × (at < most_rows) }
     ensures { result ≡ block_end_lem (stmts s.now at) (mates s.now) at }
