@@ -2,8 +2,7 @@
 // `refused K` and writes nothing. A file that cannot be read or written is named on standard error.
 #![tactic(auto)]
 
-use analysis::Derived;
-use files::{FileAnswer, answers};
+use files::answers;
 use std::env::Env;
 use std::fs::Files;
 
@@ -15,32 +14,27 @@ fn put(rt: &(impl Env + Files + Print + Eprint), condition: &[u8], n: usize) {
     }
     let count = bytes_le::u32_at(condition, 0);
     let k = files::at_most(n, condition);
-    let written = files::write(rt, 2, &condition[..k]);
-    match written {
-        FileAnswer::Bytes(_) => answers::line(rt, b"conjuncts ", count),
-        FileAnswer::Failed => {}
+    if files::write(rt, 2, &condition[..k]).is_some() {
+        let _ = println!(rt; "conjuncts {count}");
     }
 }
 
 fn derive(rt: &(impl Env + Files + Print + Eprint), recipe: &[u8]) {
     let mut condition = [0u8; analysis::CONDITION];
     let mut scratch = [0u64; analysis::SCRATCH];
-    let derived = analysis::derive(recipe, &mut condition, &mut scratch);
-    match derived {
-        Derived::Refused(k) => answers::refused(rt, k),
-        Derived::Written(n) => put(rt, &condition, n),
+    match analysis::derive(recipe, &mut condition, &mut scratch) {
+        Ok(n) => put(rt, &condition, n),
+        Err(refusal) => answers::refused(rt, refusal),
     }
 }
 
 fn main(rt: HostRuntime) {
-    if !files::has_arguments(&rt, 3, b"usage: derive RECIPE CONDITION\n") {
+    if !files::has_arguments(&rt, 3, "usage: derive RECIPE CONDITION\n") {
         return;
     }
     let mut recipe = [0u8; files::RECIPE];
-    let read = files::read(&rt, 1, &mut recipe);
-    let FileAnswer::Bytes(n) = read else {
+    let Some(n) = files::read(&rt, 1, &mut recipe) else {
         return;
     };
-    let n = files::at_most(n, &recipe);
     derive(&rt, &recipe[..n]);
 }

@@ -5,7 +5,7 @@
 // room for 43,690 records.
 #![tactic(auto)]
 
-use files::{RunFiles, answers, at_most, choice_file};
+use files::{answers, choice_file};
 use guard::Guarded;
 use std::env::Env;
 use std::fs::Files;
@@ -27,34 +27,28 @@ fn guarded(rt: &(impl Env + Files + Print + Eprint), recipe: &[u8], sheet: &[u8]
         &mut scratch,
     );
     match answer {
-        Guarded::Held => answers::say(rt, b"held\n"),
-        Guarded::Refused(k) => answers::refused(rt, k),
-        Guarded::Ended {
-            end,
-            steps,
-            records,
-        } => answers::save(rt, 4, &log, end, steps, records),
+        Ok(Guarded::Ended(ran)) => {
+            answers::save(rt, 4, &log, u8::from(ran.end), ran.steps, ran.records)
+        }
+        Ok(Guarded::Held) => answers::say(rt, b"held\n"),
+        Err(refusal) => answers::refused(rt, refusal),
     }
 }
 
 fn main(rt: HostRuntime) {
-    if !files::has_arguments(&rt, 5, b"usage: guarded RECIPE SHEET CHOICES LOG\n") {
+    if !files::has_arguments(&rt, 5, "usage: guarded RECIPE SHEET CHOICES LOG\n") {
         return;
     }
     let mut recipe = [0u8; files::RECIPE];
     let mut sheet = [0u8; files::SHEET];
     let mut file: [u8; files::CHOICES] = files::zeros();
-    let read = files::read_run(&rt, &mut recipe, &mut sheet, &mut file);
-    let RunFiles::Read {
-        recipe: n,
-        sheet: k,
-        choices: c,
-    } = read
-    else {
+    let Some(n) = files::read_run(&rt, &mut recipe, &mut sheet, &mut file) else {
         return;
     };
-    let n = at_most(n, &recipe);
-    let k = at_most(k, &sheet);
-    let c = at_most(c, &file);
-    guarded(&rt, &recipe[..n], &sheet[..k], &file[..c]);
+    guarded(
+        &rt,
+        &recipe[..n.recipe],
+        &sheet[..n.sheet],
+        &file[..n.choices],
+    );
 }

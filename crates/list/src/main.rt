@@ -2,12 +2,11 @@
 // the analysis writes for it, or the refusal.
 #![tactic(auto)]
 
-use analysis::Derived;
 use files::answers::say;
 
-fn refused(rt: &impl Print, n: u8) {
+fn refused(rt: &impl Print, number: u8) {
     let mut out = [0u8; listing::TEXT];
-    let k = listing::refusal(n, &mut out);
+    let k = listing::refusal(number, &mut out);
     say(rt, &out[..k]);
 }
 
@@ -22,10 +21,9 @@ fn written(rt: &impl Print, condition: &[u8], n: usize) {
 fn listed(rt: &impl Print, recipe: &[u8]) {
     let mut condition = [0u8; analysis::CONDITION];
     let mut scratch = [0u64; analysis::SCRATCH];
-    let r = analysis::derive(recipe, &mut condition, &mut scratch);
-    match r {
-        Derived::Refused(n) => refused(rt, n),
-        Derived::Written(n) => written(rt, &condition, n),
+    match analysis::derive(recipe, &mut condition, &mut scratch) {
+        Ok(n) => written(rt, &condition, n),
+        Err(refusal) => refused(rt, u8::from(refusal)),
     }
 }
 
