@@ -5,14 +5,13 @@ use mathlib.Core.List.{List, []}
 use Prim.Native.Nat.{ℕ}
 use Rattle.model.specs.Lists.{every}
 use Rattle.model.specs.Procedures.{open_after, all_closed, Parts, between, parts_from, parts_right_lem}
-use Rattle.model.specs.Program.{Layout as Sections, Outline, layout_of, items_of, read_outline}
+use Rattle.model.specs.Program.{Outline, items_of, read_outline}
 use Rattle.model.specs.Program.{sections_right, counts_right_lem, types_right_lem, form_right_lem, types_agree_lem, immediate_right_lem}
 use Rattle.model.specs.Refusals.{Out, ok, refused, ◌>>=◌, mapped, check}
 use Rattle.model.specs.Refusals.{wrong_sections, too_many_entries, wrong_types, wrong_statement, types_disagree, wrong_immediate, wrong_procedures}
 use Rattle.model.proofs.Basics.Results.{check-mapped, mapped-check, refused-ok}
 use Rattle.std.specs.Prelude.{Option, Some, None, Ok}
 use Rattle.std.specs.Option.{ok_or}
-use Rattle.std.proofs.Common.{true≢false}
 use Rattle.refusals.specs.declared.Refusal.{Refusal}
 use Rattle.program.specs.Reading.{tables_of, procedure_checks, table_checks}
 
@@ -37,9 +36,9 @@ taken_of None f a h = cc
 taken_of (Some b) f a h = cc
 
 -- where a test has refused, it refuses whatever follows it
-pub handed_on : {A : Type 0} (b : Bool) (n m : ℕ) (y : A) (o : Out A) → refused m ≡ check b n (ok y) → refused m ≡ check b n o
-handed_on true n m y o h = let z : true ≡ false = cc in absurd (true≢false z)
-handed_on false n m y o h = h
+pub handed_on : {A B : Type 0} (b : Bool) (n m : ℕ) (y : A) (o : Out B) → refused m ≡ check b n (ok y) → refused m ≡ check b n o
+handed_on true n m y o h = absurd (refused-ok m y h)
+handed_on false n m y o h = ap refused (check-number false n m y h)
 
 -- ---- the whole
 
@@ -52,11 +51,11 @@ bind_same : {A B : Type 0} (o : Out A) (f g : A → Out B) → ((a : A) → f a 
 bind_same (ok a) f g h = h a
 bind_same (refused n) f g h = refl
 
-pub by_checks : (s : List ℕ) → mapped (λ O. layout_of s) (read_outline s) ≡ check (sections_right s) wrong_sections (table_checks s)
+pub by_checks : (s : List ℕ) → mapped (λ O. s) (read_outline s) ≡ check (sections_right s) wrong_sections (table_checks s)
 unfolding read_outline
 by_checks s =
     let T = tables_of s in
-    let g : Outline → Sections = λ O. layout_of s in
+    let g : Outline → List ℕ = λ O. s in
     let form = every (form_right_lem T) T.statements in
     let agree = every (types_agree_lem T) T.statements in
     let inside = every (immediate_right_lem T) T.statements in
@@ -68,7 +67,7 @@ by_checks s =
     let in₅ = check form wrong_statement in₆ in
     let in₄ = check (types_right_lem T) wrong_types in₅ in
     let in₁₆ = mapped_bind g (parts_from 0 [] between (items_of T)) right
-    ∙ bind_same (parts_from 0 [] between (items_of T)) (λ P. mapped g (right P)) (λ P. check (parts_right_lem P) wrong_procedures (ok (layout_of s)))
+    ∙ bind_same (parts_from 0 [] between (items_of T)) (λ P. mapped g (right P)) (λ P. check (parts_right_lem P) wrong_procedures (ok s))
     (λ P. mapped-check g (parts_right_lem P) wrong_procedures (record { tables = T; parts = P })) in
     let in₈ = mapped_bind g (open_after [] (items_of T) >>= all_closed) (λ none. parts)
     ∙ bind_same (open_after [] (items_of T) >>= all_closed) (λ none. mapped g parts) (λ none. procedure_checks s) (λ none. in₁₆) in

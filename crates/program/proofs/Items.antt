@@ -13,8 +13,7 @@ use Rattle.model.specs.Procedures.{own, procedure, call, begins_none, calls_befo
 use Rattle.model.specs.Program.{Statement, Tables, stmt_of, arguments_of, listed_of, item_of, items_of, meaning_of}
 use Rattle.model.proofs.Files.KindNumbers.{IsNumber, kind-number, operation-most}
 use Rattle.program.specs.Numbers.{if_kind, else_kind, while_kind, procedure_kind, call_kind}
-use Rattle.program.specs.Reading.{statement_of, no_statement, Sized}
-use Rattle.program.specs.declared.Layout.{Layout}
+use Rattle.program.specs.Reading.{statement_of, no_statement}
 
 -- ---- those of kinds 0 to 14
 
@@ -141,8 +140,8 @@ pub item_at_lem : (T : Tables) (i : ℕ) → get_or (items_of T) i (own end) ≡
 unfolding item_of stmt_of kind_of
 item_at_lem T i = get_or-map (item_of T) T.statements i no_statement
 
-pub items_length : (T : Tables) (L : Layout) → Sized T L → length (items_of T) ≡ L.statements
-items_length T L h = length-map T.statements (item_of T) ∙ h.statements
+pub items_length : (T : Tables) → length (items_of T) ≡ length T.statements
+items_length T = length-map T.statements (item_of T)
 
 -- ---- whether it begins a procedure
 

@@ -53,6 +53,10 @@ module _ (s : List ℕ) (L : Layout) (h : Placed s L) where
     statements = rw statements-are (length-entries statement_at statement_size s L.statements L.statements_at);
   }
 
+  -- a statement of the table lies in the section
+  pub inside_section : (v : List ℕ) → s ≡ v → (i : ℕ) → i < length (tables_of v).statements → i < L.statements
+  inside_section v e i k = rw (← sized.statements, e) k
+
   pub array_in : (x : ℕ) → x < L.arrays → array_of (tables_of s) x ≡ array_at s (L.arrays_at + array_size * x)
   array_in x k = rw arrays-are (entries-get_or array_at array_size s L.arrays L.arrays_at x _ k)
 

@@ -7,8 +7,7 @@ use Rattle.model.specs.Code.{plain, if, else, end, while}
 use Rattle.model.specs.Procedures.{Item, own, procedure, call, Procedure, Parts, between, parts_from, named, owns, calls_before_lem}
 use Rattle.model.specs.Program.{Tables, items_of}
 use Rattle.program.specs.Numbers.{procedure_kind}
-use Rattle.program.specs.Reading.{statement_of, tables_of, Placed}
-use Rattle.program.specs.declared.Layout.{Layout}
+use Rattle.program.specs.Reading.{statement_of, tables_of}
 use Rattle.program.specs.declared.procedures.Main.{Main}
 
 -- the statement with a label; past the last one an end
@@ -18,23 +17,20 @@ item_at T i = get_or (items_of T) i (own end)
 -- ---- what the functions are given
 
 -- a procedure begins at a label of a program with no more statements than may be
-pub record Begins (s : List ℕ) (L : Layout) (begin : ℕ) : Type 0 where
-  pub placed : Placed s L
-  pub few : L.statements ≤ most_statements
-  pub label : begin < L.statements
+pub record Begins (s : List ℕ) (begin : ℕ) : Type 0 where
+  pub few : length (tables_of s).statements ≤ most_statements
+  pub label : begin < length (tables_of s).statements
   pub kind : (statement_of (tables_of s) begin).kind ≡ procedure_kind
 
 -- two labels of a program, one behind the other
-pub record Stretched (s : List ℕ) (L : Layout) (begin end : ℕ) : Type 0 where
-  pub placed : Placed s L
+pub record Stretched (s : List ℕ) (begin end : ℕ) : Type 0 where
   pub later : begin < end
-  pub inside : end ≤ L.statements
+  pub inside : end ≤ length (tables_of s).statements
 
 -- a table has room for the procedures of a program with no more statements than may be
-pub record Tabled (s : List ℕ) (L : Layout) (table : List ℕ) : Type 0 where
-  pub placed : Placed s L
-  pub few : L.statements ≤ most_statements
-  pub room : L.statements ≤ length table
+pub record Tabled (s table : List ℕ) : Type 0 where
+  pub few : length (tables_of s).statements ≤ most_statements
+  pub room : length (tables_of s).statements ≤ length table
 
 -- ---- one procedure
 
@@ -108,8 +104,8 @@ abbrev pub PartsBy : Tables → List ℕ → Option Main → Type 0
 PartsBy T t (Some m) = PartsAre T t m.label m.procedures
 PartsBy T t None = parts_from 0 [] between (items_of T) ≡ refused wrong_procedures
 
--- the parts of a program that is placed, in a table that has room for them
-pub record PartsListed (s t : List ℕ) (L : Layout) (m : Main) : Type 0 where
-  pub placed : Placed s L
-  pub room : L.statements ≤ length t
+-- the parts of a program with no more statements than may be, in a table that has room for them
+pub record PartsListed (s t : List ℕ) (m : Main) : Type 0 where
+  pub few : length (tables_of s).statements ≤ most_statements
+  pub room : length (tables_of s).statements ≤ length t
   pub parts : PartsAre (tables_of s) t m.label m.procedures

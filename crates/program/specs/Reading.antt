@@ -28,18 +28,22 @@ layout_from L = record {
   statements = L.statements;
 }
 
--- the reader's answer: where the sections are, or the number of the refusal
-abbrev pub program_answer : Result Layout Refusal → Out Sections
-program_answer r = out_of layout_from r
+-- the reader's answer: the program, or the number of the refusal
+abbrev pub program_answer : Result (List ℕ) Refusal → Out (List ℕ)
+program_answer r = out_of (λ s. s) r
+
+-- the answer to the section table: where the sections are, or the number of the refusal
+abbrev pub layout_answer : Result Layout Refusal → Out Sections
+layout_answer r = out_of layout_from r
 
 -- the answer of checks: that they pass, and then o, or the number of the refusal
-abbrev pub followed : Result (Unit {0}) Refusal → Out Sections → Out Sections
+abbrev pub followed : Result (Unit {0}) Refusal → Out (List ℕ) → Out (List ℕ)
 followed (Ok u) o = o
 followed (Err r) o = refused (number_of r)
 
--- the same of the last checks: the byte string's own layout follows
-abbrev pub checks_answer : List ℕ → Result (Unit {0}) Refusal → Out Sections
-checks_answer s r = followed r (ok (layout_of s))
+-- the same of the last checks: the program follows
+abbrev pub checks_answer : List ℕ → Result (Unit {0}) Refusal → Out (List ℕ)
+checks_answer s r = followed r (ok s)
 
 -- the pair that stands at a place: two numbers of 4 bytes
 pub record PairIs (p : Pair) (s : List ℕ) (place : ℕ) : Type 0 where
@@ -96,7 +100,7 @@ abbrev pub form_checked : Tables → ℕ → Out Statement
 form_checked T i = check (form_right_lem T (statement_of T i)) wrong_statement (ok (statement_of T i))
 
 -- checks 5, 6 and 7, each over all statements, and then o
-abbrev pub statement_checks : List ℕ → Out Sections → Out Sections
+abbrev pub statement_checks : List ℕ → Out (List ℕ) → Out (List ℕ)
 statement_checks s o =
     let T = tables_of s in
     check (every (form_right_lem T) T.statements) wrong_statement
@@ -104,15 +108,15 @@ statement_checks s o =
     (check (every (immediate_right_lem T) T.statements) wrong_immediate o))
 
 -- check 16
-abbrev pub procedure_checks : List ℕ → Out Sections
-procedure_checks s = parts_from 0 [] between (items_of (tables_of s)) >>= λ P. check (parts_right_lem P) wrong_procedures (ok (layout_of s))
+abbrev pub procedure_checks : List ℕ → Out (List ℕ)
+procedure_checks s = parts_from 0 [] between (items_of (tables_of s)) >>= λ P. check (parts_right_lem P) wrong_procedures (ok s)
 
 -- checks 8 and 16
-abbrev pub block_checks : List ℕ → Out Sections
+abbrev pub block_checks : List ℕ → Out (List ℕ)
 block_checks s = open_after [] (items_of (tables_of s)) >>= all_closed >>= λ none. procedure_checks s
 
 -- checks 3 to 8 and 16
-abbrev pub table_checks : List ℕ → Out Sections
+abbrev pub table_checks : List ℕ → Out (List ℕ)
 table_checks s =
     let T = tables_of s in
     check (counts_right_lem T) too_many_entries (check (types_right_lem T) wrong_types (statement_checks s (block_checks s)))
@@ -133,8 +137,7 @@ pub record Placed (s : List ℕ) (L : Layout) : Type 0 where
   pub statements : L.statements_at + statement_size * L.statements ≤ length s
   pub small : length s ≤ most_program
 
--- the reader has passed the program, and the layout is its own
-pub record ProgramIsRead (s : List ℕ) (L : Layout) : Type 0 where
+-- the reader has passed the program
+pub record ProgramIsRead (s : List ℕ) : Type 0 where
   pub outline : Outline
   pub read : read_outline s ≡ ok outline
-  pub placed : Placed s L

@@ -3,12 +3,12 @@
 ghost use Rattle.std.specs.Prelude.{◌≡◌, ◌&&◌, ◌<◌, eqb, ltb, length, get_or, take, drop};
 ghost use Rattle.model.specs.Lists.{every};
 ghost use Rattle.model.specs.Bytes.{bytes4};
-ghost use Rattle.model.specs.Program.{Tables, beginnings, beginning_of, unused, procedure_form_lem, call_form_lem, all_alike, call_alike};
+ghost use Rattle.model.specs.Program.{beginnings, beginning_of, unused, procedure_form_lem, call_form_lem, all_alike, call_alike};
 ghost use Rattle.program.specs.Numbers.{procedure_kind};
-ghost use Rattle.program.specs.Reading.{entry_of, tables_of, Placed, Sized};
+ghost use Rattle.program.specs.Reading.{entry_of, tables_of};
 
 use super::statements::PROCEDURE;
-use super::{Entry, Layout, kind_at, statement, variable_type};
+use super::{Entry, Program};
 
 // the parameters of a procedure at the most: as many as an immediate has bytes
 pub const MOST_PARAMETERS: usize = 4;
@@ -16,18 +16,17 @@ pub const MOST_PARAMETERS: usize = 4;
 // ---- procedures by number, and arguments
 
 // The beginning of the procedure with a number, by order of appearance; past the last one an entry of zeros.
-pub fn beginning(program: &[u8], layout: Layout, p: usize) -> Entry
-    requires { Placed program.now layout }
+pub fn beginning(program: &Program, p: usize) -> Entry
     ensures { (entry_of result ≡ beginning_of (tables_of program.now) p)
         × (eqb result.kind procedure_kind ≡ ltb p (length (beginnings (tables_of program.now).statements))) }
 {
     let mut left = p;
-    for i in 0..layout.statements {
-        if kind_at(program, layout, i) != PROCEDURE {
+    for i in 0..program.statements() {
+        if program.kind_at(i) != PROCEDURE {
             continue;
         }
         if left == 0 {
-            return statement(program, layout, i);
+            return program.statement(i);
         }
         left -= 1;
     }
@@ -57,13 +56,13 @@ pub fn argument(imm: u64, j: usize) -> u64
 
 // The beginning of a procedure: its parameters, and its own variables, which there are.
 #[tactic(auto, unfolding(model::specs::Program::procedure_form_lem))]
-pub fn procedure_form(layout: Layout, q: Entry) -> bool
-    ensures { (T : Tables) → Sized T layout → result ≡ procedure_form_lem T (entry_of q) }
+pub fn procedure_form(program: &Program, q: Entry) -> bool
+    ensures { result ≡ procedure_form_lem (tables_of program.now) (entry_of q) }
 {
     let params = q.a as usize;
     let first = q.b as usize;
     let count = q.c as usize;
-    params <= MOST_PARAMETERS && first + count <= layout.variables && q.imm == 0
+    params <= MOST_PARAMETERS && first + count <= program.variables() && q.imm == 0
 }
 
 // Whether the first n bytes of an immediate are variables, and the others zero.
@@ -81,12 +80,11 @@ fn arguments_right(imm: u64, n: usize, variables: usize) -> bool
 }
 
 // A call: its target, a procedure that there is, and in the immediate the arguments, with zeros after them.
-pub fn call_form(program: &[u8], layout: Layout, q: Entry) -> bool
-    requires { Placed program.now layout }
+pub fn call_form(program: &Program, q: Entry) -> bool
     ensures { result ≡ call_form_lem (tables_of program.now) (entry_of q) }
 {
-    let v = layout.variables;
-    let begun = beginning(program, layout, q.b as usize);
+    let v = program.variables();
+    let begun = beginning(program, q.b as usize);
     (q.a as usize) < v
         && begun.kind == PROCEDURE
         && q.c == 0
@@ -96,13 +94,13 @@ pub fn call_form(program: &[u8], layout: Layout, q: Entry) -> bool
 // ---- check 6
 
 // Whether the first n bytes of an immediate are variables of the types of those from x on.
-fn arguments_agree(program: &[u8], layout: Layout, imm: u64, n: usize, x: usize) -> bool
-    requires { Placed program.now layout × (x < 256) }
+fn arguments_agree(program: &Program, imm: u64, n: usize, x: usize) -> bool
+    requires { x < 256 }
     ensures { result ≡ all_alike (tables_of program.now) (take n (bytes4 imm)) x }
 {
     for j in 0..n.min(MOST_PARAMETERS) {
-        let given = variable_type(program, layout, argument(imm, j) as usize);
-        if given != variable_type(program, layout, x + j) {
+        let given = program.variable_type(argument(imm, j) as usize);
+        if given != program.variable_type(x + j) {
             return false;
         }
     }
@@ -111,18 +109,16 @@ fn arguments_agree(program: &[u8], layout: Layout, imm: u64, n: usize, x: usize)
 
 // The arguments of a call have their parameters' types and the target the result's. A call of a procedure with no own
 // variables, or fewer than its parameters, is passed over.
-pub fn call_agrees(program: &[u8], layout: Layout, q: Entry) -> bool
-    requires { Placed program.now layout }
+pub fn call_agrees(program: &Program, q: Entry) -> bool
     ensures { result ≡ call_alike (tables_of program.now) (entry_of q) }
 {
-    let begun = beginning(program, layout, q.b as usize);
+    let begun = beginning(program, q.b as usize);
     let params = begun.a as usize;
     let first = begun.b as usize;
     let count = begun.c as usize;
     if count == 0 || count < params {
         return true;
     }
-    arguments_agree(program, layout, q.imm, params, first)
-        && variable_type(program, layout, q.a as usize)
-            == variable_type(program, layout, first + count - 1)
+    arguments_agree(program, q.imm, params, first)
+        && program.variable_type(q.a as usize) == program.variable_type(first + count - 1)
 }

@@ -1,14 +1,14 @@
 // The blocks, met from the first statement to the last, with procedures, which do not count: check 8 of a program file.
-ghost use Rattle.std.specs.Prelude.{◌≡◌, ◌∷◌, ◌≤◌, ◌<◌, ltb};
+ghost use Rattle.std.specs.Prelude.{◌≡◌, ◌∷◌, ◌≤◌, ◌<◌, ltb, length};
 ghost use Rattle.model.specs.Sizes.{most_nested, most_statements};
 ghost use Rattle.model.specs.Refusals.{ok};
 ghost use Rattle.model.specs.Procedures.{procedure_block, opening, turning, closing, passing};
 ghost use Rattle.model.specs.Program.{Statement, Tables, item_of};
 ghost use Rattle.program.specs.OpenBlocks.{block_of, blocks_of, passed_of, Packed, Opens, PackedIf, NestingIs};
-ghost use Rattle.program.specs.Reading.{tables_of, Placed};
+ghost use Rattle.program.specs.Reading.{tables_of};
 
+use super::Program;
 use super::statements::{CALL, ELSE, IF, PROCEDURE, WHILE};
-use super::{Layout, kind_at};
 
 // the blocks that may be open at once
 const MOST_NESTED: usize = 4;
@@ -138,8 +138,8 @@ fn pass_statement(blocks: Open, kind: u8) -> Option<Open>
 // ---- check 8
 
 // From the first statement to the last: every block that is opened is closed, and at the end none is open.
-pub fn nesting_right(program: &[u8], layout: Layout) -> Option<Blocks>
-    requires { Placed program.now layout × (layout.statements ≤ most_statements) }
+pub fn nesting_right(program: &Program) -> Option<Blocks>
+    requires { length (tables_of program.now).statements ≤ most_statements }
     ensures { NestingIs (tables_of program.now) result }
 {
     let mut blocks = Open {
@@ -148,8 +148,8 @@ pub fn nesting_right(program: &[u8], layout: Layout) -> Option<Blocks>
         word: 0,
     };
     let mut found = Blocks::Plain;
-    for i in 0..layout.statements {
-        let kind = kind_at(program, layout, i);
+    for i in 0..program.statements() {
+        let kind = program.kind_at(i);
         if kind == PROCEDURE {
             found = Blocks::WithProcedures;
         }

@@ -8,7 +8,7 @@ ghost use Rattle.model.specs.Bytes.{bytes4};
 ghost use Rattle.model.specs.Procedures.{named, owns, calls_before_lem, procedure_right_lem, procedures_right_lem, apart, all_apart_lem, spares, parts_right_lem};
 ghost use Rattle.model.specs.Program.{Tables, arguments_of, item_of, items_of};
 ghost use Rattle.program.specs.Parts.{Stretched, begin_in, procedure_between, body_right_lem, procedure_in_lem, procedures_in, parts_in, PartsListed};
-ghost use Rattle.program.specs.Reading.{entry_of, statement_of, tables_of, Placed};
+ghost use Rattle.program.specs.Reading.{entry_of, statement_of, tables_of};
 ghost use Rattle.program.specs.Names.{most_names, names_of, within, NamesAre};
 
 use super::calls::{MOST_PARAMETERS, argument, beginning};
@@ -16,7 +16,7 @@ use super::procedures::Main;
 use super::statements::{
     ADD, CALL, CONVERSION, COPY, DIV, IF, LOAD, MUL, NUMBER, READ, SITE, STORE, SUB, WHILE,
 };
-use super::{Entry, Layout, statement};
+use super::{Entry, Program};
 
 // the most variables that a statement names: the target of a call and its arguments
 const MOST_NAMES: usize = 5;
@@ -51,11 +51,10 @@ fn few(count: usize, first: u8, second: u8, third: u8) -> Names
 }
 
 // The target of a call and its arguments.
-fn call_names(program: &[u8], layout: Layout, q: Entry) -> Names
-    requires { Placed program.now layout }
+fn call_names(program: &Program, q: Entry) -> Names
     ensures { NamesAre result (q.a ∷ arguments_of (tables_of program.now) (entry_of q)) }
 {
-    let begun = beginning(program, layout, q.b as usize);
+    let begun = beginning(program, q.b as usize);
     let imm = q.imm;
     Names {
         count: (begun.a as usize).min(MOST_PARAMETERS) + 1,
@@ -70,8 +69,7 @@ fn call_names(program: &[u8], layout: Layout, q: Entry) -> Names
 }
 
 // By kind.
-fn names_of(program: &[u8], layout: Layout, q: Entry) -> Names
-    requires { Placed program.now layout }
+fn names_of(program: &Program, q: Entry) -> Names
     ensures { NamesAre result (named (item_of (tables_of program.now) (entry_of q))) }
 {
     match q.kind {
@@ -80,7 +78,7 @@ fn names_of(program: &[u8], layout: Layout, q: Entry) -> Names
         ADD | SUB | MUL | DIV => few(3, q.a, q.b, q.c),
         LOAD => few(2, q.a, q.c, 0),
         STORE => few(2, q.b, q.c, 0),
-        CALL => call_names(program, layout, q),
+        CALL => call_names(program, q),
         _ => few(0, 0, 0, 0),
     }
 }
@@ -111,14 +109,14 @@ fn calls_before(q: Entry, n: usize) -> bool
 }
 
 // The statements of procedure number n use its own variables only, and call earlier procedures only.
-fn body_right(program: &[u8], layout: Layout, begin: usize, end: usize, n: usize) -> bool
-    requires { Stretched program.now layout begin end }
+fn body_right(program: &Program, begin: usize, end: usize, n: usize) -> bool
+    requires { Stretched program.now begin end }
     ensures { result ≡ body_right_lem n (procedure_between (tables_of program.now) begin end) }
 {
-    let head = statement(program, layout, begin);
+    let head = program.statement(begin);
     for i in begin + 1..end {
-        let q = statement(program, layout, i);
-        let names = names_of(program, layout, q);
+        let q = program.statement(i);
+        let names = names_of(program, q);
         if !names_within(names.listed(), head.b, head.c) || !calls_before(q, n) {
             return false;
         }
@@ -128,14 +126,14 @@ fn body_right(program: &[u8], layout: Layout, begin: usize, end: usize, n: usize
 
 // Procedure number n has an own variable and as many as its parameters, uses these only and calls earlier ones only.
 #[tactic(auto, unfolding(model::specs::Procedures::procedure_right_lem))]
-fn procedure_right(program: &[u8], layout: Layout, begin: usize, end: usize, n: usize) -> bool
-    requires { Stretched program.now layout begin end }
+fn procedure_right(program: &Program, begin: usize, end: usize, n: usize) -> bool
+    requires { Stretched program.now begin end }
     ensures { result ≡ procedure_right_lem n (procedure_between (tables_of program.now) begin end) }
 {
-    let head = statement(program, layout, begin);
+    let head = program.statement(begin);
     let params = head.a;
     let count = head.c;
-    0 < count && params <= count && body_right(program, layout, begin, end, n)
+    0 < count && params <= count && body_right(program, begin, end, n)
 }
 
 // ---- the tests of all procedures, and of the statements after them
@@ -143,11 +141,10 @@ fn procedure_right(program: &[u8], layout: Layout, begin: usize, end: usize, n: 
 // A program's parts: its procedures, by their labels in a table, and the statements after them.
 #[derive(Clone, Copy)]
 struct Parts<'a> {
-    program: &'a [u8],
-    layout: Layout,
+    program: &'a Program<'a>,
     table: &'a [u64],
     main: Main,
-    ghost listed: { PartsListed program.now table.now layout main },
+    ghost listed: { PartsListed program.now table.now main },
 }
 
 impl Parts<'_> {
@@ -159,7 +156,7 @@ impl Parts<'_> {
         for p in 0..self.main.procedures {
             let begin = self.table[2 * p] as usize;
             let end = self.table[2 * p + 1] as usize;
-            if !procedure_right(self.program, self.layout, begin, end, p) {
+            if !procedure_right(self.program, begin, end, p) {
                 return false;
             }
         }
@@ -172,7 +169,7 @@ impl Parts<'_> {
         ensures { entry_of result ≡ statement_of (parts_tables self.now) (begin_in self.now.table.now p) }
     {
         let begin = self.table[2 * p] as usize;
-        statement(self.program, self.layout, begin)
+        self.program.statement(begin)
     }
 
     // Whether the procedure with a number shares no variable with a later one.
@@ -225,9 +222,9 @@ impl Parts<'_> {
     fn main_spared(&self) -> bool
         ensures { result ≡ every (spares (parts_procedures self.now)) (drop self.now.main.label (items_of (parts_tables self.now))) }
     {
-        for i in self.main.label..self.layout.statements {
-            let q = statement(self.program, self.layout, i);
-            let names = names_of(self.program, self.layout, q);
+        for i in self.main.label..self.program.statements() {
+            let q = self.program.statement(i);
+            let names = names_of(self.program, q);
             if !self.names_spared(names.listed()) {
                 return false;
             }
@@ -248,13 +245,12 @@ fn are_apart(q: Entry, r: Entry) -> bool
 // ---- check 16 of the procedures
 
 #[tactic(auto, unfolding(model::specs::Procedures::parts_right_lem))]
-pub fn parts_right(program: &[u8], layout: Layout, table: &[u64], main: Main) -> bool
-    requires { PartsListed program.now table.now layout main }
+pub fn parts_right(program: &Program, table: &[u64], main: Main) -> bool
+    requires { PartsListed program.now table.now main }
     ensures { result ≡ parts_right_lem (parts_in (tables_of program.now) table.now main.label main.procedures) }
 {
     let parts = Parts {
         program,
-        layout,
         table,
         main,
     };

@@ -5,11 +5,11 @@ ghost use Rattle.model.specs.Sizes.{section_table, pair_size_lem, array_size};
 ghost use Rattle.model.specs.Refusals.{ok, check, wrong_sections};
 ghost use Rattle.model.specs.Bytes.{u32_at, pair_at, part, entries};
 ghost use Rattle.model.specs.Lists.{every};
-ghost use Rattle.model.specs.Program.{Tables, array_at, layout_of, sections_in, sections_right, counts_right_lem, type_right, array_right_lem, types_right_lem};
+ghost use Rattle.model.specs.Program.{array_at, layout_of, sections_in, sections_right, counts_right_lem, type_right, array_right_lem, types_right_lem};
 ghost use Rattle.model.specs.OldForm.{most_old, old_field_size};
-ghost use Rattle.program.specs.Reading.{program_answer, PairIs, section_of, InFourBytes, whole_entries, tables_of, Placed, Sized};
+ghost use Rattle.program.specs.Reading.{layout_answer, PairIs, section_of, InFourBytes, whole_entries, tables_of};
 
-use super::{ARRAY_SIZE, FIELD_SIZE, Layout, MOST_STATEMENTS, STATEMENT_SIZE};
+use super::{ARRAY_SIZE, FIELD_SIZE, Layout, MOST_STATEMENTS, Program, STATEMENT_SIZE};
 use refusals::Refusal;
 
 const SECTIONS: usize = 4;
@@ -83,7 +83,7 @@ fn section_at(program: &[u8], place: usize, start: usize) -> Result<Pair, Refusa
 // The layout that the section table gives, if the sections are whole entries, a field's of this size.
 fn read_layout(program: &[u8], entry: usize) -> Result<Layout, Refusal>
     requires { (section_table ≤ length program.now) × (0 < entry) }
-    ensures { program_answer result ≡ check (whole_entries entry program.now) wrong_sections (ok (layout_of program.now)) }
+    ensures { layout_answer result ≡ check (whole_entries entry program.now) wrong_sections (ok (layout_of program.now)) }
 {
     let fields = pair_at(program, FIELDS_PAIR);
     let variables = pair_at(program, VARIABLES_PAIR);
@@ -110,7 +110,7 @@ fn read_layout(program: &[u8], entry: usize) -> Result<Layout, Refusal>
 // The section table of a file of at most so many bytes: each section starts where the one before ends, and the last ends the file.
 fn read_table(program: &[u8], most: usize, entry: usize) -> Result<Layout, Refusal>
     requires { 0 < entry }
-    ensures { program_answer result ≡ check (sections_in most entry program.now) wrong_sections (ok (layout_of program.now)) }
+    ensures { layout_answer result ≡ check (sections_in most entry program.now) wrong_sections (ok (layout_of program.now)) }
 {
     if program.len() < SECTION_TABLE || most < program.len() {
         return Err(Refusal::WrongSections);
@@ -131,7 +131,7 @@ fn read_table(program: &[u8], most: usize, entry: usize) -> Result<Layout, Refus
 
 // The section table of a program.
 pub fn read_sections(program: &[u8]) -> Result<Layout, Refusal>
-    ensures { program_answer result ≡ check (sections_right program.now) wrong_sections (ok (layout_of program.now)) }
+    ensures { layout_answer result ≡ check (sections_right program.now) wrong_sections (ok (layout_of program.now)) }
 {
     read_table(program, MOST_PROGRAM, FIELD_SIZE)
 }
@@ -146,13 +146,13 @@ pub fn old_sections_right(program: &[u8]) -> bool
 // ---- check 3
 
 #[tactic(auto, unfolding(model::specs::Program::counts_right_lem))]
-pub fn counts_right(layout: Layout) -> bool
-    ensures { (T : Tables) → Sized T layout → result ≡ counts_right_lem T }
+pub fn counts_right(program: &Program) -> bool
+    ensures { result ≡ counts_right_lem (tables_of program.now) }
 {
-    layout.fields <= MOST_FIELDS
-        && layout.variables <= MOST_VARIABLES
-        && layout.arrays <= MOST_ARRAYS
-        && layout.statements <= MOST_STATEMENTS
+    program.field_count() <= MOST_FIELDS
+        && program.variables() <= MOST_VARIABLES
+        && program.arrays() <= MOST_ARRAYS
+        && program.statements() <= MOST_STATEMENTS
 }
 
 // ---- check 4
@@ -187,11 +187,12 @@ fn are_arrays(program: &[u8], at: usize, n: usize) -> bool
     true
 }
 
-pub fn types_right(program: &[u8], layout: Layout) -> bool
-    requires { Placed program.now layout }
+pub fn types_right(program: &Program) -> bool
     ensures { result ≡ types_right_lem (tables_of program.now) }
 {
-    fields::all_right(super::fields(program, layout))
-        && are_types(program, layout.variables_at, layout.variables)
-        && are_arrays(program, layout.arrays_at, layout.arrays)
+    let bytes = program.bytes;
+    let layout = program.layout;
+    fields::all_right(program.fields())
+        && are_types(bytes, layout.variables_at, layout.variables)
+        && are_arrays(bytes, layout.arrays_at, layout.arrays)
 }

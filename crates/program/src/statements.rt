@@ -1,12 +1,12 @@
 // The statements one by one: their forms, the agreement of their types and their immediates, checks 5 to 7 of a
 // program file.
-ghost use Rattle.std.specs.Prelude.{◌≡◌, true, ◌&&◌, ◌<◌, eqb, ltb};
+ghost use Rattle.std.specs.Prelude.{◌≡◌, true, ◌&&◌, List, ℕ, ◌<◌, eqb, ltb, length};
 ghost use Rattle.model.specs.Refusals.{Out};
-ghost use Rattle.model.specs.Program.{Layout as Sections, types_right_lem, form_right_lem, alike, cell_alike, types_agree_lem, immediate_right_lem};
-ghost use Rattle.program.specs.Reading.{followed, form_checked, statement_checks, entry_of, statement_from, tables_of, Placed};
+ghost use Rattle.model.specs.Program.{types_right_lem, form_right_lem, alike, cell_alike, types_agree_lem, immediate_right_lem};
+ghost use Rattle.program.specs.Reading.{followed, form_checked, statement_checks, entry_of, statement_from, tables_of};
 
 use super::calls::{call_agrees, call_form, procedure_form};
-use super::{Entry, Layout, array_type, field_type, statement, variable_type};
+use super::{Entry, Program};
 use refusals::Refusal;
 
 // the kinds of statements; those before the if are plain
@@ -64,33 +64,32 @@ fn no_immediate(q: Entry, a: usize, b: usize, c: usize) -> bool
 }
 
 // By kind: what the operands and the immediate have to be.
-fn form_right(program: &[u8], layout: Layout, q: Entry) -> bool
-    requires { Placed program.now layout }
+fn form_right(program: &Program, q: Entry) -> bool
     ensures { result ≡ form_right_lem (tables_of program.now) (entry_of q) }
 {
-    let v = layout.variables;
+    let v = program.variables();
     match q.kind {
         NUMBER => operands(q, v, 1, 1),
         COPY | CONVERSION => no_immediate(q, v, v, 1),
         ADD | SUB | MUL | DIV => no_immediate(q, v, v, v),
-        READ => no_immediate(q, v, layout.fields, 1),
-        LOAD => no_immediate(q, v, layout.arrays, v),
-        STORE => no_immediate(q, layout.arrays, v, v),
+        READ => no_immediate(q, v, program.field_count(), 1),
+        LOAD => no_immediate(q, v, program.arrays(), v),
+        STORE => no_immediate(q, program.arrays(), v, v),
         SITE | IF | WHILE => no_immediate(q, v, 1, 1),
         ELSE | END => no_immediate(q, 1, 1, 1),
-        PROCEDURE => procedure_form(layout, q),
-        CALL => call_form(program, layout, q),
+        PROCEDURE => procedure_form(program, q),
+        CALL => call_form(program, q),
         _ => false,
     }
 }
 
 // The statement with a label, if its form is right.
-fn read_statement(program: &[u8], layout: Layout, i: usize) -> Result<Entry, Refusal>
-    requires { Placed program.now layout × (i < layout.statements) }
+fn read_statement(program: &Program, i: usize) -> Result<Entry, Refusal>
+    requires { i < length (tables_of program.now).statements }
     ensures { statement_from result ≡ form_checked (tables_of program.now) i }
 {
-    let q = statement(program, layout, i);
-    if !form_right(program, layout, q) {
+    let q = program.statement(i);
+    if !form_right(program, q) {
         return Err(Refusal::WrongStatement);
     }
     Ok(q)
@@ -100,55 +99,51 @@ fn read_statement(program: &[u8], layout: Layout, i: usize) -> Result<Entry, Ref
 
 // Whether a variable and an array are of one type, and an index is of an unsigned one.
 #[tactic(auto, using(crate::proofs::statements::ByKind::unsigned_first))]
-fn cell_agrees(program: &[u8], layout: Layout, array: usize, x: usize, index: usize) -> bool
-    requires { Placed program.now layout }
+fn cell_agrees(program: &Program, array: usize, x: usize, index: usize) -> bool
     ensures { result ≡ cell_alike (tables_of program.now) array x index }
 {
-    let ty = array_type(program, layout, array);
-    variable_type(program, layout, x) == ty
-        && variable_type(program, layout, index) < UNSIGNED_CODES
+    let ty = program.array_type(array);
+    program.variable_type(x) == ty && program.variable_type(index) < UNSIGNED_CODES
 }
 
 // Whether three variables are of one type.
-fn three_agree(program: &[u8], layout: Layout, a: usize, b: usize, c: usize) -> bool
-    requires { Placed program.now layout }
+fn three_agree(program: &Program, a: usize, b: usize, c: usize) -> bool
     ensures { result ≡ (alike (tables_of program.now) b a && alike (tables_of program.now) c a) }
 {
-    let ty = variable_type(program, layout, a);
-    variable_type(program, layout, b) == ty && variable_type(program, layout, c) == ty
+    let ty = program.variable_type(a);
+    program.variable_type(b) == ty && program.variable_type(c) == ty
 }
 
 // By kind: whether the types in a statement agree, and an index is unsigned.
 #[tactic(auto, using(crate::proofs::statements::ByKind::agree_none))]
-fn types_agree(program: &[u8], layout: Layout, q: Entry) -> bool
-    requires { Placed program.now layout }
+fn types_agree(program: &Program, q: Entry) -> bool
     ensures { result ≡ types_agree_lem (tables_of program.now) (entry_of q) }
 {
     let a = q.a as usize;
     let b = q.b as usize;
     let c = q.c as usize;
     match q.kind {
-        COPY => variable_type(program, layout, b) == variable_type(program, layout, a),
-        ADD | SUB | MUL | DIV => three_agree(program, layout, a, b, c),
-        READ => field_type(program, layout, b) == variable_type(program, layout, a),
-        LOAD => cell_agrees(program, layout, b, a, c),
-        STORE => cell_agrees(program, layout, a, c, b),
-        CALL => call_agrees(program, layout, q),
+        COPY => program.variable_type(b) == program.variable_type(a),
+        ADD | SUB | MUL | DIV => three_agree(program, a, b, c),
+        READ => program.field_type(b) == program.variable_type(a),
+        LOAD => cell_agrees(program, b, a, c),
+        STORE => cell_agrees(program, a, c, b),
+        CALL => call_agrees(program, q),
         _ => true,
     }
 }
 
 // ---- check 7
 
-fn immediate_right(program: &[u8], layout: Layout, q: Entry) -> bool
-    requires { Placed program.now layout × (types_right_lem (tables_of program.now) ≡ true) }
+fn immediate_right(program: &Program, q: Entry) -> bool
+    requires { types_right_lem (tables_of program.now) ≡ true }
     ensures { result ≡ immediate_right_lem (tables_of program.now) (entry_of q) }
 {
     let a = q.a as usize;
     if q.kind != NUMBER {
         return true;
     }
-    let ty = variable_type(program, layout, a);
+    let ty = program.variable_type(a);
     let n = arith::immediate(ty, q.imm);
     arith::is_of_type(arith::range_of(ty), n)
 }
@@ -157,19 +152,19 @@ fn immediate_right(program: &[u8], layout: Layout, q: Entry) -> bool
 
 // Each statement is read by its form; of the entry that the reader gives the types and the immediate
 // are looked at. Of the three checks the first that some statement fails counts.
-pub fn statements_right(program: &[u8], layout: Layout) -> Result<(), Refusal>
-    requires { Placed program.now layout × (types_right_lem (tables_of program.now) ≡ true) }
-    ensures { (o : Out Sections) → followed result o ≡ statement_checks program.now o }
+pub fn statements_right(program: &Program) -> Result<(), Refusal>
+    requires { types_right_lem (tables_of program.now) ≡ true }
+    ensures { (o : Out (List ℕ)) → followed result o ≡ statement_checks program.now o }
 {
     let mut agree = true;
     let mut inside = true;
-    for i in 0..layout.statements {
+    for i in 0..program.statements() {
         // let .. else, and no ?: the form that document 01 names for a reader's entry (docs/DECISIONS.md).
-        let Ok(q) = read_statement(program, layout, i) else {
+        let Ok(q) = read_statement(program, i) else {
             return Err(Refusal::WrongStatement);
         };
-        agree &= types_agree(program, layout, q);
-        inside &= immediate_right(program, layout, q);
+        agree &= types_agree(program, q);
+        inside &= immediate_right(program, q);
     }
     if !agree {
         return Err(Refusal::TypesDisagree);

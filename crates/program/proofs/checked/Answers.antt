@@ -7,7 +7,6 @@ use Rattle.model.specs.Program.{counts_right_lem, types_right_lem}
 use Rattle.program.specs.Reading.{tables_of, block_checks}
 use Rattle.std.proofs.lemmas.Result.{err_from_is_err_and}
 use Rattle.program.proofs.Known.{few-entries}
-use Rattle.program.proofs.Tables.{sized}
 use Rattle.program.proofs.checked.Goals as goal
 use Rattle.program.proofs.checked.Goals.{Else-not-counts_right, Else-not-types_right}
 
@@ -16,14 +15,12 @@ bytes c = c.args.program.now
 
 pub returns-then-not-counts_right : goal.returns-then-not-counts_right
 returns-then-not-counts_right c =
-    let e = sym (c.counts_right.ensures (tables_of c.args.program.now) (sized c.args.program.now c.args.layout c.requires)) in
-    rw (e ∙ c.if-not-counts_right.true)
+    rw (sym c.counts_right.ensures ∙ c.if-not-counts_right.true)
 
 -- checks 3 and 4 have passed
 counted : (c : Else-not-counts_right) → counts_right_lem (tables_of c.args.program.now) ≡ true
 counted c =
-    sym (c.counts_right.ensures (tables_of c.args.program.now) (sized c.args.program.now c.args.layout c.requires))
-    ∙ c.if-not-counts_right.false
+    sym c.counts_right.ensures ∙ c.if-not-counts_right.false
 
 typed : (c : Else-not-types_right) → types_right_lem (tables_of (bytes c)) ≡ true
 typed c = sym c.types_right.ensures ∙ c.if-not-types_right.false
@@ -41,7 +38,7 @@ returns-in_err-statements_right c =
 pub blocks_checked-requires : goal.blocks_checked-requires
 blocks_checked-requires c =
     let s = c.args.program.now in
-    (c.requires, (few-entries s c.args.layout c.requires (counted (goal.at.blocks_checked-requires c).Else-not-counts_right)).statements)
+    (few-entries (tables_of s) (counted (goal.at.blocks_checked-requires c).Else-not-counts_right)).statements
 
 pub returns : goal.returns
 returns c =

@@ -8,15 +8,14 @@ use native.Mathlib.Omega.{arith}
 use lib.ListN.{length, get_or, drop, length-drop, drop_of_length-le}
 use lib.Seq.{drop-cons, get_or-take, get_or-drop, length-take-le}
 use Rattle.model.specs.Lists.{every}
-use Rattle.model.specs.Sizes.{most_program}
+use Rattle.model.specs.Sizes.{most_statements}
 use Rattle.model.specs.Code.{end}
 use Rattle.model.specs.Procedures.{own, Procedure, procedure_right_lem, procedures_right_lem, apart, all_apart_lem}
 use Rattle.model.specs.Program.{Tables, items_of}
 use Rattle.program.specs.Parts.{item_at, procedure_between, begin_in, end_in, PartsListed}
-use Rattle.program.specs.declared.Layout.{Layout}
+use Rattle.program.specs.Reading.{tables_of}
 use Rattle.program.specs.declared.procedures.Main.{Main}
 use Rattle.program.proofs.Listing.{no_procedure_lem}
-use Rattle.program.proofs.Tables.{sized}
 
 -- ---- the statements of a procedure
 
@@ -33,24 +32,18 @@ module _ (T : Tables) (b e : ℕ) where
 -- ---- the procedures of a table
 
 -- where a procedure of a table stands
-pub record ListedAt (t : List ℕ) (L : Layout) (p : ℕ) : Type 0 where
+pub record ListedAt (s t : List ℕ) (p : ℕ) : Type 0 where
   pub later : begin_in t p < end_in t p
-  pub inside : end_in t p < L.statements
+  pub inside : end_in t p < length (tables_of s).statements
   pub room : 2 * p + 1 < length t
-  pub small : p < most_program
+  pub small : p < most_statements
 
-pub listed_at : (s t : List ℕ) (L : Layout) (m : Main) → PartsListed s t L m → (p : ℕ) → p < m.procedures → ListedAt t L p
-listed_at s t L m h p k =
-    let z = (sized s L h.placed).statements in
+pub listed_at : (s t : List ℕ) (m : Main) → PartsListed s t m → (p : ℕ) → p < m.procedures → ListedAt s t p
+listed_at s t m h p k =
     let at = h.parts.each p k in
     let whole = h.parts.inside in
     let two = h.parts.two_each in
-    record {
-      later = at.later;
-      inside = omega (arith, at.before);
-      room = omega (arith, h.room);
-      small = omega (arith, h.placed.statements, h.placed.small);
-    }
+    record { later = at.later; inside = omega (arith, at.before); room = omega (arith, h.room); small = omega (arith, h.few) }
 
 -- ---- their tests, from number p on
 

@@ -17,8 +17,8 @@ returns-in_err-layout c =
     (handed_on (sections_right s) wrong_sections (number_of c.in_err-layout.field-0.0) (layout_of s) (table_checks s) c.in_err-layout.ensures
     ∙ sym (by_checks s))
 
-pub checked-requires : goal.checked-requires
-checked-requires c = (table-read c.args.program.now c.in_ok-layout.layout c.in_ok-layout.ensures).1
+pub invariant_of-placed : goal.invariant_of-placed
+invariant_of-placed c = (table-read c.args.program.now c.in_ok-layout.layout c.in_ok-layout.ensures).1
 
 pub returns-in_err-checked : goal.returns-in_err-checked
 returns-in_err-checked c =
@@ -31,4 +31,4 @@ pub returns : goal.returns
 returns c =
     let s = c.args.program.now in
     let read = table-read s c.in_ok-layout.layout c.in_ok-layout.ensures in
-    rw (by_checks s, read.0, read.1.layout) c.in_ok-checked.ensures
+    rw (by_checks s, read.0) c.in_ok-checked.ensures

@@ -7,7 +7,6 @@ use lib.ListN.{length}
 use Rattle.model.specs.Program.{Tables, Statement}
 use Rattle.program.specs.Numbers.{procedure_kind}
 use Rattle.program.specs.Reading.{tables_of, statement_of}
-use Rattle.program.proofs.Tables.{sized}
 use Rattle.program.proofs.calls.Beginnings.{seek_past, seek_next, seek_found, seek_none}
 use Rattle.program.proofs.calls.beginning.Goals as goal
 use Rattle.program.proofs.calls.beginning.Goals.{At-loop-i, Else-kind_at-ne-PROCEDURE, In-loop-i}
@@ -15,11 +14,8 @@ use Rattle.program.proofs.calls.beginning.Goals.{At-loop-i, Else-kind_at-ne-PROC
 abbrev tables : At-loop-i → Tables
 tables c = tables_of c.args.program.now
 
-all : (c : At-loop-i) → length (tables c).statements ≡ c.args.layout.statements
-all c = (sized c.args.program.now c.args.layout c.requires).statements
-
 in_list : (c : In-loop-i) → c.loop-i.i < length (tables (goal.at.In-loop-i c).At-loop-i).statements
-in_list c = rw (all (goal.at.In-loop-i c).At-loop-i) (omega arith)
+in_list c = omega arith
 
 -- the statement of a turn begins a procedure
 is-procedure : (c : Else-kind_at-ne-PROCEDURE) → (statement_of (tables (goal.at.Else-kind_at-ne-PROCEDURE c).At-loop-i) c.loop-i.i).kind ≡ procedure_kind
@@ -42,8 +38,8 @@ returns-then-left-eq0 c =
     let ss = (tables (goal.at.returns-then-left-eq0 c).At-loop-i).statements in
     let same = is-procedure (goal.at.returns-then-left-eq0 c).Else-kind_at-ne-PROCEDURE in
     let found = seek_found zeros ss c.args.p lp.left lp.i lp.invariant (in_list (goal.at.returns-then-left-eq0 c).In-loop-i) same c.if-left-eq0.true in
-    let kind = ap (λ (q : Statement). q.kind) c.statement.ensures ∙ same in
-    (c.statement.ensures ∙ sym found.0, eq-eqb _ _ kind ∙ sym found.1)
+    let kind = ap (λ (q : Statement). q.kind) c.statement.ensures.0 ∙ same in
+    (c.statement.ensures.0 ∙ sym found.0, eq-eqb _ _ kind ∙ sym found.1)
 
 pub loop-i-preserved : goal.loop-i-preserved
 loop-i-preserved c =
@@ -56,6 +52,6 @@ pub returns : goal.returns
 returns c =
     let lp = c.loop-i in
     let ss = (tables (goal.at.returns c).At-loop-i).statements in
-    let past : length ss ≤ lp.i = rw (all (goal.at.returns c).At-loop-i) (omega arith) in
+    let past : length ss ≤ lp.i = omega arith in
     let none = seek_none zeros ss c.args.p lp.left lp.i lp.invariant past in
     (sym none.0, ne_eqb 0 procedure_kind (λ e. absurd (omega arith)) ∙ sym none.1)

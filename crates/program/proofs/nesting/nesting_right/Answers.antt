@@ -15,7 +15,6 @@ use Rattle.program.specs.OpenBlocks.{is_plain, blocks_in, blocks_of, in_procedur
 use Rattle.program.specs.Reading.{statement_of, tables_of}
 use Rattle.program.proofs.Items.{item_at_lem, items_length, item_begins-none, item_begins-one}
 use Rattle.model.proofs.Basics.Passes.{pass_gathers, pass_gathered}
-use Rattle.program.proofs.Tables.{sized}
 use Rattle.program.proofs.nesting.Passing.{pass_on, pass_stops, pass_ends, grows_by_one}
 use Rattle.program.proofs.nesting.Words.{length-procedures, inner_open, blocks_open, none_open}
 use Rattle.program.proofs.nesting.nesting_right.Goals as goal
@@ -35,9 +34,8 @@ abbrev item : At-loop-i → Item
 item c = get_or (items c) c.loop-i.i (own end)
 
 -- ---- what is known of a turn
-all : (c : At-loop-i) → length (items c) ≡ c.args.layout.statements
-all c =
-    items_length (tables c) c.args.layout (sized c.args.program.now c.args.layout c.requires.0)
+all : (c : At-loop-i) → length (items c) ≡ length (tables c).statements
+all c = items_length (tables c)
 
 in_list : (c : In-loop-i) → c.loop-i.i < length (items (goal.at.In-loop-i c).At-loop-i)
 in_list c = omega (arith, all (goal.at.In-loop-i c).At-loop-i)

@@ -13,7 +13,6 @@ use Rattle.program.specs.Parts.{procedure_between}
 use Rattle.program.specs.Reading.{tables_of, entry_of}
 use Rattle.program.proofs.Items.{item_at_lem, items_length}
 use Rattle.model.proofs.Basics.Passes.{pass_fails, pass_goes, pass_ends}
-use Rattle.program.proofs.Tables.{sized}
 use Rattle.program.proofs.own_variables.Bodies.{body-length, body-at}
 use Rattle.program.proofs.own_variables.body_right.Invariants.{uses}
 use Rattle.program.proofs.Every.{every-is}
@@ -35,8 +34,7 @@ place c = c.loop-i.i - (c.args.begin + 1)
 all : (c : At-loop-i) → length (tested c).body ≡ c.args.end - (c.args.begin + 1)
 all c =
     let a = c.args in
-    let n = items_length (tables c) a.layout (sized a.program.now a.layout c.requires.placed) in
-    body-length (tables c) a.begin a.end (omega (arith, n, c.requires.inside))
+    body-length (tables c) a.begin a.end (omega (arith, items_length (tables c), c.requires.inside))
 
 in_list : (c : In-loop-i) → place (goal.at.In-loop-i c).At-loop-i < length (tested (goal.at.In-loop-i c).At-loop-i).body
 in_list c = rw (all (goal.at.In-loop-i c).At-loop-i) (omega arith)
@@ -44,13 +42,13 @@ in_list c = rw (all (goal.at.In-loop-i c).At-loop-i) (omega arith)
 item : (c : After-statement-q) → item_of (tables (goal.at.After-statement-q c).At-loop-i) (entry_of c.statement-q.result) ≡ get_or (tested (goal.at.After-statement-q c).At-loop-i).body (place (goal.at.After-statement-q c).At-loop-i) (own end)
 item c =
     let T = tables (goal.at.After-statement-q c).At-loop-i in
-    ap (item_of T) c.statement-q.ensures ∙ sym (item_at_lem T c.loop-i.i)
+    ap (item_of T) c.statement-q.ensures.0 ∙ sym (item_at_lem T c.loop-i.i)
     ∙ sym (body-at T c.args.begin c.args.end c.loop-i.i c.loop-i.invariant.0 (omega arith))
 
 -- the test of its variables, and of its call
 own-variables : (c : After-names_within) → c.names_within.result ≡ uses (tested (goal.at.After-names_within c).At-loop-i) (get_or (tested (goal.at.After-names_within c).At-loop-i).body (place (goal.at.After-names_within c).At-loop-i) (own end))
 own-variables c =
-    let head = c.statement-head.ensures in
+    let head = c.statement-head.ensures.0 in
     let first = ap (λ (s : Statement). s.b) head in
     let count = ap (λ (s : Statement). s.c) head in
     let names = c.listed.ensures ∙ c.names_of-names.ensures.same ∙ ap named (item (goal.at.After-names_within c).After-statement-q) in

@@ -11,16 +11,14 @@ use Rattle.model.specs.Program.{items_of}
 use Rattle.program.specs.Reading.{tables_of}
 use Rattle.program.proofs.Items.{items_length}
 use Rattle.model.proofs.Basics.Passes.{rest-fails, rest_goes, rest-ends}
-use Rattle.program.proofs.Tables.{sized}
 use Rattle.program.proofs.procedures.none_begins.Goals as goal
 use Rattle.program.proofs.procedures.none_begins.Goals.{At-loop-i, In-loop-i}
 
 abbrev items : At-loop-i → List Item
 items c = items_of (tables_of c.args.program.now)
 
-all : (c : At-loop-i) → length (items c) ≡ c.args.layout.statements
-all c =
-    items_length (tables_of c.args.program.now) c.args.layout (sized c.args.program.now c.args.layout c.requires)
+all : (c : At-loop-i) → length (items c) ≡ length (tables_of c.args.program.now).statements
+all c = items_length (tables_of c.args.program.now)
 
 in_list : (c : In-loop-i) → c.loop-i.i < length (items (goal.at.In-loop-i c).At-loop-i)
 in_list c = omega (arith, all (goal.at.In-loop-i c).At-loop-i)

@@ -7,9 +7,8 @@ use lib.ListN.{length}
 use Rattle.model.specs.Procedures.{Item, begins_none}
 use Rattle.model.specs.Program.{Tables, items_of}
 use Rattle.program.specs.Parts.{item_at, depth_after_lem}
-use Rattle.program.specs.Reading.{statement_of, tables_of, Sized}
+use Rattle.program.specs.Reading.{statement_of, tables_of}
 use Rattle.program.proofs.Items.{item_at_lem, items_length, item_begins-none}
-use Rattle.program.proofs.Tables.{sized}
 use Rattle.program.proofs.procedures.PartsFrom.{depth_grows, procedure-begins, procedure-inside, procedure-closed, procedure-goes, procedure_unclosed}
 use Rattle.program.proofs.procedures.procedure_end.Goals as goal
 use Rattle.program.proofs.procedures.procedure_end.Goals.{After-depth_after-depth, At-loop-i, Else-kind-eq-PROCEDURE, In-loop-i, Start}
@@ -17,11 +16,8 @@ use Rattle.program.proofs.procedures.procedure_end.Goals.{After-depth_after-dept
 abbrev tables : At-loop-i → Tables
 tables c = tables_of c.args.program.now
 
-counts : (c : Start) → Sized (tables_of c.args.program.now) c.args.layout
-counts c = sized c.args.program.now c.args.layout c.requires.placed
-
-all : (c : Start) → length (items_of (tables_of c.args.program.now)) ≡ c.args.layout.statements
-all c = items_length (tables_of c.args.program.now) c.args.layout (counts c)
+all : (c : Start) → length (items_of (tables_of c.args.program.now)) ≡ length (tables_of c.args.program.now).statements
+all c = items_length (tables_of c.args.program.now)
 
 in_list : (c : In-loop-i) → c.loop-i.i < length (items_of (tables (goal.at.In-loop-i c).At-loop-i))
 in_list c = omega (arith, all (goal.at.In-loop-i c).Start)
@@ -58,7 +54,7 @@ returns-then-depth-eq0 c =
     let out = sym (deep (goal.at.returns-then-depth-eq0 c).After-depth_after-depth) ∙ c.if-depth-eq0.true in
     record {
       later = lp.invariant.0;
-      inside = rw (counts (goal.at.returns-then-depth-eq0 c).Start).statements (omega arith);
+      inside = omega arith;
       read = procedure-closed (tables (goal.at.returns-then-depth-eq0 c).At-loop-i) c.args.begin lp.i lp.invariant.0 (in_list (goal.at.returns-then-depth-eq0 c).In-loop-i) lp.depth lp.invariant.1 lp.invariant.3 (none-begun (goal.at.returns-then-depth-eq0 c).Else-kind-eq-PROCEDURE) out;
     }
 

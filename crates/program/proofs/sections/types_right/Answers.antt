@@ -10,16 +10,16 @@ use Rattle.program.proofs.sections.types_right.Goals as goal
 pub returns-then-are_types : goal.returns-then-are_types
 unfolding types_right_lem
 returns-then-are_types c =
-    let a = c.args in
-    let v = variables-are a.program.now a.layout c.requires in
-    let e = every-is type_right (part a.program.now a.layout.variables_at a.layout.variables) in
-    let r = arrays-are a.program.now a.layout c.requires in
-    grind (arith, common_steps, v, e, r)
+    let r = c.program.inside in
+    let v = variables-are r.bytes.now r.layout c.program.invariant in
+    let e = every-is type_right (part r.bytes.now r.layout.variables_at r.layout.variables) in
+    let l = arrays-are r.bytes.now r.layout c.program.invariant in
+    grind (arith, common_steps, v, e, l, c.program.view_is)
 
 pub returns-else-are_types : goal.returns-else-are_types
 unfolding types_right_lem
 returns-else-are_types c =
-    let a = c.args in
-    let v = variables-are a.program.now a.layout c.requires in
-    let e = every-is type_right (part a.program.now a.layout.variables_at a.layout.variables) in
-    grind (arith, common_steps, v, e)
+    let r = c.program.inside in
+    let v = variables-are r.bytes.now r.layout c.program.invariant in
+    let e = every-is type_right (part r.bytes.now r.layout.variables_at r.layout.variables) in
+    grind (arith, common_steps, v, e, c.program.view_is)

@@ -11,7 +11,7 @@ pub returns-then-q-ne-NUMBER : goal.returns-then-q-ne-NUMBER
 returns-then-q-ne-NUMBER c = let q = c.args.q in rw (immediate-none _ (entry_of q) (omega (arith, c.if-q-ne-NUMBER.true)))
 
 pub range_of-requires : goal.range_of-requires
-range_of-requires c = rw c.variable_type-ty.ensures (type-small _ c.requires.1 _)
+range_of-requires c = rw c.variable_type-ty.ensures (type-small _ c.requires _)
 
 pub returns : goal.returns
 unfolding immediate_right_lem kind_of

@@ -11,7 +11,6 @@ use Rattle.model.specs.Refusals.{wrong_statement}
 use Rattle.program.specs.Reading.{entry_of, statement_of, no_statement, tables_of}
 use Rattle.program.proofs.Answers.{check-ok, check-refused}
 use Rattle.model.proofs.Basics.Passes.{pass_fails, pass_goes, pass_ends, pass_gathers, pass_gathered}
-use Rattle.program.proofs.Tables.{sized}
 use Rattle.refusals.specs.Answers.{number_of}
 use Rattle.program.proofs.statements.statements_right.Goals as goal
 use Rattle.program.proofs.statements.statements_right.Goals.{After-loop-i, In-loop-i, In-Ok}
@@ -31,7 +30,7 @@ entry c = statement_of (tables c) (number c)
 
 -- it is one of the list
 inside_list : (c : In-loop-i) → number c < length (tables c).statements
-inside_list c = rw (sized c.args.program.now c.args.layout c.requires.0).statements (omega arith)
+inside_list c = omega arith
 
 -- the entry that was taken is the statement's, and its form is right
 taken : (c : In-Ok) → (form_right_lem (tables (goal.at.In-Ok c).In-loop-i) (entry (goal.at.In-Ok c).In-loop-i) ≡ true) × (entry_of c.in-Ok.q ≡ entry (goal.at.In-Ok c).In-loop-i)
@@ -41,8 +40,7 @@ taken c =
 
 -- ---- after the loop
 past_list : (c : After-loop-i) → length (ended c).statements ≤ c.loop-i.i
-past_list c =
-    rw (sized c.args.program.now c.args.layout c.requires.0).statements (omega arith)
+past_list c = omega arith
 
 formed : (c : After-loop-i) → every (form_right_lem (ended c)) (ended c).statements ≡ true
 formed c =

@@ -4,9 +4,9 @@ use Rattle.program.proofs.own_variables.Bodies.{ListedAt, listed_at}
 use Rattle.program.proofs.own_variables.Parts.begun.Goals as goal
 use Rattle.program.proofs.own_variables.Parts.begun.Goals.{Start}
 
-listed : (c : Start) → let a = c.args in ListedAt a.self.now.table.now a.self.now.layout a.p
-listed c = let a = c.args in listed_at a.self.now.program.now a.self.now.table.now a.self.now.layout a.self.now.main c.args.self.now.listed a.p c.requires
+listed : (c : Start) → let a = c.args in ListedAt a.self.now.program.now a.self.now.table.now a.p
+listed c = let a = c.args in listed_at a.self.now.program.now a.self.now.table.now a.self.now.main c.args.self.now.listed a.p c.requires
 
 pub statement-requires : goal.statement-requires
 statement-requires c =
-    (c.args.self.now.listed.placed, omega (arith, (listed (goal.at.statement-requires c).Start).later, (listed (goal.at.statement-requires c).Start).inside))
+    omega (arith, (listed (goal.at.statement-requires c).Start).later, (listed (goal.at.statement-requires c).Start).inside)

@@ -13,7 +13,6 @@ use Rattle.program.specs.Parts.{item_at, procedures_in}
 use Rattle.program.specs.Reading.{tables_of}
 use Rattle.program.proofs.Items.{item_at_lem, items_length}
 use Rattle.model.proofs.Basics.Passes.{rest-fails, rest_goes, rest-ends}
-use Rattle.program.proofs.Tables.{sized}
 use Rattle.program.proofs.Every.{every-is}
 use Rattle.program.proofs.own_variables.Parts.main_spared.Goals as goal
 use Rattle.program.proofs.own_variables.Parts.main_spared.Goals.{After-names_spared, At-loop-i, In-loop-i}
@@ -24,9 +23,8 @@ tables c = tables_of c.args.self.now.program.now
 abbrev listed : At-loop-i → List Procedure
 listed c = procedures_in (tables c) c.args.self.now.table.now c.args.self.now.main.procedures
 
-all : (c : At-loop-i) → length (items_of (tables c)) ≡ c.args.self.now.layout.statements
-all c =
-    items_length (tables c) c.args.self.now.layout (sized c.args.self.now.program.now c.args.self.now.layout c.args.self.now.listed.placed)
+all : (c : At-loop-i) → length (items_of (tables c)) ≡ length (tables c).statements
+all c = items_length (tables c)
 
 in_list : (c : In-loop-i) → c.loop-i.i < length (items_of (tables (goal.at.In-loop-i c).At-loop-i))
 in_list c = rw (all (goal.at.In-loop-i c).At-loop-i) (omega arith)
@@ -34,7 +32,7 @@ in_list c = rw (all (goal.at.In-loop-i c).At-loop-i) (omega arith)
 tested : (c : After-names_spared) → c.names_spared.result ≡ spares (listed (goal.at.After-names_spared c).At-loop-i) (item_at (tables (goal.at.After-names_spared c).At-loop-i) c.loop-i.i)
 tested c =
     let T = tables (goal.at.After-names_spared c).At-loop-i in
-    let names = c.listed.ensures ∙ c.names_of-names.ensures.same ∙ ap (λ (s : Statement). named (item_of T s)) c.statement-q.ensures ∙ ap named (sym (item_at_lem T c.loop-i.i)) in
+    let names = c.listed.ensures ∙ c.names_of-names.ensures.same ∙ ap (λ (s : Statement). named (item_of T s)) c.statement-q.ensures.0 ∙ ap named (sym (item_at_lem T c.loop-i.i)) in
     c.names_spared.ensures ∙ sym (every-is _ _) ∙ ap (every (λ x. every (λ q. not (owns q x)) (listed (goal.at.After-names_spared c).At-loop-i))) names
 
 -- ---- the answers

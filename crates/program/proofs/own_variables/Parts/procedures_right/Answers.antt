@@ -25,10 +25,10 @@ all : (c : At-loop-p) → length (listed c) ≡ c.args.self.now.main.procedures
 all c = procedures-length (tables c) c.args.self.now.table.now c.args.self.now.main.procedures
 
 -- where the procedure of a turn stands
-stands : (c : In-loop-p) → ListedAt c.args.self.now.table.now c.args.self.now.layout c.loop-p.p
+stands : (c : In-loop-p) → ListedAt c.args.self.now.program.now c.args.self.now.table.now c.loop-p.p
 stands c =
     let a = c.args in
-    listed_at a.self.now.program.now a.self.now.table.now a.self.now.layout a.self.now.main c.args.self.now.listed c.loop-p.p (omega arith)
+    listed_at a.self.now.program.now a.self.now.table.now a.self.now.main c.args.self.now.listed c.loop-p.p (omega arith)
 
 -- the test of it, and of those after it
 tested : (c : After-procedure_right) → let p = c.loop-p.p in
@@ -49,7 +49,7 @@ bounds-self-p c = omega (arith, (stands (goal.at.bounds-self-p c).In-loop-p).roo
 
 pub procedure_right-requires : goal.procedure_right-requires
 procedure_right-requires c =
-    record { placed = c.args.self.now.listed.placed; later = (stands (goal.at.procedure_right-requires c).In-loop-p).later; inside = omega (arith, (stands (goal.at.procedure_right-requires c).In-loop-p).inside) }
+    record { later = (stands (goal.at.procedure_right-requires c).In-loop-p).later; inside = omega (arith, (stands (goal.at.procedure_right-requires c).In-loop-p).inside) }
 
 pub returns-then-not-procedure_right : goal.returns-then-not-procedure_right
 returns-then-not-procedure_right c =
