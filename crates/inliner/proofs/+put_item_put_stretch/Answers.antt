@@ -9,7 +9,6 @@ use Rattle.model.specs.Program.{Statement}
 use Rattle.program.specs.Numbers.{call_kind}
 use Rattle.program.specs.Reading.{tables_of, statement_of}
 use Rattle.program.proofs.Known.{counts-known}
-use Rattle.program.proofs.Tables.{sized}
 use Rattle.std.specs.Prelude.{Option, Some, None}
 use Rattle.inliner.specs.Bodies.{Callee, StretchReady, expansions_in, items_between, item_rows, stretch_rows}
 use Rattle.inliner.specs.Calling.{begin_of, end_of, call_at_lem, body_at, result_row, Leaves}
@@ -17,7 +16,7 @@ use Rattle.inliner.specs.Entering.{entries, Enters}
 use Rattle.inliner.specs.Rows.{Inlines}
 use Rattle.inliner.proofs.Writing.{SoFar, begun, more, too_long, all-written}
 use Rattle.inliner.proofs.Calls.{not_entered, inside_is, body-beyond, left}
-use Rattle.inliner.proofs.Asking.{ready_on, inside-program, listed-ready, nothing_left, item_ready, rows_more}
+use Rattle.inliner.proofs.Asking.{ready_on, listed-ready, nothing_left, item_ready, rows_more}
 use Rattle.inliner.proofs.Asking.{calls-earlier, procedure-there, callee, call-tabled, call_enters, body-ready, call_leaves}
 use Rattle.inliner.proofs.+put_item_put_stretch.Goals as goal
 use Rattle.inliner.proofs.+put_item_put_stretch.Goals.{put_item-Else-q-ne-CALL, put_item-In_ok-inside, put_item-After-put_stretch, put_item-In_ok-last}
@@ -25,18 +24,17 @@ use Rattle.inliner.proofs.+put_item_put_stretch.Goals.{put_stretch-Start, put_st
 
 pub put_item-statement-q-requires : goal.put_item-statement-q-requires
 put_item-statement-q-requires t c =
-    let a = c.args in
-    (c.requires.0.read.placed, inside-program a.program.now a.table.now a.plan a.words.now a.part a.i a.at c.requires.0 c.requires.1)
+    c.requires.1.there
 
 pub put_item-put_listed-requires : goal.put_item-put_listed-requires
 put_item-put_listed-requires t c =
     let a = c.args in
-    let kind = ap (λ (q : Statement). q.kind) c.statement-q.ensures in
+    let kind = ap (λ (q : Statement). q.kind) c.statement-q.ensures.0 in
     listed-ready a.program.now a.table.now a.plan a.words.now a.part a.i a.at c.requires.0 c.requires.1 (λ e. c.if-q-ne-CALL.true (kind ∙ e))
 
 -- it is a call
 is-call : (t : ℕ) (c : put_item-Else-q-ne-CALL t) → (statement_of (tables_of c.args.program.now) c.args.i).kind ≡ call_kind
-is-call t c = sym (ap (λ (q : Statement). q.kind) c.statement-q.ensures) ∙ c.if-q-ne-CALL.false
+is-call t c = sym (ap (λ (q : Statement). q.kind) c.statement-q.ensures.0) ∙ c.if-q-ne-CALL.false
 
 -- of a procedure that there is
 there : (t : ℕ) (c : put_item-Else-q-ne-CALL t) → (statement_of (tables_of c.args.program.now) c.args.i).b < c.args.plan.procedures
@@ -98,16 +96,15 @@ put_item-call_at-call-requires t c =
     let a = c.args in
     let ready = c.requires.0 in
     let item = c.requires.1 in
-    let few = (counts-known a.program.now a.plan.layout ready.read).variables in
-    let all = (sized a.program.now a.plan.layout ready.read.placed).variables in (
+    let few = (counts-known a.program.now ready.read).variables in (
       call-tabled a.program.now a.table.now a.plan a.words.now a.part a.i a.at ready item (is-call t (goal.at.put_item-call_at-call-requires t c).Else-q-ne-CALL),
-      omega (arith, few, all, item.writable.low, item.writable.few),
+      omega (arith, few, item.writable.low, item.writable.few),
     )
 
 pub put_item-enter-requires : goal.put_item-enter-requires
 put_item-enter-requires t c =
     let a = c.args in (
-      subst (λ q. Enters a.program.now a.plan.layout q a.at) (sym c.call_at-call.ensures)
+      subst (λ q. Enters a.program.now q a.at) (sym c.call_at-call.ensures)
           (call_enters a.program.now a.table.now a.plan a.words.now a.part a.i a.at c.requires.0 c.requires.1
           (is-call t (goal.at.put_item-enter-requires t c).Else-q-ne-CALL)),
       c.requires.0.room,
@@ -129,7 +126,7 @@ put_item-body_at-body-requires t c =
     let call = (goal.at.put_item-body_at-body-requires t c).Else-q-ne-CALL in
     record {
       calls = call-tabled a.program.now a.table.now a.plan a.words.now a.part a.i a.at c.requires.0 c.requires.1 (is-call t call);
-      variables = (counts-known a.program.now a.plan.layout c.requires.0.read).variables;
+      variables = (counts-known a.program.now c.requires.0.read).variables;
       place = c.requires.1.writable.few;
     }
 
@@ -169,7 +166,7 @@ put_item-leave-requires t c =
     let done = body-written t (goal.at.put_item-leave-requires t c).In_ok-last in
     let inside = c.in_ok-inside.inside in
     let last = c.in_ok-last.last in (
-      subst (λ q. Leaves a.program.now a.plan q a.at last) (sym c.call_at-call.ensures)
+      subst (λ q. Leaves a.program.now q a.at last) (sym c.call_at-call.ensures)
           (call_leaves a.program.now a.table.now a.plan a.words.now a.part a.i a.at c.requires.0 c.requires.1 (is-call t call) inside (entered t here).few
           (place-inside t here) last done.few (omega (arith, done.ends))),
       omega (arith, c.requires.0.room, c.enter.auto.words, c.put_stretch.auto.words),
