@@ -11,7 +11,7 @@ ghost use Rattle.code_table.specs.Table.{table_words};
 ghost use Rattle.program.specs.Reading.{ProgramIsRead};
 ghost use Rattle.widening.specs.Converting.{OldTable, Widenable, LaterPair, Widened, Room, Lent, Copied, conversion, Converts};
 
-use program::Layout;
+use program::Program;
 use refusals::Refusal;
 
 // The bytes of the longest program.
@@ -93,16 +93,12 @@ fn widen(old: &[u8], file: &mut [u8], count: usize) -> usize
 // ---- the whole
 
 // A new file that is listed is copied to the output, if it can be written out; how many bytes it has.
-fn copy_read(
-    new: &[u8],
-    layout: Layout,
-    output: &mut [u8],
-    scratch: &mut [u64],
-) -> Result<usize, Refusal>
-    requires { ProgramIsRead new.now layout × Room new.now output.old scratch.old }
-    ensures { Copied new.now result output.old output.new }
+fn copy_read(program: &Program, output: &mut [u8], scratch: &mut [u64]) -> Result<usize, Refusal>
+    requires { ProgramIsRead program.now × Room program.now output.old scratch.old }
+    ensures { Copied program.now result output.old output.new }
 {
-    inliner::load(new, layout, scratch, 0)?;
+    inliner::load(program, scratch, 0)?;
+    let new = program.bytes();
     let n = new.len();
     bytes_le::put_bytes(output, 0, new, n);
     Ok(n)
@@ -121,8 +117,8 @@ fn convert_few(
     let mut file: [u8; PROGRAM] = [0; PROGRAM];
     let n = widen(old, &mut file, count);
     let new = &file[0..n];
-    let layout = program::read(new)?;
-    copy_read(new, layout, output, &mut scratch[0..SCRATCH])
+    let program = program::read(new)?;
+    copy_read(&program, output, &mut scratch[0..SCRATCH])
 }
 
 // The new file of an old one, over the first bytes of an output of at least PROGRAM bytes, with scratch of at least SCRATCH words;
