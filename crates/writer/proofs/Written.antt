@@ -19,8 +19,7 @@ use Rattle.model.specs.Formed.{size, FileNode, Formed}
 use Rattle.bytes_le.proofs.Overlays.{stored_then}
 use Rattle.bytes_le.specs.Overlay.{overlay}
 use Rattle.program.proofs.Known.{counts-known}
-use Rattle.program.specs.Reading.{ProgramIsRead}
-use Rattle.program.specs.declared.Layout.{Layout}
+use Rattle.program.specs.Reading.{ProgramIsRead, tables_of}
 use Rattle.conjunct.specs.Word.{node_of, nodes_of_lem, file_bytes}
 
 -- ---- stores
@@ -119,8 +118,8 @@ module _ (fields : List Field) (S : Conjuncts) (h : All (Formed (types_in fields
   file-length r e = omega (arith, length-encode fields S nodes_of_file)
 
 -- a program that is read has at most 32 fields
-pub fields-few : (s : List ℕ) (L : Layout) → ProgramIsRead s L → L.fields ≤ most_fields
-fields-few s L h = (counts-known s L h).fields
+pub fields-few : (s : List ℕ) → ProgramIsRead s → length (tables_of s).fields ≤ most_fields
+fields-few s h = (counts-known s h).fields
 
 -- its five parts, stored one behind the other: c is the count of conjuncts, n that of fields, and the table has their bytes
 module _ (fields : List Field) (S : Conjuncts) (table : List ℕ) (n c : ℕ) (same : table ≡ flat_map field_bytes fields) (listed : n ≡ length fields)

@@ -10,7 +10,6 @@ use Rattle.model.specs.Sizes.{pair_size_lem, field_size, most_fields, most_nodes
 use Rattle.model.specs.Formed.{size, FileNode, Formed}
 use Rattle.bytes_le.specs.Overlay.{overlay}
 use Rattle.program.specs.Reading.{ProgramIsRead, tables_of}
-use Rattle.program.specs.declared.Layout.{Layout}
 use Rattle.sets.specs.Region.{set_of, region_words}
 
 -- the bytes of the longest conjunct, of the pairs of the largest set, and of its conjuncts
@@ -51,8 +50,8 @@ pub record ConjunctsWritten (S : Conjuncts) (a : ℕ) (before after : List ℕ) 
   pub bytes : (types : List ℕ) → All (All (FileNode types)) S → after ≡ overlay before a (flat_map conjunct_bytes S)
 
 -- what the writing of a file is given: a program that is read, the region at b of s with a set that can be written, and room
-pub record Writable (program : List ℕ) (layout : Layout) (s : List ℕ) (b : ℕ) (out : List ℕ) : Type 0 where
-  pub read : ProgramIsRead program layout
+pub record Writable (program : List ℕ) (s : List ℕ) (b : ℕ) (out : List ℕ) : Type 0 where
+  pub read : ProgramIsRead program
   pub region : b + region_words ≤ length s
   pub room : condition_bytes ≤ length out
   pub formed : All (Formed (types_in (tables_of program).fields)) (set_of s b)

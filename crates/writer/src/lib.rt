@@ -15,7 +15,7 @@ ghost use Rattle.writer.specs.Writing.{conjunct_room, pairs_room, conjuncts_room
 ghost use Rattle.writer.specs.Writing.{PairFits, SetAndRoom, ConjunctWritten, ConjunctsWritten, Writable, FileWritten};
 
 use conjunct::MOST_NODES;
-use program::Layout;
+use program::Program;
 
 // the 8 bytes of a number, from the highest on
 fn put_high_first(out: &mut [u8], a: usize, v: u64)
@@ -75,16 +75,16 @@ fn put_conjuncts(out: &mut [u8], a: usize, s: &[u64], b: usize, words: &mut [u64
 
 // The condition file of the set in the region at b of s, with the program's fields; how many bytes
 // it has.
-pub fn write(program: &[u8], layout: Layout, s: &[u64], b: usize, out: &mut [u8]) -> usize
-    requires { Writable program.now layout s.now b out.old }
+pub fn write(program: &Program, s: &[u64], b: usize, out: &mut [u8]) -> usize
+    requires { Writable program.now s.now b out.old }
     ensures { FileWritten (tables_of program.now).fields (set_of s.now b) out.old out.new result }
 {
-    let table = program::fields(program, layout);
+    let table = program.fields();
     let listed = table.len();
     let count = sets::size(s, b);
     let begin = 8 + listed + 8 * count;
     bytes_le::put_u32(out, 0, count as u64);
-    bytes_le::put_u32(out, 4, layout.fields as u64);
+    bytes_le::put_u32(out, 4, program.field_count() as u64);
     bytes_le::put_bytes(out, 8, table, listed);
     put_pairs(out, 8 + listed, s, b, begin);
     let mut words: [u64; MOST_NODES] = [0; MOST_NODES];

@@ -11,7 +11,6 @@ use Rattle.model.specs.Sizes.{field_size, most_fields}
 use Rattle.model.proofs.Files.FieldTables.{table-bytes}
 use Rattle.bytes_le.specs.Overlay.{overlay}
 use Rattle.program.specs.Reading.{tables_of}
-use Rattle.program.proofs.Tables.{sized}
 use Rattle.sets.specs.Region.{set_of}
 use Rattle.writer.proofs.Written.{fields-few, nodes_of_file, file-length, file_stored}
 use Rattle.writer.proofs.write.Goals as goal
@@ -20,7 +19,7 @@ use Rattle.writer.proofs.write.Goals.{After-fields-table}
 -- the program has at most 32 fields
 few-fields : (c : After-fields-table) → length c.fields-table.result.now ≤ field_size * most_fields
 few-fields c =
-    omega (arith, c.fields-table.ensures.1, fields-few c.args.program.now c.args.layout c.requires.read)
+    omega (arith, c.fields-table.ensures.1, fields-few c.args.program.now c.requires.read)
 
 pub put_pairs-requires : goal.put_pairs-requires
 put_pairs-requires c =
@@ -35,21 +34,20 @@ put_conjuncts-requires c =
 pub returns : goal.returns
 returns c =
     let a = c.args in
-    let placed = c.requires.read.placed in
     let fields = (tables_of a.program.now).fields in
     let S = set_of a.s.now a.b in
     let formed = c.requires.formed in
     let few = few-fields (goal.at.returns c).After-fields-table in
-    let listed : a.layout.fields ≡ length fields = sym (sized a.program.now a.layout placed).fields in
+    let listed : c.field_count.result ≡ length fields = c.field_count.ensures in
     let same : c.fields-table.result.now ≡ flat_map field_bytes fields =
-    sym (table-bytes a.layout.fields c.fields-table.result.now c.fields-table.ensures.1) ∙ ap (flat_map field_bytes) c.fields-table.ensures.0 in
+    sym (table-bytes (length fields) c.fields-table.result.now c.fields-table.ensures.1) ∙ ap (flat_map field_bytes) c.fields-table.ensures.0 in
     let last : c.put_conjuncts.result ≡ 8 + 2 * length fields + 8 * length S + 8 * size S =
     omega (arith, c.put_conjuncts.ensures.end, c.size-count.ensures.0, c.fields-table.ensures.1, listed) in
     let whole = take_all (length c.fields-table.result.now) c.fields-table.result.now (omega arith) in
     record {
       end = file-length fields S formed c.put_conjuncts.result last;
       most = omega (arith, c.put_conjuncts.ensures.most, c.size-count.ensures.1);
-      bytes = file_stored fields S c.fields-table.result.now a.layout.fields c.size-count.result same listed c.size-count.ensures.0 a.out.now _ _ _ _ c.put_conjuncts.new.out
+      bytes = file_stored fields S c.fields-table.result.now c.field_count.result c.size-count.result same listed c.size-count.ensures.0 a.out.now _ _ _ _ c.put_conjuncts.new.out
           c.put_u32.ensures c.put_u32-2.ensures (c.put_bytes.ensures ∙ ap (overlay _ 8) whole)
           c.put_pairs.ensures (c.put_conjuncts.ensures.bytes (types_in fields) (nodes_of_file fields S formed));
     }
