@@ -6,7 +6,6 @@ use Rattle.model.specs.Demands.{ResultOrRefusal, OrLent, AnalysisRefusal}
 use Rattle.model.specs.Lent.{ScratchLeft}
 use Rattle.bytes_le.specs.Overlay.{overlay}
 use Rattle.program.specs.Reading.{ProgramIsRead}
-use Rattle.program.specs.declared.Layout.{Layout}
 use Rattle.code_table.specs.Table.{table_words}
 use Rattle.sets.specs.Region.{region_words}
 use Rattle.refusals.specs.Answers.{out_of}
@@ -33,8 +32,8 @@ abbrev pub DerivationAnswers : Type 0
 DerivationAnswers = (output scratch : ℕ) (program : List ℕ) → ResultOrRefusal (OrLent AnalysisRefusal) (derivation output scratch program)
 
 -- a program that is read, an output with room for the longest file, and scratch with its words
-pub record Derivable (program : List ℕ) (layout : Layout) (output scratch : List ℕ) : Type 0 where
-  pub read : ProgramIsRead program layout
+pub record Derivable (program output scratch : List ℕ) : Type 0 where
+  pub read : ProgramIsRead program
   pub room : condition_bytes ≤ length output
   pub words : analysis_words ≤ length scratch
 

@@ -22,7 +22,7 @@ ghost use Rattle.analysis.specs.Joining.{hints, joined_to, Sited, Keeps, KeptFro
 
 use code_table::Decoded;
 use conjunct::MOST_NODES;
-use program::Layout;
+use program::Program;
 use refusals::Refusal;
 
 // Where the union so far stands: the first region, behind the code table.
@@ -199,31 +199,29 @@ pub const CONDITION: usize = 62024;
 
 // Of a program whose n rows stand in their table.
 fn derive_rows(
-    program: &[u8],
-    layout: Layout,
+    program: &Program,
     n: usize,
     condition: &mut [u8],
     scratch: &mut [u64],
 ) -> Result<usize, Refusal>
-    requires { Derivable program.now layout condition.old scratch.old × RowsOf program.now n (table_of 0 scratch.old) }
+    requires { Derivable program.now condition.old scratch.old × RowsOf program.now n (table_of 0 scratch.old) }
     ensures { FileGiven (analysis program.now) result condition.old condition.new }
 {
     sites(scratch, n)?;
-    Ok(writer::write(program, layout, scratch, UNION, condition))
+    Ok(writer::write(program, scratch, UNION, condition))
 }
 
 // Of a program that is listed: its rows are written out, and walked.
 fn derive_read(
-    program: &[u8],
-    layout: Layout,
+    program: &Program,
     condition: &mut [u8],
     scratch: &mut [u64],
 ) -> Result<usize, Refusal>
-    requires { Derivable program.now layout condition.old scratch.old }
+    requires { Derivable program.now condition.old scratch.old }
     ensures { FileGiven (analysis program.now) result condition.old condition.new }
 {
-    let n = inliner::load(program, layout, scratch, 0)?;
-    derive_rows(program, layout, n, condition, scratch)
+    let n = inliner::load(program, scratch, 0)?;
+    derive_rows(program, n, condition, scratch)
 }
 
 // The condition file of a program's bytes, at the start of the output: its length. A refusal leaves the
@@ -236,6 +234,6 @@ pub fn derive(program: &[u8], condition: &mut [u8], scratch: &mut [u64]) -> Resu
     if condition.len() < CONDITION || scratch.len() < SCRATCH {
         return Err(Refusal::LentTooShort);
     }
-    let layout = program::read(program)?;
-    derive_read(program, layout, condition, &mut scratch[..SCRATCH])
+    let program = program::read(program)?;
+    derive_read(&program, condition, &mut scratch[..SCRATCH])
 }
