@@ -81,10 +81,11 @@ pub fn write(program: &Program, s: &[u64], b: usize, out: &mut [u8]) -> usize
 {
     let table = program.fields();
     let listed = table.len();
+    let fields = program.field_count();
     let count = sets::size(s, b);
     let begin = 8 + listed + 8 * count;
     bytes_le::put_u32(out, 0, count as u64);
-    bytes_le::put_u32(out, 4, program.field_count() as u64);
+    bytes_le::put_u32(out, 4, fields as u64);
     bytes_le::put_bytes(out, 8, table, listed);
     put_pairs(out, 8 + listed, s, b, begin);
     let mut words: [u64; MOST_NODES] = [0; MOST_NODES];

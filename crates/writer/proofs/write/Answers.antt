@@ -38,7 +38,7 @@ returns c =
     let S = set_of a.s.now a.b in
     let formed = c.requires.formed in
     let few = few-fields (goal.at.returns c).After-fields-table in
-    let listed : c.field_count.result ≡ length fields = c.field_count.ensures in
+    let listed : c.field_count-fields.result ≡ length fields = c.field_count-fields.ensures in
     let same : c.fields-table.result.now ≡ flat_map field_bytes fields =
     sym (table-bytes (length fields) c.fields-table.result.now c.fields-table.ensures.1) ∙ ap (flat_map field_bytes) c.fields-table.ensures.0 in
     let last : c.put_conjuncts.result ≡ 8 + 2 * length fields + 8 * length S + 8 * size S =
@@ -47,7 +47,7 @@ returns c =
     record {
       end = file-length fields S formed c.put_conjuncts.result last;
       most = omega (arith, c.put_conjuncts.ensures.most, c.size-count.ensures.1);
-      bytes = file_stored fields S c.fields-table.result.now c.field_count.result c.size-count.result same listed c.size-count.ensures.0 a.out.now _ _ _ _ c.put_conjuncts.new.out
+      bytes = file_stored fields S c.fields-table.result.now c.field_count-fields.result c.size-count.result same listed c.size-count.ensures.0 a.out.now _ _ _ _ c.put_conjuncts.new.out
           c.put_u32.ensures c.put_u32-2.ensures (c.put_bytes.ensures ∙ ap (overlay _ 8) whole)
           c.put_pairs.ensures (c.put_conjuncts.ensures.bytes (types_in fields) (nodes_of_file fields S formed));
     }
