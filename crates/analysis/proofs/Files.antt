@@ -12,7 +12,7 @@ use Rattle.model.specs.Condition.{encode, condition_bytes, analysis}
 use Rattle.model.specs.Fields.{types_in}
 use Rattle.model.specs.Conjunct.{Conjuncts}
 use Rattle.model.specs.Lists.{All}
-use Rattle.model.specs.Program.{Program, Tables, Outline, read_outline, read_program}
+use Rattle.model.specs.Program.{Program, Tables, Outline, layout_of, read_outline, read_program}
 use Rattle.model.specs.Refusals.{ok, refused, ◌>>=◌, mapped, wrong_blocks}
 use Rattle.model.proofs.Basics.Results.{mapped-refused}
 use Rattle.model.specs.Demands.{AnalysisRefusal}
@@ -78,10 +78,10 @@ pub rows_refusal : (s : List ℕ) (k : Refusal) (out : List ℕ) → read_progra
 unfolding analysis
 rows_refusal s k out e = (rw e, refl)
 
-unread_refusal : (s : List ℕ) (k : Refusal) → program_answer (Err k) ≡ mapped (λ O. s) (read_outline s) → analysis s ≡ refused (number_of k)
+unread_refusal : (s : List ℕ) (k : Refusal) → program_answer (Err k) ≡ mapped (λ O. layout_of s) (read_outline s) → analysis s ≡ refused (number_of k)
 unfolding analysis read_program
 unread_refusal s k h =
-    let n = mapped-refused (λ (O : Outline). s) (read_outline s) (number_of k) h in
+    let n = mapped-refused (λ (O : Outline). layout_of s) (read_outline s) (number_of k) h in
     rw n
 
 -- ---- what is lent
@@ -97,7 +97,7 @@ module _ (output scratch : ℕ) (s : List ℕ) where
       record { answer = e; output = refl; scratch = scratch_as_it_was analysis_words wrong_blocks (derivation output scratch s) words }
 
   pub unread_refused : condition_bytes ≤ output → analysis_words ≤ scratch → (k : Refusal)
-      → program_answer (Err k) ≡ mapped (λ O. s) (read_outline s) → derivation output scratch s ≡ refused (number_of k)
+      → program_answer (Err k) ≡ mapped (λ O. layout_of s) (read_outline s) → derivation output scratch s ≡ refused (number_of k)
   unread_refused m h k e = sym (enough m h) ∙ unread_refusal s k e
 
   module _ (out words : List ℕ) where

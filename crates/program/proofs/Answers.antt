@@ -5,15 +5,16 @@ use mathlib.Core.List.{List, []}
 use Prim.Native.Nat.{ℕ}
 use Rattle.model.specs.Lists.{every}
 use Rattle.model.specs.Procedures.{open_after, all_closed, Parts, between, parts_from, parts_right_lem}
-use Rattle.model.specs.Program.{Outline, items_of, read_outline}
+use Rattle.model.specs.Program.{Outline, layout_of, items_of, read_outline}
 use Rattle.model.specs.Program.{sections_right, counts_right_lem, types_right_lem, form_right_lem, types_agree_lem, immediate_right_lem}
 use Rattle.model.specs.Refusals.{Out, ok, refused, ◌>>=◌, mapped, check}
 use Rattle.model.specs.Refusals.{wrong_sections, too_many_entries, wrong_types, wrong_statement, types_disagree, wrong_immediate, wrong_procedures}
-use Rattle.model.proofs.Basics.Results.{check-mapped, mapped-check, refused-ok}
-use Rattle.std.specs.Prelude.{Option, Some, None, Ok}
+use Rattle.model.proofs.Basics.Results.{check-mapped, mapped-check, mapped-ok, mapped-refused, refused-ok}
+use Rattle.std.specs.Prelude.{Option, Some, None, Result, Ok, Err}
 use Rattle.std.specs.Option.{ok_or}
+use Rattle.refusals.specs.Answers.{number_of}
 use Rattle.refusals.specs.declared.Refusal.{Refusal}
-use Rattle.program.specs.Reading.{tables_of, procedure_checks, table_checks}
+use Rattle.program.specs.Reading.{program_answer, bytes_answer, tables_of, procedure_checks, table_checks}
 
 -- ---- a test, and the result that goes with it
 
@@ -78,3 +79,9 @@ by_checks s =
     ∙ ap (check form wrong_statement) (check-mapped g agree types_disagree in₇
     ∙ ap (check agree types_disagree) (check-mapped g inside wrong_immediate blocks
     ∙ ap (check inside wrong_immediate) in₈)))))
+
+-- where the sections are follows from the bytes
+pub layout_by_bytes : (s : List ℕ) (r : Result (List ℕ) Refusal) → bytes_answer r ≡ mapped (λ O. s) (read_outline s)
+    → program_answer r ≡ mapped (λ O. layout_of s) (read_outline s)
+layout_by_bytes s (Ok t) h = let k = mapped-ok (λ O. s) (read_outline s) t (sym h) in rw k.1 (ap (λ u. ok (layout_of u)) (sym k.2))
+layout_by_bytes s (Err n) h = sym (ap (mapped (λ O. layout_of s)) (mapped-refused (λ O. s) (read_outline s) (number_of n) h))

@@ -14,15 +14,15 @@ use Rattle.model.proofs.Basics.Results.{mapped-ok}
 use Rattle.model.proofs.Basics.Tests.{and_left, and_right}
 use Rattle.model.proofs.Basics.Every.{every-at}
 use Rattle.model.proofs.Files.Checked.{Outlined, outline_checked, program_checked}
-use Rattle.program.specs.Reading.{program_answer, tables_of, no_statement, statement_of, ProgramIsRead}
+use Rattle.program.specs.Reading.{bytes_answer, tables_of, no_statement, statement_of, ProgramIsRead}
 use Rattle.std.specs.Prelude.{Result, Ok}
 use Rattle.refusals.specs.declared.Refusal.{Refusal}
 
 -- the reader's answer, where it is a program: these bytes
-pub is_read : (s : List ℕ) (r : Result (List ℕ) Refusal) (p : List ℕ) → program_answer r ≡ mapped (λ O. s) (read_outline s) → r ≡ Ok p
+pub is_read : (s : List ℕ) (r : Result (List ℕ) Refusal) (p : List ℕ) → bytes_answer r ≡ mapped (λ O. s) (read_outline s) → r ≡ Ok p
     → (p ≡ s) × ProgramIsRead s
 is_read s r p h e =
-    let k = mapped-ok (λ O. s) (read_outline s) p (sym h ∙ ap program_answer e) in
+    let k = mapped-ok (λ O. s) (read_outline s) p (sym h ∙ ap bytes_answer e) in
     (sym k.2, record { outline = k.0; read = k.1 })
 
 -- no table has too many entries

@@ -28,9 +28,13 @@ layout_from L = record {
   statements = L.statements;
 }
 
--- the reader's answer: the program, or the number of the refusal
-abbrev pub program_answer : Result (List ℕ) Refusal → Out (List ℕ)
-program_answer r = out_of (λ s. s) r
+-- the reader's answer: where the sections are, or the number of the refusal
+abbrev pub program_answer : Result (List ℕ) Refusal → Out Sections
+program_answer r = out_of layout_of r
+
+-- the bytes of the program, or the number of the refusal
+abbrev pub bytes_answer : Result (List ℕ) Refusal → Out (List ℕ)
+bytes_answer r = out_of (λ s. s) r
 
 -- the answer to the section table: where the sections are, or the number of the refusal
 abbrev pub layout_answer : Result Layout Refusal → Out Sections

@@ -10,7 +10,7 @@ use borrow.Author.Tests.{le-leb, lt-leb}
 use Rattle.model.specs.Sizes.{most_program, most_fields}
 use Rattle.model.specs.Refusals.{Out, ok, refused, ◌>>=◌, mapped, lent_too_short, wrong_sections, too_many_entries, wrong_blocks}
 use Rattle.model.specs.Fields.{whole_field}
-use Rattle.model.specs.Program.{Outline, tables_with, sections_in, counts_right_lem, read_outline, read_program}
+use Rattle.model.specs.Program.{Outline, tables_with, sections_in, counts_right_lem, read_outline, read_program, layout_of}
 use Rattle.model.specs.OldForm.{most_old, old_field_size, old_count, old_tables, old_fields, read_old, new_form, convert}
 use Rattle.model.specs.Condition.{analysis}
 use Rattle.model.specs.Demands.{OldRefusal}
@@ -58,10 +58,10 @@ module _ (old : List ℕ) (count : ℕ) (t : OldTable old count) where
   unfolding convert
   program-refused k e = ap (◌>>= λ P. ok (new_form old)) (sym same ∙ e)
 
-  pub listing-refused : (k : ℕ) → refused k ≡ mapped (λ O. new_form old) (read_outline (new_form old)) → convert old ≡ refused k
+  pub listing-refused : (k : ℕ) → refused k ≡ mapped (λ O. layout_of (new_form old)) (read_outline (new_form old)) → convert old ≡ refused k
   unfolding read_program
   listing-refused k h =
-      let z = mapped-refused (λ (O : Outline). new_form old) (read_outline (new_form old)) k h in
+      let z = mapped-refused (λ (O : Outline). layout_of (new_form old)) (read_outline (new_form old)) k h in
       program-refused k (rw z)
 
 -- ---- the whole
@@ -89,11 +89,11 @@ module _ (old : List ℕ) (count : ℕ) (t : OldTable old count) (new : List ℕ
   unfolding convert
   by_new = ap (◌>>= λ P. ok (new_form old)) (sym (same old count t)) ∙ ap (λ w. read_program w >>= λ P. ok w) (sym is)
 
-  pub new-refused : (k : Refusal) (output scratch : List ℕ) → refused (number_of k) ≡ mapped (λ O. new) (read_outline new)
+  pub new-refused : (k : Refusal) (output scratch : List ℕ) → refused (number_of k) ≡ mapped (λ O. layout_of new) (read_outline new)
       → Converts (convert old) (Err k) output output scratch scratch
   new-refused k output scratch h =
       unchanged (convert old) k output scratch
-      (listing-refused old count t (number_of k) (subst (λ w. refused (number_of k) ≡ mapped (λ O. w) (read_outline w)) is h))
+      (listing-refused old count t (number_of k) (subst (λ w. refused (number_of k) ≡ mapped (λ O. layout_of w) (read_outline w)) is h))
 
   -- a listed file is refused late
   late : (O : Outline) → read_outline new ≡ ok O → (n : ℕ) → convert old ≡ refused n → wrong_blocks < n

@@ -19,7 +19,7 @@ returns-then-condition-lt-CONDITION c =
 
 pub derive_read-requires : goal.derive_read-requires
 derive_read-requires c =
-    let known = is_read c.args.program.now c.read.result c.in_ok-program.program c.read.ensures c.in_ok-program.was in
+    let known = is_read c.args.program.now c.read.result c.in_ok-program.program c.read.ensures.bytes c.in_ok-program.was in
     record {
       read = rw known.0 known.1;
       room = c.if-condition-lt-CONDITION.false;
@@ -32,11 +32,11 @@ returns-in_err-program c =
     let gone = err_from_is_err_and c.from_residual.result c.from_residual.ensures.1 in
     rw (gone.1, gone.2)
     (refused-idle (length a.condition.now) (length a.scratch.now) a.program.now _ a.condition.now a.scratch.now
-    (unread_refused (length a.condition.now) (length a.scratch.now) a.program.now c.if-condition-lt-CONDITION.false c.if-scratch-lt-SCRATCH.false _ c.in_err-program.ensures))
+    (unread_refused (length a.condition.now) (length a.scratch.now) a.program.now c.if-condition-lt-CONDITION.false c.if-scratch-lt-SCRATCH.false _ c.in_err-program.ensures.layout))
 
 pub returns : goal.returns
 returns c =
     let a = c.args in
-    let known = is_read a.program.now c.read.result c.in_ok-program.program c.read.ensures c.in_ok-program.was in
+    let known = is_read a.program.now c.read.result c.in_ok-program.program c.read.ensures.bytes c.in_ok-program.was in
     derived-read (length a.condition.now) (length a.scratch.now) a.program.now a.condition.now a.scratch.now c.if-condition-lt-CONDITION.false
     c.if-scratch-lt-SCRATCH.false refl known.1.outline known.1.read c.derive_read.result c.derive_read.new.condition c.derive_read.new.scratch (rw known.0 at c.derive_read.ensures) c.derive_read.auto.scratch

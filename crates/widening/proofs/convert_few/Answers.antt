@@ -28,7 +28,7 @@ is-new c =
 
 -- the program that is read is the new file
 known : (c : In_ok-program) → (c.in_ok-program.program ≡ new (goal.at.In_ok-program c).After-widen-n) × ProgramIsRead (new (goal.at.In_ok-program c).After-widen-n)
-known c = is_read (new (goal.at.In_ok-program c).After-widen-n) _ c.in_ok-program.program c.in_ok-program.ensures refl
+known c = is_read (new (goal.at.In_ok-program c).After-widen-n) _ c.in_ok-program.program c.in_ok-program.ensures.bytes refl
 
 pub copy_read-requires : goal.copy_read-requires
 copy_read-requires c =
@@ -49,7 +49,7 @@ returns-in_err-program c =
     let w = (goal.at.returns-in_err-program c).After-widen-n in
     let p = err_from_is_err_and c.from_residual.result c.from_residual.ensures.1 in
     rw (p.1, p.2)
-    (new-refused a.old.now a.count c.requires.0 (new w) (is-new w) c.in_err-program.field-0.0 a.output.now a.scratch.now c.in_err-program.ensures)
+    (new-refused a.old.now a.count c.requires.0 (new w) (is-new w) c.in_err-program.field-0.0 a.output.now a.scratch.now c.in_err-program.ensures.layout)
 
 pub returns : goal.returns
 returns c =

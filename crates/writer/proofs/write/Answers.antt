@@ -21,6 +21,16 @@ few-fields : (c : After-fields-table) → length c.fields-table.result.now ≤ f
 few-fields c =
     omega (arith, c.fields-table.ensures.1, fields-few c.args.program.now c.requires.read)
 
+pub put_u32-requires-2 : goal.put_u32-requires-2
+put_u32-requires-2 c =
+    let few = few-fields (goal.at.put_u32-requires-2 c).After-fields-table in
+    omega arith
+
+pub put_bytes-requires : goal.put_bytes-requires
+put_bytes-requires c =
+    let few = few-fields (goal.at.put_bytes-requires c).After-fields-table in
+    (omega arith, omega arith)
+
 pub put_pairs-requires : goal.put_pairs-requires
 put_pairs-requires c =
     let few = few-fields (goal.at.put_pairs-requires c).After-fields-table in
