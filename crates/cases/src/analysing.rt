@@ -1,20 +1,19 @@
 // The analysis: the case's number, and the listing of the condition of its recipe, or the refusal. A
 // condition that is not byte for byte the stored one is said so.
 use super::stored;
-use analysis::Derived;
 use files::answers::say;
 use std::fs::Files;
 
-fn refused(rt: &impl Print, k: u8) {
+fn refused(rt: &impl Print, number: u8) {
     let mut out = [0u8; listing::TEXT];
-    let n = listing::refusal(k, &mut out);
+    let n = listing::refusal(number, &mut out);
     say(rt, &out[..n]);
 }
 
 // Whether this is the stored condition of the case's recipe.
 fn is_stored(rt: &(impl Files + Eprint), i: usize, condition: &[u8]) -> bool {
     let mut derived = [0u8; files::CONDITION];
-    let n = stored::read(rt, i, b"derived", &mut derived);
+    let n = stored::read(rt, i, "derived", &mut derived);
     check::same(&derived[..n], condition)
 }
 
@@ -32,10 +31,9 @@ fn written(rt: &(impl Files + Print + Eprint), i: usize, condition: &[u8], n: us
 fn derive(rt: &(impl Files + Print + Eprint), i: usize, recipe: &[u8]) {
     let mut condition = [0u8; analysis::CONDITION];
     let mut scratch = [0u64; analysis::SCRATCH];
-    let derived = analysis::derive(recipe, &mut condition, &mut scratch);
-    match derived {
-        Derived::Refused(k) => refused(rt, k),
-        Derived::Written(n) => written(rt, i, &condition, n),
+    match analysis::derive(recipe, &mut condition, &mut scratch) {
+        Ok(n) => written(rt, i, &condition, n),
+        Err(refusal) => refused(rt, u8::from(refusal)),
     }
 }
 
@@ -44,8 +42,7 @@ pub(crate) fn show(rt: &(impl Files + Print + Eprint), i: usize, case: stored::C
         return;
     }
     let mut recipe = [0u8; files::RECIPE];
-    let n = stored::read(rt, i, b"recipe", &mut recipe);
-    stored::say_number(rt, i);
-    say(rt, b"\n");
+    let n = stored::read(rt, i, "recipe", &mut recipe);
+    let _ = println!(rt; "{i:03}");
     derive(rt, i, &recipe[..n]);
 }

@@ -1,47 +1,36 @@
 // The converter: a line with the length of the new recipe, or the refusal. A recipe that is not byte for byte the
 // stored one is said so, and so is an output that has changed behind it.
 use super::stored;
-use files::answers::{line, say};
+use files::answers;
 use std::fs::Files;
-use widening::Converted;
 
 // What every byte of the output is before the conversion.
 const UNTOUCHED: u8 = 165;
 
 // Whether the output behind its first bytes is as it was lent.
 fn is_untouched(output: &[u8], from: usize) -> bool {
-    let n = output.len();
-    let mut k = files::at_most(from, output);
-    while k < n {
-        if output[k] != UNTOUCHED {
-            return false;
-        }
-        k += 1;
-    }
-    true
+    output.iter().skip(from).all(|byte| *byte == UNTOUCHED)
 }
 
 fn print_rest(rt: &impl Print, i: usize, output: &[u8], from: usize) {
     if !is_untouched(output, from) {
-        stored::say_number(rt, i);
-        say(rt, b" the output behind the recipe has changed\n");
+        let _ = println!(rt; "{i:03} the output behind the recipe has changed");
     }
 }
 
 // Whether this is the stored new recipe of the case.
 fn is_stored(rt: &(impl Files + Eprint), i: usize, recipe: &[u8]) -> bool {
     let mut converted = [0u8; files::RECIPE];
-    let n = stored::read(rt, i, b"converted", &mut converted);
+    let n = stored::read(rt, i, "converted", &mut converted);
     check::same(&converted[..n], recipe)
 }
 
 // A recipe of n bytes, which always stand in the output.
 fn written(rt: &(impl Files + Print + Eprint), i: usize, output: &[u8], n: usize) {
-    line(rt, b" converted ", n as u64);
+    let _ = println!(rt; "{i:03} converted {n}");
     let n = files::at_most(n, output);
     if !is_stored(rt, i, &output[..n]) {
-        stored::say_number(rt, i);
-        say(rt, b" not as stored\n");
+        let _ = println!(rt; "{i:03} not as stored");
     }
     print_rest(rt, i, output, n);
 }
@@ -49,14 +38,13 @@ fn written(rt: &(impl Files + Print + Eprint), i: usize, output: &[u8], n: usize
 fn convert(rt: &(impl Files + Print + Eprint), i: usize, old: &[u8]) {
     let mut output = [UNTOUCHED; widening::PROGRAM];
     let mut scratch = [0u64; widening::SCRATCH];
-    let converted = widening::convert(old, &mut output, &mut scratch);
-    stored::say_number(rt, i);
-    match converted {
-        Converted::Refused(k) => {
-            line(rt, b" refused ", k as u64);
+    match widening::convert(old, &mut output, &mut scratch) {
+        Ok(n) => written(rt, i, &output, n),
+        Err(refusal) => {
+            let _ = print!(rt; "{i:03} ");
+            answers::refused(rt, u8::from(refusal));
             print_rest(rt, i, &output, 0);
         }
-        Converted::Written(n) => written(rt, i, &output, n),
     }
 }
 
@@ -65,6 +53,6 @@ pub(crate) fn show(rt: &(impl Files + Print + Eprint), i: usize, case: stored::C
         return;
     }
     let mut old = [0u8; files::RECIPE];
-    let n = stored::read(rt, i, b"old", &mut old);
+    let n = stored::read(rt, i, "old", &mut old);
     convert(rt, i, &old[..n]);
 }

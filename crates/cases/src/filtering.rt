@@ -2,41 +2,24 @@
 // own, each where it is asked: a line with the verdict, and with the cause of a hold.
 use super::stored;
 use super::stored::Case;
-use arith::Cause;
-use files::answers::{line, say};
+use files::answers;
 use filter::Verdict;
 use std::fs::Files;
 
-fn say_cause(rt: &impl Print, cause: Cause) {
-    match cause {
-        Cause::Above => say(rt, b" too big"),
-        Cause::Below => say(rt, b" too small"),
-        Cause::NoDivisor => say(rt, b" no divisor"),
-    }
-}
-
-fn held(rt: &impl Print, cause: Cause) {
-    say(rt, b" held");
-    say_cause(rt, cause);
-    say(rt, b"\n");
-}
-
 // The verdict under the condition of a kind.
-fn filter(rt: &(impl Files + Print + Eprint), i: usize, kind: &[u8], condition: &[u8]) {
+fn filter(rt: &(impl Files + Print + Eprint), i: usize, kind: &str, condition: &[u8]) {
     let mut sheet = [0u8; files::SHEET];
-    let n = stored::read(rt, i, b"sheet", &mut sheet);
-    let v = filter::check(condition, &sheet[..n]);
-    stored::say_number(rt, i);
-    say(rt, b" ");
-    say(rt, kind);
-    match v {
-        Verdict::Pass => say(rt, b" pass\n"),
-        Verdict::Held(cause) => held(rt, cause),
-        Verdict::Refused(k) => line(rt, b" refused ", k as u64),
+    let n = stored::read(rt, i, "sheet", &mut sheet);
+    let verdict = filter::check(condition, &sheet[..n]);
+    let _ = print!(rt; "{i:03} {kind} ");
+    match verdict {
+        Ok(Verdict::Pass) => answers::say(rt, b"pass\n"),
+        Ok(Verdict::Held(cause)) => answers::held(rt, cause),
+        Err(refusal) => answers::refused(rt, u8::from(refusal)),
     }
 }
 
-fn show_kind(rt: &(impl Files + Print + Eprint), i: usize, kind: &[u8]) {
+fn show_kind(rt: &(impl Files + Print + Eprint), i: usize, kind: &str) {
     let mut condition = [0u8; files::CONDITION];
     let n = stored::read(rt, i, kind, &mut condition);
     filter(rt, i, kind, &condition[..n]);
@@ -44,9 +27,9 @@ fn show_kind(rt: &(impl Files + Print + Eprint), i: usize, kind: &[u8]) {
 
 pub(crate) fn show(rt: &(impl Files + Print + Eprint), i: usize, case: Case) {
     if case.asks & stored::MADE_UP != 0 {
-        show_kind(rt, i, b"condition");
+        show_kind(rt, i, "condition");
     }
     if case.asks & stored::DERIVED != 0 {
-        show_kind(rt, i, b"derived");
+        show_kind(rt, i, "derived");
     }
 }

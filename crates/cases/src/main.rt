@@ -37,10 +37,8 @@ fn show(rt: &(impl Files + Print + Eprint), part: Part, i: usize) {
 }
 
 fn show_all(rt: &(impl Files + Print + Eprint), part: Part) {
-    let mut i: usize = 0;
-    while i < CASES {
+    for i in 0..CASES {
         show(rt, part, i);
-        i += 1;
     }
 }
 

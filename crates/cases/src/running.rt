@@ -5,10 +5,9 @@ ghost use Rattle.std.specs.Prelude.{◌+◌, ◌≤◌, length};
 
 use super::stored;
 use super::stored::Case;
-use files::answers::{counted, line, say};
-use files::choice_file;
+use files::{answers, choice_file};
 use interpreter::Ran;
-use program::ProgramRead;
+use refusals::Refusal;
 use std::fs::Files;
 
 // What every byte of the log is before the run.
@@ -20,63 +19,32 @@ const CHOICES: usize = 1024;
 // A record's bytes.
 const RECORD: usize = files::RECORD;
 
-fn wide(x: u8) -> u64 {
-    x as u64
-}
-
 // The bytes of the log's first records in hexadecimal.
 fn print_records(rt: &impl Print, log: &[u8], records: u64) {
-    let n = log.len();
-    let mut k: usize = 0;
-    while k < n {
-        if records <= (k / RECORD) as u64 {
-            return;
+    for record in log.chunks(RECORD).take(records as usize) {
+        for byte in record {
+            let _ = print!(rt; "{byte:02x}");
         }
-        let byte = log[k];
-        let _ = print!(rt; "{byte:02x}");
-        k += 1;
     }
 }
 
 // Whether the log behind its first records is as it was lent.
 fn is_untouched(log: &[u8], records: u64) -> bool {
-    let n = log.len();
-    let mut k: usize = 0;
-    while k < n {
-        if log[k] != UNTOUCHED {
-            if records <= (k / RECORD) as u64 {
-                return false;
-            }
-        }
-        k += 1;
-    }
-    true
+    log.chunks(RECORD)
+        .skip(records as usize)
+        .all(|record| record.iter().all(|byte| *byte == UNTOUCHED))
 }
 
 // The type of the variable of the site with a label.
 fn site_type(recipe: &[u8], label: usize) -> u8 {
-    let r = program::read(recipe);
-    match r {
-        ProgramRead::Refused(_) => 8,
-        ProgramRead::Read(layout) => {
-            if layout.statements <= label {
-                return 8;
-            }
-            let q = program::statement(recipe, layout, label);
-            program::variable_type(recipe, layout, q.a as usize)
-        }
+    let Ok(program) = program::read(recipe) else {
+        return 8;
+    };
+    if program.statements() <= label {
+        return 8;
     }
-}
-
-// A value by its type and its word.
-fn print_value(rt: &impl Print, ty: u8, word: u64) {
-    if 4 <= ty {
-        if 0x7fff_ffff_ffff_ffff < word {
-            counted(rt, b" -", 0xffff_ffff_ffff_ffff - word + 1);
-            return;
-        }
-    }
-    counted(rt, b" ", word);
+    let site = program.statement(label);
+    program.variable_type(site.a as usize)
 }
 
 // A record as a note: label, value, mark.
@@ -84,60 +52,55 @@ fn note(rt: &impl Print, i: usize, recipe: &[u8], log: &[u8], at: usize)
     requires { at + 12 ≤ length log.now }
 {
     let label = bytes_le::u16_at(log, at);
-    stored::say_number(rt, i);
-    counted(rt, b" note ", label);
-    print_value(
-        rt,
-        site_type(recipe, label as usize),
-        bytes_le::u64_at(log, at + 4),
-    );
-    line(rt, b" mark ", wide(log[at + 2]));
+    let word = bytes_le::u64_at(log, at + 4);
+    let mark = log[at + 2];
+    if site_type(recipe, label as usize) < 4 {
+        let _ = println!(rt; "{i:03} note {label} {word} mark {mark}");
+    } else {
+        let value = word.cast_signed();
+        let _ = println!(rt; "{i:03} note {label} {value} mark {mark}");
+    }
 }
 
 fn notes(rt: &impl Print, i: usize, recipe: &[u8], log: &[u8], records: u64) {
     let n = log.len() / RECORD;
-    let mut k: usize = 0;
-    while k < n {
-        if records <= k as u64 {
-            return;
-        }
+    for k in 0..n.min(records as usize) {
         note(rt, i, recipe, log, RECORD * k);
-        k += 1;
     }
 }
 
 // The records of a run and whether the log behind them is as it was.
 fn print_log(rt: &impl Print, i: usize, log: &[u8], records: u64) {
     if 0 < records {
-        stored::say_number(rt, i);
-        say(rt, b" log ");
+        let _ = print!(rt; "{i:03} log ");
         print_records(rt, log, records);
-        say(rt, b"\n");
+        answers::say(rt, b"\n");
     }
     if !is_untouched(log, records) {
-        stored::say_number(rt, i);
-        say(rt, b" the log behind the records has changed\n");
+        let _ = println!(rt; "{i:03} the log behind the records has changed");
     }
 }
 
-fn print(rt: &impl Print, i: usize, case: Case, recipe: &[u8], log: &[u8], ran: Ran) {
-    stored::say_number(rt, i);
+fn print(
+    rt: &impl Print,
+    i: usize,
+    case: Case,
+    recipe: &[u8],
+    log: &[u8],
+    ran: Result<Ran, Refusal>,
+) {
+    let _ = print!(rt; "{i:03} ");
     match ran {
-        Ran::Refused(k) => {
-            line(rt, b" refused ", k as u64);
-            print_log(rt, i, log, 0);
-        }
-        Ran::Ended {
-            end,
-            steps,
-            records,
-        } => {
-            say(rt, b" ");
-            files::answers::ended(rt, end, steps, records);
-            print_log(rt, i, log, records);
+        Ok(ran) => {
+            answers::ended(rt, u8::from(ran.end), ran.steps, ran.records);
+            print_log(rt, i, log, ran.records);
             if case.asks & stored::NOTES != 0 {
-                notes(rt, i, recipe, log, records);
+                notes(rt, i, recipe, log, ran.records);
             }
+        }
+        Err(refusal) => {
+            answers::refused(rt, u8::from(refusal));
+            print_log(rt, i, log, 0);
         }
     }
 }
@@ -188,8 +151,8 @@ pub(crate) fn show(rt: &(impl Files + Print + Eprint), i: usize, case: Case) {
     let mut recipe = [0u8; files::RECIPE];
     let mut sheet = [0u8; files::SHEET];
     let mut file = [0u8; CHOICES];
-    let n = stored::read(rt, i, b"recipe", &mut recipe);
-    let k = stored::read(rt, i, b"sheet", &mut sheet);
-    let c = stored::read(rt, i, b"choices", &mut file);
+    let n = stored::read(rt, i, "recipe", &mut recipe);
+    let k = stored::read(rt, i, "sheet", &mut sheet);
+    let c = stored::read(rt, i, "choices", &mut file);
     run_with_log(rt, i, case, &recipe[..n], &sheet[..k], &file[..c]);
 }

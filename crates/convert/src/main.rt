@@ -18,12 +18,12 @@ fn convert(rt: &(impl Env + Files + Print + Eprint), old: &[u8]) {
     let mut scratch = [0u64; widening::SCRATCH];
     match widening::convert(old, &mut recipe, &mut scratch) {
         Ok(n) => put(rt, &recipe, n),
-        Err(refusal) => answers::refused(rt, refusal),
+        Err(refusal) => answers::refused(rt, u8::from(refusal)),
     }
 }
 
 fn main(rt: HostRuntime) {
-    if !files::has_arguments(&rt, 3, "usage: convert OLD NEW\n") {
+    if !files::has_arguments(&rt, 3, b"usage: convert OLD NEW\n") {
         return;
     }
     let mut old = [0u8; files::RECIPE];

@@ -24,7 +24,7 @@ fn derive(rt: &(impl Env + Files + Print + Eprint), recipe: &[u8]) {
     let mut scratch = [0u64; analysis::SCRATCH];
     match analysis::derive(recipe, &mut condition, &mut scratch) {
         Ok(n) => put(rt, &condition, n),
-        Err(refusal) => answers::refused(rt, refusal),
+        Err(refusal) => answers::refused(rt, u8::from(refusal)),
     }
 }
 

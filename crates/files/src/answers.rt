@@ -1,6 +1,5 @@
 // The lines that the programs print. One that cannot be written is lost.
 use arith::Cause;
-use refusals::Refusal;
 use std::env::Env;
 use std::fs::Files;
 
@@ -9,8 +8,7 @@ pub fn say(rt: &impl Print, text: &[u8]) {
 }
 
 // A refusal's number.
-pub fn refused(rt: &impl Print, refusal: Refusal) {
-    let k = u8::from(refusal);
+pub fn refused(rt: &impl Print, k: u8) {
     let _ = println!(rt; "refused {k}");
 }
 

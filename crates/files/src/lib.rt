@@ -247,11 +247,11 @@ fn is_arguments(rt: &impl Env, n: usize) -> bool {
 }
 
 // Whether a program has n arguments, its own name among them; else its use is said.
-pub fn has_arguments(rt: &(impl Env + Eprint), n: usize, usage: &str) -> bool {
+pub fn has_arguments(rt: &(impl Env + Eprint), n: usize, usage: &[u8]) -> bool {
     if is_arguments(rt, n) {
         return true;
     }
-    let _ = rt.eprint(usage);
+    let _ = rt.eprint(shown(usage));
     false
 }
 

@@ -6,7 +6,7 @@ use files::answers;
 use filter::Verdict;
 
 fn main(rt: HostRuntime) {
-    if !files::has_arguments(&rt, 3, "usage: gate CONDITION SHEET\n") {
+    if !files::has_arguments(&rt, 3, b"usage: gate CONDITION SHEET\n") {
         return;
     }
     let mut condition = [0u8; files::CONDITION];
@@ -20,6 +20,6 @@ fn main(rt: HostRuntime) {
     match filter::check(&condition[..n], &sheet[..k]) {
         Ok(Verdict::Pass) => answers::say(&rt, b"pass\n"),
         Ok(Verdict::Held(cause)) => answers::held(&rt, cause),
-        Err(refusal) => answers::refused(&rt, refusal),
+        Err(refusal) => answers::refused(&rt, u8::from(refusal)),
     }
 }

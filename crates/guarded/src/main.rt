@@ -31,7 +31,7 @@ fn guarded(rt: &(impl Env + Files + Print + Eprint), recipe: &[u8], sheet: &[u8]
             answers::save(rt, 4, &log, u8::from(ran.end), ran.steps, ran.records)
         }
         Ok(Guarded::Held) => answers::say(rt, b"held\n"),
-        Err(refusal) => answers::refused(rt, refusal),
+        Err(refusal) => answers::refused(rt, u8::from(refusal)),
     }
 }
 

@@ -16,12 +16,12 @@ fn run(rt: &(impl Env + Files + Print + Eprint), recipe: &[u8], sheet: &[u8], fi
     let choices = choice_file::choices(file);
     match interpreter::run(recipe, sheet, limit, choices, &mut log, &mut scratch) {
         Ok(ran) => answers::save(rt, 4, &log, u8::from(ran.end), ran.steps, ran.records),
-        Err(refusal) => answers::refused(rt, refusal),
+        Err(refusal) => answers::refused(rt, u8::from(refusal)),
     }
 }
 
 fn main(rt: HostRuntime) {
-    if !files::has_arguments(&rt, 5, "usage: run RECIPE SHEET CHOICES LOG\n") {
+    if !files::has_arguments(&rt, 5, b"usage: run RECIPE SHEET CHOICES LOG\n") {
         return;
     }
     let mut recipe = [0u8; files::RECIPE];
