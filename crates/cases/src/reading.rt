@@ -27,7 +27,9 @@ fn say_tables(rt: &impl Print, program: &Program) {
     let variables = program.variables();
     let trays = program.arrays();
     let statements = program.statements();
-    let _ = println!(rt; "fields {fields} variables {variables} trays {trays} statements {statements}");
+    let _ = println!(rt;
+        "fields {fields} variables {variables} trays {trays} statements {statements}"
+    );
 }
 
 fn say_counts(rt: &impl Print, condition: &Condition) {
