@@ -54,60 +54,60 @@ ordered c =
 pub returns-then-condition-lt-COUNTS_SIZE : goal.returns-then-condition-lt-COUNTS_SIZE
 returns-then-condition-lt-COUNTS_SIZE c =
     let h : bytes_answer (Err WrongCondition) ≡ mapped (λ (C : Condition). c.args.condition.now) (read_condition c.args.condition.now) =
-        let s = c.args.condition.now in
-        refuses s _ _ refl refl (form-short s _ _ c.if-condition-lt-COUNTS_SIZE.true) in
+    let s = c.args.condition.now in
+    refuses s _ _ refl refl (form-short s _ _ c.if-condition-lt-COUNTS_SIZE.true) in
     record { numbers = numbers_by_bytes c.args.condition.now (Err WrongCondition) h; bytes = h }
 
 pub returns-then-conjuncts-gt-MOST_CONJUNCTS : goal.returns-then-conjuncts-gt-MOST_CONJUNCTS
 returns-then-conjuncts-gt-MOST_CONJUNCTS c =
     let h : bytes_answer (Err WrongCondition) ≡ mapped (λ (C : Condition). c.args.condition.now) (read_condition c.args.condition.now) =
-        not-read (goal.at.returns-then-conjuncts-gt-MOST_CONJUNCTS c).After-u32_at-fields (form-many c.args.condition.now c.u32_at-conjuncts.result c.u32_at-fields.result c.if-condition-lt-COUNTS_SIZE.false c.if-conjuncts-gt-MOST_CONJUNCTS.true) in
+    not-read (goal.at.returns-then-conjuncts-gt-MOST_CONJUNCTS c).After-u32_at-fields (form-many c.args.condition.now c.u32_at-conjuncts.result c.u32_at-fields.result c.if-condition-lt-COUNTS_SIZE.false c.if-conjuncts-gt-MOST_CONJUNCTS.true) in
     record { numbers = numbers_by_bytes c.args.condition.now (Err WrongCondition) h; bytes = h }
 
 pub returns-then-fields-gt-MOST_FIELDS : goal.returns-then-fields-gt-MOST_FIELDS
 returns-then-fields-gt-MOST_FIELDS c =
     let h : bytes_answer (Err WrongCondition) ≡ mapped (λ (C : Condition). c.args.condition.now) (read_condition c.args.condition.now) =
-        not-read (goal.at.returns-then-fields-gt-MOST_FIELDS c).After-u32_at-fields (form_wide c.args.condition.now c.u32_at-conjuncts.result c.u32_at-fields.result c.if-condition-lt-COUNTS_SIZE.false c.if-conjuncts-gt-MOST_CONJUNCTS.false c.if-fields-gt-MOST_FIELDS.true) in
+    not-read (goal.at.returns-then-fields-gt-MOST_FIELDS c).After-u32_at-fields (form_wide c.args.condition.now c.u32_at-conjuncts.result c.u32_at-fields.result c.if-condition-lt-COUNTS_SIZE.false c.if-conjuncts-gt-MOST_CONJUNCTS.false c.if-fields-gt-MOST_FIELDS.true) in
     record { numbers = numbers_by_bytes c.args.condition.now (Err WrongCondition) h; bytes = h }
 
 pub returns-then-condition-start : goal.returns-then-condition-start
 returns-then-condition-start c =
     let h : bytes_answer (Err WrongCondition) ≡ mapped (λ (C : Condition). c.args.condition.now) (read_condition c.args.condition.now) =
-        not-read (goal.at.returns-then-condition-start c).After-u32_at-fields (form_cut c.args.condition.now c.u32_at-conjuncts.result c.u32_at-fields.result c.if-condition-lt-COUNTS_SIZE.false c.if-conjuncts-gt-MOST_CONJUNCTS.false c.if-fields-gt-MOST_FIELDS.false
-        c.if-condition-start.true) in
+    not-read (goal.at.returns-then-condition-start c).After-u32_at-fields (form_cut c.args.condition.now c.u32_at-conjuncts.result c.u32_at-fields.result c.if-condition-lt-COUNTS_SIZE.false c.if-conjuncts-gt-MOST_CONJUNCTS.false c.if-fields-gt-MOST_FIELDS.false
+    c.if-condition-start.true) in
     record { numbers = numbers_by_bytes c.args.condition.now (Err WrongCondition) h; bytes = h }
 
 pub returns-then-not-is_chained : goal.returns-then-not-is_chained
 returns-then-not-is_chained c =
     let h : bytes_answer (Err WrongCondition) ≡ mapped (λ (C : Condition). c.args.condition.now) (read_condition c.args.condition.now) =
-        let broken = sym c.is_chained.ensures ∙ c.if-not-is_chained.true in
-        not-read (goal.at.returns-then-not-is_chained c).After-u32_at-fields (form_unchained c.args.condition.now c.u32_at-conjuncts.result c.u32_at-fields.result c.if-condition-lt-COUNTS_SIZE.false c.if-conjuncts-gt-MOST_CONJUNCTS.false
-        c.if-fields-gt-MOST_FIELDS.false broken) in
+    let broken = sym c.is_chained.ensures ∙ c.if-not-is_chained.true in
+    not-read (goal.at.returns-then-not-is_chained c).After-u32_at-fields (form_unchained c.args.condition.now c.u32_at-conjuncts.result c.u32_at-fields.result c.if-condition-lt-COUNTS_SIZE.false c.if-conjuncts-gt-MOST_CONJUNCTS.false
+    c.if-fields-gt-MOST_FIELDS.false broken) in
     record { numbers = numbers_by_bytes c.args.condition.now (Err WrongCondition) h; bytes = h }
 
 pub returns-then-not-all_right : goal.returns-then-not-all_right
 returns-then-not-all_right c =
     let h : bytes_answer (Err WrongCondition) ≡ mapped (λ (C : Condition). c.args.condition.now) (read_condition c.args.condition.now) =
-        let wrong = ap (every field_right) (sym (fields-taken c.args.condition.now c.u32_at-fields.result (room (goal.at.returns-then-not-all_right c).Else-condition-start))) ∙ sym c.all_right.ensures
-        ∙ c.if-not-all_right.true in
-        not-read (goal.at.returns-then-not-all_right c).After-u32_at-fields (form_unlisted c.args.condition.now c.u32_at-conjuncts.result c.u32_at-fields.result c.if-condition-lt-COUNTS_SIZE.false c.if-conjuncts-gt-MOST_CONJUNCTS.false c.if-fields-gt-MOST_FIELDS.false
-        (chain (goal.at.returns-then-not-all_right c).Else-not-is_chained) wrong) in
+    let wrong = ap (every field_right) (sym (fields-taken c.args.condition.now c.u32_at-fields.result (room (goal.at.returns-then-not-all_right c).Else-condition-start))) ∙ sym c.all_right.ensures
+    ∙ c.if-not-all_right.true in
+    not-read (goal.at.returns-then-not-all_right c).After-u32_at-fields (form_unlisted c.args.condition.now c.u32_at-conjuncts.result c.u32_at-fields.result c.if-condition-lt-COUNTS_SIZE.false c.if-conjuncts-gt-MOST_CONJUNCTS.false c.if-fields-gt-MOST_FIELDS.false
+    (chain (goal.at.returns-then-not-all_right c).Else-not-is_chained) wrong) in
     record { numbers = numbers_by_bytes c.args.condition.now (Err WrongCondition) h; bytes = h }
 
 pub returns-in_err-read_conjuncts : goal.returns-in_err-read_conjuncts
 returns-in_err-read_conjuncts c =
     let h : bytes_answer c.from_residual.result ≡ mapped (λ (C : Condition). c.args.condition.now) (read_condition c.args.condition.now) =
-        let off = formed-false _ (number_of c.in_err-read_conjuncts.field-0.0) c.in_err-read_conjuncts.ensures in
-        let p = err_from_is_err_and c.from_residual.result c.from_residual.ensures.1 in
-        rw (p.1, p.2, off.1)
-        (not-read (goal.at.returns-in_err-read_conjuncts c).After-u32_at-fields (form_wrong c.args.condition.now c.u32_at-conjuncts.result c.u32_at-fields.result c.if-condition-lt-COUNTS_SIZE.false c.if-conjuncts-gt-MOST_CONJUNCTS.false c.if-fields-gt-MOST_FIELDS.false
-        (chain (goal.at.returns-in_err-read_conjuncts c).Else-not-is_chained) (listed (goal.at.returns-in_err-read_conjuncts c).Else-not-all_right) off.0)) in
+    let off = formed-false _ (number_of c.in_err-read_conjuncts.field-0.0) c.in_err-read_conjuncts.ensures in
+    let p = err_from_is_err_and c.from_residual.result c.from_residual.ensures.1 in
+    rw (p.1, p.2, off.1)
+    (not-read (goal.at.returns-in_err-read_conjuncts c).After-u32_at-fields (form_wrong c.args.condition.now c.u32_at-conjuncts.result c.u32_at-fields.result c.if-condition-lt-COUNTS_SIZE.false c.if-conjuncts-gt-MOST_CONJUNCTS.false c.if-fields-gt-MOST_FIELDS.false
+    (chain (goal.at.returns-in_err-read_conjuncts c).Else-not-is_chained) (listed (goal.at.returns-in_err-read_conjuncts c).Else-not-all_right) off.0)) in
     record { numbers = numbers_by_bytes c.args.condition.now c.from_residual.result h; bytes = h }
 
 pub returns-then-not-is_rising : goal.returns-then-not-is_rising
 returns-then-not-is_rising c =
     let h : bytes_answer (Err WrongCondition) ≡ mapped (λ (C : Condition). c.args.condition.now) (read_condition c.args.condition.now) =
-        not-read (goal.at.returns-then-not-is_rising c).After-u32_at-fields (ordered (goal.at.returns-then-not-is_rising c).In_ok-read_conjuncts ∙ sym c.is_rising.ensures ∙ c.if-not-is_rising.true) in
+    not-read (goal.at.returns-then-not-is_rising c).After-u32_at-fields (ordered (goal.at.returns-then-not-is_rising c).In_ok-read_conjuncts ∙ sym c.is_rising.ensures ∙ c.if-not-is_rising.true) in
     record { numbers = numbers_by_bytes c.args.condition.now (Err WrongCondition) h; bytes = h }
 
 -- all tests pass
@@ -122,6 +122,6 @@ invariant_of-result c =
 pub returns : goal.returns
 returns c =
     let h : bytes_answer (Ok c.args.condition.now) ≡ mapped (λ (C : Condition). c.args.condition.now) (read_condition c.args.condition.now) =
-        accepts c.args.condition.now c.u32_at-conjuncts.result c.u32_at-fields.result c.u32_at-conjuncts.ensures.0 c.u32_at-fields.ensures.0
-        (right (goal.at.returns c).Else-not-is_rising) in
+    accepts c.args.condition.now c.u32_at-conjuncts.result c.u32_at-fields.result c.u32_at-conjuncts.ensures.0 c.u32_at-fields.ensures.0
+    (right (goal.at.returns c).Else-not-is_rising) in
     record { numbers = numbers_by_bytes c.args.condition.now (Ok c.args.condition.now) h; bytes = h }
