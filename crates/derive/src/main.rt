@@ -29,7 +29,7 @@ fn derive(rt: &(impl Env + Files + Print + Eprint), recipe: &[u8]) {
 }
 
 fn main(rt: HostRuntime) {
-    if !files::has_arguments(&rt, 3, "usage: derive RECIPE CONDITION\n") {
+    if !files::has_arguments(&rt, 3, b"usage: derive RECIPE CONDITION\n") {
         return;
     }
     let mut recipe = [0u8; files::RECIPE];

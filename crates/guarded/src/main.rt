@@ -36,7 +36,7 @@ fn guarded(rt: &(impl Env + Files + Print + Eprint), recipe: &[u8], sheet: &[u8]
 }
 
 fn main(rt: HostRuntime) {
-    if !files::has_arguments(&rt, 5, "usage: guarded RECIPE SHEET CHOICES LOG\n") {
+    if !files::has_arguments(&rt, 5, b"usage: guarded RECIPE SHEET CHOICES LOG\n") {
         return;
     }
     let mut recipe = [0u8; files::RECIPE];
