@@ -182,7 +182,7 @@ fn put_refusal(out: &mut [u8], n: u8) -> usize
 }
 
 // The text of a refusal by its number at the start of the output, and how many bytes it has; none where the
-// output is shorter than TEXT. Any number is taken, and no `Refusal`: it has always answered for all of them.
+// output is shorter than TEXT. Any number is taken, not a `Refusal`'s alone: the contract holds for all.
 pub fn refusal(n: u8, out: &mut [u8]) -> usize
     ensures { Lists (refusing (length out.old) n) out.old result out.new }
 {
