@@ -5,9 +5,9 @@ use Prim.Native.Nat.{ℕ, suc, ◌+◌, ◌-◌, ◌/◌, ◌%◌, ◌^◌, ◌�
 use native.Mathlib.Nat.{add-zero}
 use native.Mathlib.Numerals.{add-one}
 use native.Mathlib.Omega.{arith}
-use lib.ListN.{length, take, drop, set, length-set}
+use lib.ListN.{length, get_or, take, drop, set, length-set}
 use borrow.Rule.Slice.PartMut.{put_mid}
-use lib.Seq.{sets, sets-eq, drop-drop, length-take-le, drop-set-add, take-set-le, take_at, drop_at, take-take}
+use lib.Seq.{sets, sets-eq, take-suc, drop-drop, length-take-le, drop-set-add, take-set-le, take_at, drop_at, take-take}
 use Rattle.model.specs.Bytes.{bytes2, bytes4, bytes8}
 use Rattle.bytes_le.specs.Overlay.{overlay}
 
@@ -36,6 +36,14 @@ overlay-append (x ∷ xs) l i ys =
 -- stores one behind the other
 pub stored_then : (l m k xs ys : List ℕ) (i j : ℕ) → j ≡ i + length xs → m ≡ overlay l i xs → k ≡ overlay m j ys → k ≡ overlay l i (xs ++ ys)
 stored_then l m k xs ys i j e p q = q ∙ rw (p, e) (sym (overlay-append xs l i ys))
+
+-- a copy, one element more
+pub overlay_more : (d : List ℕ) (b : ℕ) (s : List ℕ) (i : ℕ) → i < length s
+    → set (overlay d b (take i s)) (b + i) (get_or s i 0) ≡ overlay d b (take (i + 1) s)
+unfolding overlay
+overlay_more d b s i h =
+    let len : length (take i s) ≡ i = length-take-le i s (omega arith) in
+    rw (add-one, take-suc s i 0 h, overlay-append) (rw len)
 
 -- a part before it is as it was
 set_after : (l : List ℕ) (i v a w : ℕ) → a + w ≤ i → take w (drop a (set l i v)) ≡ take w (drop a l)

@@ -63,5 +63,8 @@ pub fn put_bytes(out: &mut [u8], a: usize, from: &[u8], n: usize)
     requires { (n ≤ length from.now) × (a + n ≤ length out.old) }
     ensures { out.new ≡ overlay out.old a (take n from.now) }
 {
-    out[a..a + n].copy_from_slice(&from[..n]);
+    // No copy_from_slice: the archive for C would need memmove from outside.
+    for i in 0..n {
+        out[a + i] = from[i];
+    }
 }

@@ -26,7 +26,10 @@ pub fn write_slot(s: &mut [u64], a: usize, w: &[u64], n: usize)
     ensures { s.new ≡ overlay s.old a (n ∷ take n w.now) }
 {
     s[a] = n as u64;
-    s[a + 1..a + 1 + n].copy_from_slice(&w[..n]);
+    // No copy_from_slice: the archive for C would need memmove from outside.
+    for j in 0..n {
+        s[a + 1 + j] = w[j];
+    }
 }
 
 // the conjunct of the slot at `from` to the slot at `to`

@@ -1,11 +1,16 @@
 -- `bytes_le::put_bytes` meets its contract.
-use Rattle.std.proofs.Common.{arith, rules, take}
-use lib.Seq.{length-take-le}
-use Rattle.bytes_le.proofs.Overlays.{overlay_part}
+use Rattle.std.proofs.Common.{◌+◌, ap, ◌∙◌, rules, arith, get_or, set, length-set}
+use Rattle.bytes_le.proofs.Overlays.{overlay-none, overlay_more}
 use Rattle.bytes_le.proofs.put_bytes.Goals as goal
 
-pub returns : goal.returns
-returns c =
+pub loop-i-init : goal.loop-i-init
+loop-i-init c = (search rules, overlay-none c.args.out.now c.args.a)
+
+pub loop-i-preserved : goal.loop-i-preserved
+loop-i-preserved c =
     let a = c.args in
-    let n = length-take-le a.n a.from.now c.requires.0 in
-    overlay_part a.a _ a.out.now _ (take a.n a.from.now) (search rules) (omega (arith, n)) (omega (arith, n))
+    let lp = c.loop-i in
+    let v = get_or a.from.now lp.i 0 in (
+      length-set lp.out (a.a + lp.i) v ∙ lp.invariant.0,
+      ap (λ l. set l (a.a + lp.i) v) lp.invariant.1 ∙ overlay_more a.out.now a.a a.from.now lp.i (omega arith),
+    )

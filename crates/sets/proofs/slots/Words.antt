@@ -1,16 +1,16 @@
 -- The words of slots: read, written.
-use mathlib.Core.List.{List, ◌∷◌, ◌++◌, append_assoc}
+use mathlib.Core.List.{List, ◌∷◌, ◌++◌}
 use mathlib.Core.Logic.{◌⊎◌, inl, inr}
 use mathlib.Core.Path.{◌≡◌, sym, ap, ap₂, ◌∙◌}
 use Prim.Native.Nat.{ℕ, ◌+◌, ◌-◌, ◌<◌, ◌≤◌, compare}
 use native.Mathlib.Numerals.{add-one}
 use native.Mathlib.Omega.{arith}
 use lib.ListN.{length, get_or, take, drop, set, length-drop, length-set}
-use lib.Seq.{sets-eq, drop-drop, get_or-drop, get_or-take, length-take-le, take-take, take-append_seam, drop-append_seam}
+use lib.Seq.{get_or-drop, get_or-take, length-take-le, take-take, take-append_seam, drop-append_seam}
 use borrow.Rule.Slice.PartMut.{post_of, put_mid, same_len_mid, mid_len, take_put, drop_put}
 use Rattle.model.specs.Conjunct.{◌then◌, order_numbers, order}
 use Rattle.model.specs.Sizes.{most_nodes}
-use Rattle.bytes_le.proofs.Overlays.{overlay_read, overlay-sets}
+use Rattle.bytes_le.proofs.Overlays.{overlay_read}
 use Rattle.bytes_le.specs.Overlay.{overlay}
 use Rattle.conjunct.proofs.node.Lists.{conjunct-order}
 use Rattle.conjunct.specs.Word.{nodes_of_lem}
@@ -48,12 +48,6 @@ slot-order w s m a n g h k f =
     ∙ sym (conjunct-order (take m w) (slot_at s a)))
 
 -- ---- written
-
--- a part of a list written over is what is stored over the list
-pub put-overlay : (l ys : List ℕ) (i n : ℕ) → i + n ≤ length l → length ys ≡ n → put_mid i (i + n - i) l ys ≡ overlay l i ys
-put-overlay l ys i n h e =
-    let rest : drop (i + length ys) l ≡ post_of i (i + n - i) l = ap (λ k. drop k l) (omega arith) ∙ sym (drop-drop (i + n - i) i l) in
-    sym (overlay-sets ys l i ∙ sets-eq ys l i (omega arith) ∙ append_assoc (take i l) ys (drop (i + length ys) l) ∙ ap (λ r. take i l ++ (ys ++ r)) rest)
 
 pub written : (s l : List ℕ) (a n : ℕ) → overlay (set s a n) (a + 1) l ≡ overlay s a (n ∷ l)
 unfolding overlay
