@@ -14,12 +14,14 @@ use Rattle.analysis.proofs.keeps.Goals as goal
 differs : (a x : ℕ) → not (eqb a x) ≡ true → a ≡ x → ⊥
 differs a x h e = true≢false (sym (sym (ap not (eq-eqb a x e)) ∙ h))
 
-pub returns-in-0-to-8 : goal.returns-in-0-to-8
-returns-in-0-to-8 c =
+pub returns-then-kind-ge9 : goal.returns-then-kind-ge9
+returns-then-kind-ge9 c =
     let x = c.args.x in
-    λ e. subst (λ (d : Decoded). Keeps x (stmt_from d)) c.fetch-d.ensures (keeps_row c.fetch-d.result x (omega arith) (λ h. differs c.fetch-d.result.a x e))
+    λ e. subst (λ (d : Decoded). Keeps x (stmt_from d)) c.fetch-d.ensures
+    (keeps_row c.fetch-d.result x (omega (arith, c.if-kind-ge11.false)) (λ h. absurd (omega (arith, h, c.if-kind-ge9.true))))
 
-pub returns-in-9-to-10 : goal.returns-in-9-to-10
-returns-in-9-to-10 c =
+pub returns : goal.returns
+returns c =
     let x = c.args.x in
-    λ e. subst (λ (d : Decoded). Keeps x (stmt_from d)) c.fetch-d.ensures (keeps_row c.fetch-d.result x (omega arith) (λ h. absurd (omega (arith, h))))
+    λ e. subst (λ (d : Decoded). Keeps x (stmt_from d)) c.fetch-d.ensures
+    (keeps_row c.fetch-d.result x (omega (arith, c.if-kind-ge11.false)) (λ h. differs c.fetch-d.result.a x e))
