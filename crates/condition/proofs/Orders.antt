@@ -1,13 +1,10 @@
 -- The order of conjuncts is that of the parts of the file that hold them, byte by byte.
-use Rattle.std.proofs.Common.{Some, Ordering as Compared, Less, Equal, Greater}
-use Rattle.std.specs.Ordering.{MatchOrdering, nat_cmp, is_lt, is_some_and}
-use Rattle.std.specs.Cmp.Lexicographic.{slice_partial_cmp}
-use Rattle.std.proofs.lemmas.Cmp.{ranked, same_from_slice_cmp_tested}
 use mathlib.Core.Path.{◌≡◌, refl, sym, ◌∙◌, ap, ap₂, subst}
-use mathlib.Core.Bool.{Bool, true, false}
+use mathlib.Core.Bool.{true}
 use mathlib.Core.List.{List, [], ◌∷◌, ◌++◌}
 use Prim.Native.Nat.{Ordering}
 use Prim.Native.Nat.{ℕ, zero, suc, ◌+◌, ◌*◌, ◌/◌, ◌%◌, ◌≤◌, ◌<◌, compare}
+use native.Mathlib.Numerals.{add-one}
 use native.Mathlib.Omega.{arith}
 use lib.Dec.{ltb}
 use lib.ListN.{length, get_or, take, drop}
@@ -16,7 +13,7 @@ use Rattle.model.specs.Sizes.{node_size}
 use Rattle.model.proofs.Basics.Tests.{case}
 use Rattle.model.proofs.Conjuncts.Order.{compare_less, compare_more, compare_same, then_assoc}
 use Rattle.model.proofs.Files.Parts.{length_part, length-entries}
-use lib.Seq.{drop-drop, take-add, take-length}
+use lib.Seq.{drop-cons, drop-drop, take-add, take-length, drop-length}
 use Rattle.model.specs.Lists.{every}
 use Rattle.model.specs.Bytes.{part, entries}
 use Rattle.model.specs.Conjunct.{◌then◌, order_numbers, order_nodes, order}
@@ -32,21 +29,29 @@ other-length m n o h =
     case (ltb m n) (λ z. z ≡ is_before (compare m n then o)) (λ q. rw (compare_less m n (ltb-true m n q)))
     (λ q. rw (compare_more m n (omega (arith, ltb-false m n q))))
 
--- the first bytes decide, or the others
-first-bytes : (x y : ℕ) (xs ys : List ℕ) (o : Compared) → o ≡ nat_cmp x y
-    → MatchOrdering o (is_before (order_numbers (x ∷ xs) (y ∷ ys)) ≡ true)
-    (is_before (order_numbers (x ∷ xs) (y ∷ ys)) ≡ is_before (order_numbers xs ys))
-    (is_before (order_numbers (x ∷ xs) (y ∷ ys)) ≡ false)
-unfolding order_numbers
-first-bytes x y xs ys Less h = rw (compare_less x y (ranked x y Less h))
-first-bytes x y xs ys Equal h = rw (compare_same x y (ranked x y Equal h))
-first-bytes x y xs ys Greater h = rw (compare_more x y (ranked x y Greater h))
+-- ---- byte by byte
 
--- the order of slices is this one
-pub same_before : (s t : List ℕ) (r : Bool) → r ≡ is_some_and is_lt (slice_partial_cmp (λ x y. Some (nat_cmp x y)) s t) → r ≡ is_before (order_numbers s t)
+module _ (s t : List ℕ) (i : ℕ) (ls : i < length s) (lt : i < length t) where
+  numbers_turn : order_numbers (drop i s) (drop i t) ≡ (compare (get_or s i 0) (get_or t i 0) then order_numbers (drop (i + 1) s) (drop (i + 1) t))
+  unfolding order_numbers
+  numbers_turn = rw (drop-cons s i 0 ls, drop-cons t i 0 lt, add-one i)
+
+  pub numbers_less : get_or s i 0 < get_or t i 0 → order_numbers (drop i s) (drop i t) ≡ Ordering.lt
+  numbers_less h = numbers_turn ∙ rw (compare_less (get_or s i 0) (get_or t i 0) h)
+
+  pub numbers_more : get_or t i 0 < get_or s i 0 → order_numbers (drop i s) (drop i t) ≡ Ordering.gt
+  numbers_more h = numbers_turn ∙ rw (compare_more (get_or s i 0) (get_or t i 0) h)
+
+  pub numbers_on : get_or s i 0 ≤ get_or t i 0 → get_or t i 0 ≤ get_or s i 0
+      → order_numbers (drop i s) (drop i t) ≡ order_numbers (drop (i + 1) s) (drop (i + 1) t)
+  numbers_on h k = numbers_turn ∙ rw (compare_same (get_or s i 0) (get_or t i 0) (omega arith))
+
+pub numbers_end : (s t : List ℕ) (i : ℕ) → i ≡ length s → i ≡ length t → order_numbers (drop i s) (drop i t) ≡ Ordering.eq
 unfolding order_numbers
-same_before =
-    same_from_slice_cmp_tested nat_cmp is_lt (λ s t. is_before (order_numbers s t)) refl (λ y ys. refl) (λ x xs. refl) first-bytes
+numbers_end s t i es et =
+    let ds : drop i s ≡ [] = rw es (drop-length s) in
+    let dt : drop i t ≡ [] = rw et (drop-length t) in
+    rw (ds, dt)
 
 -- ---- nodes, by their bytes
 

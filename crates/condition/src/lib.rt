@@ -67,13 +67,13 @@ pub struct Node {
 
 // How many conjuncts and fields a condition has.
 #[derive(Clone, Copy)]
-struct Counts {
-    conjuncts: usize,
-    fields: usize,
+pub struct Counts {
+    pub conjuncts: usize,
+    pub fields: usize,
 }
 
 // A condition that is read: its bytes, and its counts. A proof sees the bytes.
-#[derive(Drop)]
+#[derive(Clone, Drop)]
 pub struct Condition<'a> {
     bytes: &'a [u8],
     counts: Counts,
@@ -232,7 +232,18 @@ fn comes_before(a: &[u8], b: &[u8]) -> bool
     if a.len() != b.len() {
         return a.len() < b.len();
     }
-    a < b
+    // No a < b: the library's order of slices takes longer for each byte that is the same.
+    for i in 0..a.len() {
+        let x = a[i];
+        let y = b[i];
+        if x < y {
+            return true;
+        }
+        if y < x {
+            return false;
+        }
+    }
+    false
 }
 
 // The parts of the pairs from a place on stand one after the other, from start to the file's end.
@@ -368,6 +379,22 @@ pub fn read(condition: &[u8]) -> Result<Condition<'_>, Refusal>
 }
 
 impl<'a> Condition<'a> {
+    // The condition of bytes that are known to be in their form, with these counts.
+    pub fn in_form(bytes: &'a [u8], counts: Counts) -> Condition<'a>
+        requires { ConditionIsRead bytes.now counts }
+        ensures { result ≡ bytes.now }
+    {
+        Condition { bytes, counts }
+    }
+
+    // Its counts.
+    pub fn counts(&self) -> Counts
+        ensures { ConditionIsRead self.now result }
+    {
+        let counts = self.counts;
+        counts
+    }
+
     // How many conjuncts it has.
     pub fn conjuncts(&self) -> usize
         ensures many { result ≡ length (conjuncts_of self.now) }

@@ -35,7 +35,7 @@ const SIGNED: u8 = 4;
 const WIDTHS: u8 = 4;
 
 // An input that is read: the table of its fields, and its bytes. A proof sees both.
-#[derive(Drop)]
+#[derive(Clone, Drop)]
 pub struct Input<'t, 'a> {
     fields: &'t [u8],
     bytes: &'a [u8],
@@ -225,6 +225,14 @@ pub fn read<'t, 'a>(fields: &'t [u8], input: &'a [u8]) -> Result<Input<'t, 'a>, 
 }
 
 impl<'t, 'a> Input<'t, 'a> {
+    // The input of bytes that are known to be in their form for the fields of a table.
+    pub fn in_form(fields: &'t [u8], bytes: &'a [u8]) -> Input<'t, 'a>
+        requires { InputIsRead fields.now bytes.now }
+        ensures { result ≡ file_of fields.now bytes.now }
+    {
+        Input { fields, bytes }
+    }
+
     // The table of its fields.
     pub fn fields(&self) -> &'t [u8]
         ensures table { result.now ≡ self.now.fields }
