@@ -10,6 +10,8 @@ use lib.ListN.{length, get_or}
 use borrow.Author.Count.{below_none, below_more}
 use borrow.Author.Tests.{leb-true, leb-false}
 use Rattle.model.specs.Bytes.{pair_at}
+use Rattle.model.specs.Fields.{types_in, fields_in}
+use Rattle.model.proofs.Files.FieldTables.{types-length, type_in}
 use Rattle.model.proofs.Basics.Tests.{case}
 use Rattle.input.specs.FirstWrong.{PairRight, start_of, RightAt, RightBefore, PartIs, PairsAre}
 
@@ -42,6 +44,18 @@ module _ (types s : List ℕ) where
 
     pub all-right : f ≡ length types → PairsAre types s (Ok next)
     all-right e = (subst (RightBefore types s) e so.before, so.starts ∙ ap (start_of (length types) s) e)
+
+-- the pair of a field of a table is wrong, and it is the one that is named
+pub wrong_named : (table s : List ℕ) (f g next : ℕ) (r : Option ℕ) → RightSoFar (types_in (fields_in table)) s f next
+    → PartIs (get_or table (2 * f) 0) (pair_at s (8 * f)) next (length s) r → r ≡ None → f < length table / 2 → g ≡ f
+    → PairsAre (types_in (fields_in table)) s (Err g)
+wrong_named table s f g next r so said none h e =
+    let types = types_in (fields_in table) in
+    let below : f < length types = omega (arith, types-length table) in
+    let wrong : PartIs (get_or types f 0) (pair_at s (8 * f)) next (length s) None =
+    subst (PartIs (get_or types f 0) (pair_at s (8 * f)) next (length s)) none
+    (subst (λ ty. PartIs ty (pair_at s (8 * f)) next (length s) r) (sym (type_in table f h)) said) in
+    subst (λ n. PairsAre types s (Err n)) (sym e) (wrong-here types s f next so below wrong)
 
 -- ---- at most one answer is true
 

@@ -99,6 +99,7 @@ fn part_end(ty: u8, input: &[u8], at: usize, next: usize) -> Option<usize>
 
 // The first pair that is wrong, as an error, else where the last part ends: a pair has all its tests before
 // the next is looked at.
+#[tactic(auto, using(crate::proofs::Search::wrong_named))]
 fn first_wrong(fields: &[u8], input: &[u8]) -> Result<usize, usize>
     ensures { PairsAre (types_in (fields_in fields.now)) input.now result }
 {

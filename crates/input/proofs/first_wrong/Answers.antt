@@ -8,7 +8,7 @@ use Rattle.model.specs.Bytes.{pair_at}
 use Rattle.model.specs.Fields.{types_in, fields_in}
 use Rattle.model.proofs.Files.FieldTables.{types-length, type_in}
 use Rattle.input.specs.FirstWrong.{PartIs}
-use Rattle.input.proofs.Search.{RightSoFar, short-first, right-start, right-more, wrong-here, all-right}
+use Rattle.input.proofs.Search.{RightSoFar, short-first, right-start, right-more, all-right}
 use Rattle.input.proofs.first_wrong.Goals as goal
 use Rattle.input.proofs.first_wrong.Goals.{After-part_end}
 
@@ -45,13 +45,6 @@ loop-f-preserved c =
           (said (goal.at.loop-f-preserved c).After-part_end _ c.in-Some.is),
       l.invariant.1,
     )
-
-pub returns-in_default : goal.returns-in_default
-returns-in_default c =
-    let g = c.args in
-    let l = c.loop-f in
-    wrong-here (types_in (fields_in g.fields.now)) g.input.now l.f l.next l.invariant.0 (omega (arith, types-length g.fields.now))
-    (said (goal.at.returns-in_default c).After-part_end _ c.in_default.is)
 
 pub returns : goal.returns
 returns c =
