@@ -53,7 +53,10 @@ const UNSIGNED_CODES: u8 = 4;
 fn operands(q: Entry, a: usize, b: usize, c: usize) -> bool
     ensures { result ≡ (ltb q.a a && ltb q.b b && ltb q.c c) }
 {
-    (q.a as usize) < a && (q.b as usize) < b && (q.c as usize) < c
+    if a <= q.a as usize || b <= q.b as usize {
+        return false;
+    }
+    (q.c as usize) < c
 }
 
 // The same of a statement that has no immediate.
@@ -63,20 +66,29 @@ fn no_immediate(q: Entry, a: usize, b: usize, c: usize) -> bool
     operands(q, a, b, c) && q.imm == 0
 }
 
-// By kind: what the operands and the immediate have to be.
+// By kind: what the operands and the immediate have to be. Each kind has an arm of its own, alike or not: compiled,
+// the choice then serves check 6 as well.
+#[tactic(auto, using(crate::proofs::statements::ByKind::below_one), unfolding(model::specs::Program::form_right_lem, model::specs::Kinds::kind_of))]
 fn form_right(program: &Program, q: Entry) -> bool
     ensures { result ≡ form_right_lem (tables_of program.now) (entry_of q) }
 {
     let v = program.variables();
     match q.kind {
         NUMBER => operands(q, v, 1, 1),
-        COPY | CONVERSION => no_immediate(q, v, v, 1),
-        ADD | SUB | MUL | DIV => no_immediate(q, v, v, v),
+        COPY => no_immediate(q, v, v, 1),
+        ADD => no_immediate(q, v, v, v),
+        SUB => no_immediate(q, v, v, v),
+        MUL => no_immediate(q, v, v, v),
+        DIV => no_immediate(q, v, v, v),
+        CONVERSION => no_immediate(q, v, v, 1),
         READ => no_immediate(q, v, program.field_count(), 1),
         LOAD => no_immediate(q, v, program.arrays(), v),
         STORE => no_immediate(q, program.arrays(), v, v),
-        SITE | IF | WHILE => no_immediate(q, v, 1, 1),
-        ELSE | END => no_immediate(q, 1, 1, 1),
+        SITE => no_immediate(q, v, 1, 1),
+        IF => no_immediate(q, v, 1, 1),
+        ELSE => no_immediate(q, 1, 1, 1),
+        END => no_immediate(q, 1, 1, 1),
+        WHILE => no_immediate(q, v, 1, 1),
         PROCEDURE => procedure_form(program, q),
         CALL => call_form(program, q),
         _ => false,
