@@ -68,16 +68,22 @@ fn put_readings(ty: u8, part: &[u8], n: usize, from: usize, mags: &mut [u64], ne
 }
 
 // The readings of a field, put to the places from READINGS * f on, and how many they are; none of a field
-// that is not listed. There is room for those that are.
-fn put_field(input: &input::Input, f: usize, mags: &mut [u64], negs: &mut [bool]) -> usize
-    requires { Decodable input.now.fields mags.old negs.old × (f < most_fields) }
+// that is not listed, as its number tells. There is room for those that are.
+fn put_field(
+    input: &input::Input,
+    listed: usize,
+    f: usize,
+    mags: &mut [u64],
+    negs: &mut [bool],
+) -> usize
+    requires { Decodable input.now.fields mags.old negs.old × (f < most_fields) × (listed ≡ length input.now.fields / field_size) }
     ensures { FieldPut result (input_in (fields_in input.now.fields) input.now.bytes f) f (signed_at mags.old negs.old)
         (signed_at mags.new negs.new) }
 {
-    let fields = input.fields();
-    if fields.len() / FIELD_SIZE <= f {
+    if listed <= f {
         return 0;
     }
+    let fields = input.fields();
     let part = input.readings(f);
     let n = input.count(f);
     put_readings(fields[FIELD_SIZE * f], part, n, READINGS * f, mags, negs);
@@ -91,8 +97,9 @@ fn decode(input: &input::Input, counts: &mut [usize], mags: &mut [u64], negs: &m
     ensures { Lent counts.new mags.new negs.new
         × Decoded (input_in (fields_in input.now.fields) input.now.bytes) counts.new mags.new negs.new }
 {
+    let listed = input.fields().len() / FIELD_SIZE;
     for f in 0..FIELDS {
-        counts[f] = put_field(input, f, mags, negs);
+        counts[f] = put_field(input, listed, f, mags, negs);
     }
 }
 

@@ -1,6 +1,6 @@
 -- `filter::put_field` meets its contract.
 use mathlib.Core.Path.{sym, refl, ap, subst, ◌∙◌}
-use Prim.Native.Nat.{◌*◌, ◌/◌, ◌<◌, ◌≤◌}
+use Prim.Native.Nat.{◌*◌, ◌/◌, ◌<◌}
 use native.Mathlib.Omega.{arith}
 use lib.IntN.{pos}
 use lib.ListN.{length, get_or}
@@ -12,19 +12,18 @@ use Rattle.plan.specs.Readings.{signed_at}
 use Rattle.filter.specs.Decoding.{input_in, Filled}
 use Rattle.filter.proofs.Readings.{filled_none, type-code, field-none, field-listed, readings-inside, field-filled}
 use Rattle.filter.proofs.put_field.Goals as goal
-use Rattle.filter.proofs.put_field.Goals.{Else-fields-f}
+use Rattle.filter.proofs.put_field.Goals.{Else-listed-f}
 
 -- the field is listed in the input's table
-listed : (c : Else-fields-f) → c.args.f < length c.args.input.now.fields / field_size
-listed c = subst (λ t. c.args.f < length t / field_size) c.fields-fields.ensures.table c.if-fields-f.false
+listed : (c : Else-listed-f) → c.args.f < length c.args.input.now.fields / field_size
+listed c = omega (arith, c.requires.2, c.if-listed-f.false)
 
-pub returns-then-fields-f : goal.returns-then-fields-f
-returns-then-fields-f c =
+pub returns-then-listed-f : goal.returns-then-listed-f
+returns-then-listed-f c =
     let a = c.args in
     let table = a.input.now.fields in
     let I = input_in (fields_in table) a.input.now.bytes a.f in
-    let none = subst (λ t. length t / field_size ≤ a.f) c.fields-fields.ensures.table c.if-fields-f.true in
-    let e = field-none (fields_in table) a.input.now.bytes a.f (omega (arith, fields-length table, none)) in
+    let e = field-none (fields_in table) a.input.now.bytes a.f (omega (arith, fields-length table, c.requires.2, c.if-listed-f.true)) in
     record {
       count = rw e refl;
       few = omega arith;
@@ -32,15 +31,15 @@ returns-then-fields-f c =
     }
 
 pub readings-part-requires : goal.readings-part-requires
-readings-part-requires c = listed (goal.at.readings-part-requires c).Else-fields-f
+readings-part-requires c = listed (goal.at.readings-part-requires c).Else-listed-f
 
 pub count-n-requires : goal.count-n-requires
-count-n-requires c = listed (goal.at.count-n-requires c).Else-fields-f
+count-n-requires c = listed (goal.at.count-n-requires c).Else-listed-f
 
 pub put_readings-requires : goal.put_readings-requires
 put_readings-requires c =
     let a = c.args in
-    let l = listed (goal.at.put_readings-requires c).Else-fields-f in
+    let l = listed (goal.at.put_readings-requires c).Else-listed-f in
     let i = a.input.now in
     rw c.fields-fields.ensures.table (record {
       type = type-code i.fields a.f c.requires.0.typed l;
@@ -52,7 +51,7 @@ put_readings-requires c =
 pub returns : goal.returns
 returns c =
     let a = c.args in
-    let l = listed (goal.at.returns c).Else-fields-f in
+    let l = listed (goal.at.returns c).Else-listed-f in
     let i = a.input.now in
     record {
       count = c.count-n.ensures.0 ∙ sym (ap length (field-listed i.fields i.bytes a.f l));
