@@ -49,7 +49,8 @@ const UNSIGNED_CODES: u8 = 4;
 
 // ---- check 5
 
-// Whether each operand is below its limit; where it is unused the limit is 1.
+// Whether each operand is below its limit; where it is unused the limit is 1. Not as one `&&`: compiled, a variable's
+// number would then be tested a second time where its type is read.
 fn operands(q: Entry, a: usize, b: usize, c: usize) -> bool
     ensures { result ≡ (ltb q.a a && ltb q.b b && ltb q.c c) }
 {
