@@ -68,7 +68,7 @@ fn put_readings(ty: u8, part: &[u8], n: usize, from: usize, mags: &mut [u64], ne
 }
 
 // The readings of a field, put to the places from READINGS * f on, and how many they are; none of a field
-// that is not listed, as its number tells. There is room for those that are.
+// past those that are listed, of which the caller gives the number. There is room for these.
 fn put_field(
     input: &input::Input,
     listed: usize,
