@@ -45,17 +45,24 @@ module _ (types s : List ℕ) where
     pub all-right : f ≡ length types → PairsAre types s (Ok next)
     all-right e = (subst (RightBefore types s) e so.before, so.starts ∙ ap (start_of (length types) s) e)
 
--- the pair of a field of a table is wrong, and it is the one that is named
+-- ---- fields by the bytes of their table
+
+-- what is said of a field's pair by the byte in the table is said by the field's type
+pub by_type : (table s : List ℕ) (f next : ℕ) (a r : Option ℕ) → a ≡ r → f < length table / 2
+    → PartIs (get_or table (2 * f) 0) (pair_at s (8 * f)) next (length s) a
+    → PartIs (get_or (types_in (fields_in table)) f 0) (pair_at s (8 * f)) next (length s) r
+by_type table s f next a r e h said =
+    subst (PartIs (get_or (types_in (fields_in table)) f 0) (pair_at s (8 * f)) next (length s)) e
+    (subst (λ ty. PartIs ty (pair_at s (8 * f)) next (length s) a) (sym (type_in table f h)) said)
+
+-- a field's pair is wrong, those before it are right, and it is the one that is named
 pub wrong_named : (table s : List ℕ) (f g next : ℕ) (r : Option ℕ) → RightSoFar (types_in (fields_in table)) s f next
     → PartIs (get_or table (2 * f) 0) (pair_at s (8 * f)) next (length s) r → r ≡ None → f < length table / 2 → g ≡ f
     → PairsAre (types_in (fields_in table)) s (Err g)
 wrong_named table s f g next r so said none h e =
     let types = types_in (fields_in table) in
-    let below : f < length types = omega (arith, types-length table) in
-    let wrong : PartIs (get_or types f 0) (pair_at s (8 * f)) next (length s) None =
-    subst (PartIs (get_or types f 0) (pair_at s (8 * f)) next (length s)) none
-    (subst (λ ty. PartIs ty (pair_at s (8 * f)) next (length s) r) (sym (type_in table f h)) said) in
-    subst (λ n. PairsAre types s (Err n)) (sym e) (wrong-here types s f next so below wrong)
+    subst (λ n. PairsAre types s (Err n)) (sym e)
+    (wrong-here types s f next so (omega (arith, types-length table)) (by_type table s f next r None none h said))
 
 -- ---- at most one answer is true
 
